@@ -1,0 +1,30 @@
+-- The choice by a test, and searches over the numbers 0 to k − 1.
+use Prim.Native.Nat.{ℕ, zero, suc, _+_}
+use mathlib.Core.Bool.{Bool, true, false, _||_}
+use mathlib.Core.Option.{Option, none, some}
+
+infixr 1 if_then_else_
+-- the choice by a test
+abbrev pub if_then_else_ {ℓ} : {A : Type ℓ} → Bool → A → A → A
+if true then x else y = x
+if false then x else y = y
+
+-- some number below k passes the test p
+unfoldable pub anyBelow : ℕ → (ℕ → Bool) → Bool
+anyBelow zero p = false
+anyBelow (suc k) p = anyBelow k p || p k
+
+-- how many numbers below k pass the test p
+unfoldable pub countBelow : ℕ → (ℕ → Bool) → ℕ
+countBelow zero p = 0
+countBelow (suc k) p = countBelow k p + (if p k then 1 else 0)
+
+-- the first of two answers, if it is there, and else the second
+abbrev pub orElse : Option ℕ → Option ℕ → Option ℕ
+orElse (some i) o = some i
+orElse none o = o
+
+-- the lowest number below k that passes the test p
+unfoldable pub firstBelow : ℕ → (ℕ → Bool) → Option ℕ
+firstBelow zero p = none
+firstBelow (suc k) p = orElse (firstBelow k p) (if p k then some k else none)

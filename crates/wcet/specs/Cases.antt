@@ -1,0 +1,102 @@
+-- Document 01, "One routine in full": the marked cases (*), as one list. `proofs/Cases.antt` computes them.
+use Prim.Native.Nat.{ℕ}
+use mathlib.Core.List.{List, [], _∷_, map}
+use mathlib.Core.Path.{_≡_}
+use lib.IntN.{ℤ, pos, negℤ}
+use Rattle.wcet.specs.Table.{LoopTable, Routine, missing}
+use Rattle.wcet.specs.Rules.{Reply, accepted, refused, tableReply}
+use Rattle.wcet.specs.Walk.{Walked, walkReply}
+
+-- what a marked case asks for: the reply to a pair of tables, or to a walk over it
+pub data Question : Type 0 where
+  table : Routine → Question
+  walk : Routine → List ℕ → Question
+
+pub data Answer : Type 0 where
+  toTable : Reply ℤ → Answer
+  toWalk : Reply Walked → Answer
+
+unfoldable pub answer : Question → Answer
+answer (table t) = toTable (tableReply t)
+answer (walk t w) = toWalk (walkReply t w)
+
+-- Routine A, at these values of what the cases change: block 0's second successor and figure, block 2's loop, loop 1's limit and multiplier.
+abbrev pub routineA : (second0 : ℕ) (figure0 : ℤ) (loop2 limit1 multiplier1 : ℕ) → Routine
+routineA second0 figure0 loop2 limit1 multiplier1 = record {
+  blocks = record {
+    costs = 2 ∷ 3 ∷ 5 ∷ 1 ∷ [];
+    loops = 0 ∷ 1 ∷ loop2 ∷ 0 ∷ [];
+    firsts = 1 ∷ 2 ∷ 1 ∷ missing ∷ [];
+    seconds = second0 ∷ 3 ∷ missing ∷ missing ∷ [];
+    figures = figure0 ∷ pos 1 ∷ negℤ (pos 4) ∷ pos 0 ∷ [];
+  };
+  loops = record {
+    parents = 0 ∷ 0 ∷ [];
+    headers = 0 ∷ 1 ∷ [];
+    limits = 1 ∷ limit1 ∷ [];
+    multipliers = 0 ∷ multiplier1 ∷ [];
+  };
+}
+
+abbrev pub A : Routine
+A = routineA missing (pos 28) 1 4 8
+
+-- "loop 0 only"
+abbrev pub loop0 : LoopTable
+loop0 = record { parents = 0 ∷ []; headers = 0 ∷ []; limits = 1 ∷ []; multipliers = 0 ∷ [] }
+
+-- "Two blocks, no edges, costs 7 and 9, figures −10 and 0, loop 0 only"
+abbrev pub noEdges : Routine
+noEdges = record {
+  blocks = record {
+    costs = 7 ∷ 9 ∷ [];
+    loops = 0 ∷ 0 ∷ [];
+    firsts = missing ∷ missing ∷ [];
+    seconds = missing ∷ missing ∷ [];
+    figures = negℤ (pos 10) ∷ pos 0 ∷ [];
+  };
+  loops = loop0;
+}
+
+-- "Four blocks in loop 0, edges 0 to 1, 1 to 2, 2 to 1, 2 to 3", at these costs and figures
+abbrev pub cycle : List ℕ → List ℤ → Routine
+cycle costs figures = record {
+  blocks = record {
+    costs = costs;
+    loops = 0 ∷ 0 ∷ 0 ∷ 0 ∷ [];
+    firsts = 1 ∷ 2 ∷ 1 ∷ missing ∷ [];
+    seconds = missing ∷ missing ∷ 3 ∷ missing ∷ [];
+    figures = figures;
+  };
+  loops = loop0;
+}
+
+-- a marked case: what is asked, and the reply that document 01 gives
+pub record Case : Type 0 where
+  pub asked : Question
+  pub reply : Answer
+
+abbrev pub says : Question → Answer → Case
+says q a = record { asked = q; reply = a }
+
+unfoldable pub markedCases : List Case
+markedCases =
+    says (table A) (toTable (accepted (pos 30)))
+    ∷ says (table (routineA missing (pos 27) 1 4 8)) (toTable (refused 208 0))
+    ∷ says (table (routineA missing (pos 28) 1 4 7)) (toTable (refused 208 2))
+    ∷ says (table (routineA missing (pos 28) 1 65535 8)) (toTable (refused 208 0))
+    ∷ says (table (routineA missing (pos 28) 1 0 8)) (toTable (refused 202 1))
+    ∷ says (table (routineA missing (pos 28) 1 65536 8)) (toTable (refused 202 1))
+    ∷ says (table (routineA missing (pos 28) 0 4 8)) (toTable (refused 208 2))
+    ∷ says (table (routineA 2 (pos 28) 1 4 8)) (toTable (refused 207 0))
+    ∷ says (walk A (0 ∷ 1 ∷ 2 ∷ 1 ∷ 2 ∷ 1 ∷ 2 ∷ 1 ∷ 3 ∷ [])) (toWalk (accepted (record { total = 30; steps = 8 })))
+    ∷ says (walk A (0 ∷ 1 ∷ 2 ∷ 1 ∷ 2 ∷ 1 ∷ 2 ∷ 1 ∷ 2 ∷ 1 ∷ [])) (toWalk (refused 313 9))
+    ∷ says (walk A (0 ∷ 1 ∷ [])) (toWalk (refused 314 2))
+    ∷ says (table noEdges) (toTable (accepted (negℤ (pos 3))))
+    ∷ says (table (cycle (1 ∷ 1 ∷ 1 ∷ 1 ∷ []) (pos 3 ∷ pos 2 ∷ pos 1 ∷ pos 0 ∷ []))) (toTable (refused 208 2))
+    ∷ says (table (cycle (1 ∷ 0 ∷ 0 ∷ 1 ∷ []) (pos 1 ∷ pos 1 ∷ pos 1 ∷ pos 0 ∷ []))) (toTable (accepted (pos 2)))
+    ∷ []
+
+-- the one claim: the definitions give each marked case the reply that document 01 gives it
+abbrev pub MarkedCasesHold : Type 0
+MarkedCasesHold = map (λ c. answer (c .asked)) markedCases ≡ map (λ c. c .reply) markedCases

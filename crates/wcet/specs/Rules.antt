@@ -1,0 +1,150 @@
+-- Document 01, "Replies that come from the input", 201 to 208, and "The inequality of an edge": with which number and place a pair of
+-- tables is refused, and the bound of an accepted pair.
+use Prim.Native.Nat.{ℕ, _^_}
+use mathlib.Core.Bool.{Bool, not, _&&_, _||_}
+use mathlib.Core.List.{List, [], _∷_, _++_}
+use mathlib.Core.Option.{Option, none, some}
+use lib.Dec.{eqb, ltb}
+use lib.IntN.{ℤ, pos, negℤ, _+ℤ_, _-ℤ_, _*ℤ_}
+use lib.ListN.{length}
+use lib.Signed.{leZ, ltZ}
+use Rattle.lists.specs.Search.{if_then_else_, anyBelow, countBelow, firstBelow}
+use Rattle.wcet.specs.Table.{Routine, blockCount, loopCount, exit, cost, loopOf, figure, parent, header, limit, multiplier, someEdge, inside}
+
+-- "Each refusal is a number and a place."
+pub data Reply (A : Type 0) : Type 0 where
+  accepted : A → Reply A
+  refused : (number place : ℕ) → Reply A
+
+-- A rule: its number, how many places it is looked at (0 to places − 1), and the test that a place breaks it.
+pub record Rule : Type 0 where
+  pub number : ℕ
+  pub places : ℕ
+  pub broken : ℕ → Bool
+
+-- the reply where a rule of this number is first broken at this place, or at none
+abbrev pub refusedAt : {A : Type 0} → ℕ → Option ℕ → Reply A → Reply A
+refusedAt number (some place) otherwise = refused number place
+refusedAt number none otherwise = otherwise
+
+-- "the lowest number first, then the lowest place", where the rules stand in the order of their numbers
+unfoldable pub check : {A : Type 0} → List Rule → Reply A → Reply A
+check [] passed = passed
+check (r ∷ rs) passed = refusedAt (r .number) (firstBelow (r .places) (r .broken)) (check rs passed)
+
+-- x is not from lo to hi
+abbrev pub outside : ℕ → ℕ → ℕ → Bool
+outside lo hi x = ltb x lo || ltb hi x
+
+-- the columns of one table are equal in length
+abbrev pub blockColumnsEqual : Routine → Bool
+blockColumnsEqual t =
+    eqb (length (t .blocks .loops)) n && eqb (length (t .blocks .firsts)) n && eqb (length (t .blocks .seconds)) n && eqb (length (t .blocks .figures)) n
+  where
+    n : ℕ
+    n = blockCount t
+
+abbrev pub loopColumnsEqual : Routine → Bool
+loopColumnsEqual t =
+    eqb (length (t .loops .headers)) m && eqb (length (t .loops .limits)) m && eqb (length (t .loops .multipliers)) m
+  where
+    m : ℕ
+    m = loopCount t
+
+-- 201: "n not 2 to 1,024, m not 1 to 64, or columns of one table unequal in length"
+unfoldable pub sizesWrong : Routine → Bool
+sizesWrong t = outside 2 1024 (blockCount t) || outside 1 64 (loopCount t) || not (blockColumnsEqual t) || not (loopColumnsEqual t)
+
+-- 202: "loop 0 is not parent 0, header 0, limit 1, multiplier 0; or another loop has a parent not below its own number,
+-- a header not below n, a limit not 1 to 65,535, or a multiplier over 2^40"
+unfoldable pub loopWrong : Routine → ℕ → Bool
+loopWrong t l =
+    if eqb l 0
+    then not (eqb (parent t 0) 0 && eqb (header t 0) 0 && eqb (limit t 0) 1 && eqb (multiplier t 0) 0)
+    else not (ltb (parent t l) l) || not (ltb (header t l) (blockCount t)) || outside 1 65535 (limit t l) || ltb (2 ^ 40) (multiplier t l)
+
+-- 203: "cost over 1,000,000; loop not below m; successor present and not below n; figure outside −2^60 to 2^60"
+unfoldable pub blockWrong : Routine → ℕ → Bool
+blockWrong t u =
+    ltb 1000000 (cost t u)
+    || not (ltb (loopOf t u) (loopCount t))
+    || someEdge t u (λ v. not (ltb v (blockCount t)))
+    || (ltZ (figure t u) (negℤ (pos (2 ^ 60))) || ltZ (pos (2 ^ 60)) (figure t u))
+
+-- 204: "the header's innermost loop is another loop"
+unfoldable pub headerElsewhere : Routine → ℕ → Bool
+headerElsewhere t l = not (eqb (loopOf t (header t l)) l)
+
+-- 205: "more than 16 loops around a header, loop 0 and its own counted"
+unfoldable pub tooDeep : Routine → ℕ → Bool
+tooDeep t l = ltb 16 (countBelow (loopCount t) (inside t (header t l)))
+
+-- 206: "an edge into block 0 or out of block n−1"
+unfoldable pub entryOrExitEdge : Routine → ℕ → Bool
+entryOrExitEdge t u = someEdge t u (λ v. eqb v 0 || eqb u (exit t))
+
+-- an edge from u to v "ends inside a loop that its source is outside of"
+abbrev pub enters : Routine → ℕ → ℕ → ℕ → Bool
+enters t u v l = inside t v l && not (inside t u l)
+
+-- 207: "an edge ends inside a loop that its source is outside of, and not at that loop's header"
+unfoldable pub entersPastHeader : Routine → ℕ → Bool
+entersPastHeader t u = someEdge t u (λ v. anyBelow (loopCount t) (λ l. enters t u v l && not (eqb (header t l) v)))
+
+-- v is a header: by 204 it is then the header of its innermost loop, and of no other
+abbrev pub isHeader : Routine → ℕ → Bool
+isHeader t v = eqb (header t (loopOf t v)) v
+
+-- "For an edge from u to v let D be the figure of u less the figure of v.
+--  v is no header: cost of v ≤ D.
+--  v is the header of a loop that u is inside: cost of v ≤ D + multiplier.
+--  v is the header of a loop that u is outside: cost of v + multiplier × (limit − 1) ≤ D."
+unfoldable pub edgeHolds : Routine → ℕ → ℕ → Bool
+edgeHolds t u v =
+    if not (isHeader t v) then leZ c d else
+    if inside t u l then leZ c (d +ℤ k) else
+    leZ (c +ℤ k *ℤ (pos (limit t l) -ℤ pos 1)) d
+  where
+    l : ℕ
+    l = loopOf t v
+
+    c : ℤ
+    c = pos (cost t v)
+
+    k : ℤ
+    k = pos (multiplier t l)
+
+    d : ℤ
+    d = figure t u -ℤ figure t v
+
+-- 208: "an edge breaks its inequality"
+unfoldable pub inequalityBroken : Routine → ℕ → Bool
+inequalityBroken t u = someEdge t u (λ v. not (edgeHolds t u v))
+
+-- 201 to 207: what a walk, too, asks of the tables
+unfoldable pub structureRules : Routine → List Rule
+structureRules t =
+    record { number = 201; places = 1; broken = λ _. sizesWrong t }
+    ∷ record { number = 202; places = loopCount t; broken = loopWrong t }
+    ∷ record { number = 203; places = blockCount t; broken = blockWrong t }
+    ∷ record { number = 204; places = loopCount t; broken = headerElsewhere t }
+    ∷ record { number = 205; places = loopCount t; broken = tooDeep t }
+    ∷ record { number = 206; places = blockCount t; broken = entryOrExitEdge t }
+    ∷ record { number = 207; places = blockCount t; broken = entersPastHeader t }
+    ∷ []
+
+abbrev pub inequalityRule : Routine → Rule
+inequalityRule t = record { number = 208; places = blockCount t; broken = inequalityBroken t }
+
+-- 201 to 208
+unfoldable pub tableRules : Routine → List Rule
+tableRules t = structureRules t ++ inequalityRule t ∷ []
+
+-- "The bound is cost of block 0 + figure of block 0 − figure of block n−1."
+unfoldable pub bound : Routine → ℤ
+bound t = pos (cost t 0) +ℤ figure t 0 -ℤ figure t (exit t)
+
+-- "A pair of tables is accepted when none of 201 to 208 applies to it; its bound, the number the checker then replies, is the
+-- accepted bound."
+unfoldable pub tableReply : Routine → Reply ℤ
+tableReply t = check (tableRules t) (accepted (bound t))
