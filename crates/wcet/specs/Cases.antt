@@ -3,7 +3,7 @@ use Prim.Native.Nat.{ℕ}
 use mathlib.Core.List.{List, [], _∷_, map}
 use mathlib.Core.Path.{_≡_}
 use lib.IntN.{ℤ, pos, negℤ}
-use Rattle.wcet.specs.Table.{LoopTable, Routine, missing}
+use Rattle.wcet.specs.Table.{Routine, missing}
 use Rattle.wcet.specs.Rules.{Reply, accepted, refused, tableReply}
 use Rattle.wcet.specs.Walk.{Walked, walkReply}
 
@@ -23,53 +23,41 @@ answer (walk t w) = toWalk (walkReply t w)
 -- Routine A, at these values of what the cases change: block 0's second successor and figure, block 2's loop, loop 1's limit and multiplier.
 abbrev pub routineA : (second0 : ℕ) (figure0 : ℤ) (loop2 limit1 multiplier1 : ℕ) → Routine
 routineA second0 figure0 loop2 limit1 multiplier1 = record {
-  blocks = record {
-    costs = 2 ∷ 3 ∷ 5 ∷ 1 ∷ [];
-    loops = 0 ∷ 1 ∷ loop2 ∷ 0 ∷ [];
-    firsts = 1 ∷ 2 ∷ 1 ∷ missing ∷ [];
-    seconds = second0 ∷ 3 ∷ missing ∷ missing ∷ [];
-    figures = figure0 ∷ pos 1 ∷ negℤ (pos 4) ∷ pos 0 ∷ [];
-  };
-  loops = record {
-    parents = 0 ∷ 0 ∷ [];
-    headers = 0 ∷ 1 ∷ [];
-    limits = 1 ∷ limit1 ∷ [];
-    multipliers = 0 ∷ multiplier1 ∷ [];
-  };
+  costs = 2 ∷ 3 ∷ 5 ∷ 1 ∷ [];
+  loops = 0 ∷ 1 ∷ loop2 ∷ 0 ∷ [];
+  firsts = 1 ∷ 2 ∷ 1 ∷ missing ∷ [];
+  seconds = second0 ∷ 3 ∷ missing ∷ missing ∷ [];
+  figures = figure0 ∷ pos 1 ∷ negℤ (pos 4) ∷ pos 0 ∷ [];
+  parents = 0 ∷ 0 ∷ [];
+  headers = 0 ∷ 1 ∷ [];
+  limits = 1 ∷ limit1 ∷ [];
+  multipliers = 0 ∷ multiplier1 ∷ [];
 }
 
 abbrev pub A : Routine
 A = routineA missing (pos 28) 1 4 8
 
--- "loop 0 only"
-abbrev pub loop0 : LoopTable
-loop0 = record { parents = 0 ∷ []; headers = 0 ∷ []; limits = 1 ∷ []; multipliers = 0 ∷ [] }
+-- blocks in loop 0 only, which is the one loop
+abbrev pub oneLoop : (costs loops firsts seconds : List ℕ) (figures : List ℤ) → Routine
+oneLoop costs loops firsts seconds figures = record {
+  costs = costs;
+  loops = loops;
+  firsts = firsts;
+  seconds = seconds;
+  figures = figures;
+  parents = 0 ∷ [];
+  headers = 0 ∷ [];
+  limits = 1 ∷ [];
+  multipliers = 0 ∷ [];
+}
 
 -- "Two blocks, no edges, costs 7 and 9, figures −10 and 0, loop 0 only"
 abbrev pub noEdges : Routine
-noEdges = record {
-  blocks = record {
-    costs = 7 ∷ 9 ∷ [];
-    loops = 0 ∷ 0 ∷ [];
-    firsts = missing ∷ missing ∷ [];
-    seconds = missing ∷ missing ∷ [];
-    figures = negℤ (pos 10) ∷ pos 0 ∷ [];
-  };
-  loops = loop0;
-}
+noEdges = oneLoop (7 ∷ 9 ∷ []) (0 ∷ 0 ∷ []) (missing ∷ missing ∷ []) (missing ∷ missing ∷ []) (negℤ (pos 10) ∷ pos 0 ∷ [])
 
 -- "Four blocks in loop 0, edges 0 to 1, 1 to 2, 2 to 1, 2 to 3", at these costs and figures
 abbrev pub cycle : List ℕ → List ℤ → Routine
-cycle costs figures = record {
-  blocks = record {
-    costs = costs;
-    loops = 0 ∷ 0 ∷ 0 ∷ 0 ∷ [];
-    firsts = 1 ∷ 2 ∷ 1 ∷ missing ∷ [];
-    seconds = missing ∷ missing ∷ 3 ∷ missing ∷ [];
-    figures = figures;
-  };
-  loops = loop0;
-}
+cycle costs figures = oneLoop costs (0 ∷ 0 ∷ 0 ∷ 0 ∷ []) (1 ∷ 2 ∷ 1 ∷ missing ∷ []) (missing ∷ missing ∷ 3 ∷ missing ∷ []) figures
 
 -- a marked case: what is asked, and the reply that document 01 gives
 pub record Case : Type 0 where

@@ -1,18 +1,16 @@
--- What is claimed of the definitions: demand 3, and other words for acceptance, for accepted walks and for the counts. Each is a
--- statement; proofs/ has its proof, and docs/TRUSTED.md says where.
-use Prim.Native.Nat.{ℕ, suc, _+_, _-_, _≤_, _<_}
+-- What is claimed of the definitions: demand 3, and acceptance and accepted walks in other words. Each is a statement; proofs/ has its
+-- proof.
+use Prim.Native.Nat.{ℕ, suc, _-_, _≤_, _<_}
 use mathlib.Core.Path.{_≡_}
 use mathlib.Core.Logic.{_↔_}
-use mathlib.Core.Bool.{Bool, true, false, _&&_}
+use mathlib.Core.Bool.{true, false}
 use mathlib.Core.List.{List, [], _∷_, _++_}
-use lib.Dec.{eqb}
 use lib.IntN.{ℤ, pos, _+ℤ_}
 use lib.ListN.{length, getD, take}
 use lib.Signed.{_≤ℤ_}
-use Rattle.lists.specs.Search.{if_then_else_}
-use Rattle.wcet.specs.Table.{Routine, loopCount, exit, cost, figure, header, limit, inside}
+use Rattle.wcet.specs.Table.{Routine, exit, cost, figure}
 use Rattle.wcet.specs.Rules.{Reply, accepted, refused, Rule, tableRules, bound, tableReply}
-use Rattle.wcet.specs.Run.{run, start, after, countedRun, runCost}
+use Rattle.wcet.specs.Run.{countedRun, runCost}
 use Rattle.wcet.specs.Walk.{Walked, walked, longestWalk, walkReply}
 
 -- ---- demand 3
@@ -73,31 +71,3 @@ pub record FinishedRun (t : Routine) (w : List ℕ) : Type 0 where
 -- with its true cost", and its length less one for the step count
 abbrev pub WalksExactly : Routine → Type 0
 WalksExactly t = (w : List ℕ) → 0 < length w → length w ≤ longestWalk → (r : Walked) → (walkReply t w ≡ accepted r) ↔ (FinishedRun t w × (walked t w ≡ r))
-
--- ---- the counts without a step
-
--- each block of w is inside loop l
-unfoldable pub allInside : Routine → ℕ → List ℕ → Bool
-allInside t l [] = true
-allInside t l (v ∷ w) = inside t v l && allInside t l w
-
--- the last stay in loop l: the longest end of the list w that is inside l throughout
-unfoldable pub lastStay : Routine → ℕ → List ℕ → List ℕ
-lastStay t l [] = []
-lastStay t l (v ∷ w) = if allInside t l (v ∷ w) then v ∷ w else lastStay t l w
-
--- how often block h stands in the list w
-unfoldable pub visits : ℕ → List ℕ → ℕ
-visits h [] = 0
-visits h (v ∷ w) = (if eqb h v then 1 else 0) + visits h w
-
--- "For each loop the visits to its header are counted within one stay": the visits to loop l's header in the last stay of w
-abbrev pub stayVisits : Routine → ℕ → List ℕ → ℕ
-stayVisits t l w = visits (header t l) (lastStay t l w)
-
--- the counts that the steps along a list from block 0 leave are those visits, and a counted run is a run of which no beginning has more
--- visits in its last stay in a loop than the loop's limit
-pub record CountsExactly (t : Routine) : Type 0 where
-  pub counts : (w : List ℕ) (l : ℕ) → l < loopCount t → after t start w .count l ≡ stayVisits t l (0 ∷ w)
-  pub limits : (w : List ℕ)
-      → (countedRun t w ≡ true) ↔ ((run t w ≡ true) × ((k l : ℕ) → k < length w → l < loopCount t → stayVisits t l (take (suc k) w) ≤ limit t l))

@@ -38,18 +38,16 @@ outside lo hi x = ltb x lo || ltb hi x
 
 -- the columns of one table are equal in length
 abbrev pub blockColumnsEqual : Routine → Bool
-blockColumnsEqual t =
-    eqb (length (t .blocks .loops)) n && eqb (length (t .blocks .firsts)) n && eqb (length (t .blocks .seconds)) n && eqb (length (t .blocks .figures)) n
+blockColumnsEqual t = sized (t .loops) && sized (t .firsts) && sized (t .seconds) && eqb (length (t .figures)) (blockCount t)
   where
-    n : ℕ
-    n = blockCount t
+    sized : List ℕ → Bool
+    sized column = eqb (length column) (blockCount t)
 
 abbrev pub loopColumnsEqual : Routine → Bool
-loopColumnsEqual t =
-    eqb (length (t .loops .headers)) m && eqb (length (t .loops .limits)) m && eqb (length (t .loops .multipliers)) m
+loopColumnsEqual t = sized (t .headers) && sized (t .limits) && sized (t .multipliers)
   where
-    m : ℕ
-    m = loopCount t
+    sized : List ℕ → Bool
+    sized column = eqb (length column) (loopCount t)
 
 -- 201: "n not 2 to 1,024, m not 1 to 64, or columns of one table unequal in length"
 unfoldable pub sizesWrong : Routine → Bool

@@ -6,34 +6,26 @@ use lib.Dec.{eqb}
 use lib.IntN.{ℤ, pos}
 use lib.ListN.{length, getD}
 
--- "in memory a table has the other five or four columns". Of a basic block: its cost, its innermost loop, its two successors, and its
--- figure, the solver's potential of the block (the dual variable of its flow equation).
-pub record BlockTable : Type 0 where
+-- "A routine is two comma-separated tables .. in memory a table has the other five or four columns". A column's entry is named below.
+pub record Routine : Type 0 where
+  -- of the basic blocks
   pub costs : List ℕ
   pub loops : List ℕ
   pub firsts : List ℕ
   pub seconds : List ℕ
   pub figures : List ℤ
-
--- Of a loop: its parent, its header block, its limit, the loop bound (header visits per entry), and its multiplier, the dual variable
--- of that bound.
-pub record LoopTable : Type 0 where
+  -- of the loops
   pub parents : List ℕ
   pub headers : List ℕ
   pub limits : List ℕ
   pub multipliers : List ℕ
 
--- "A routine is two comma-separated tables."
-pub record Routine : Type 0 where
-  pub blocks : BlockTable
-  pub loops : LoopTable
-
 -- "There are n blocks, 0 to n−1 .. There are m loops, 0 to m−1", "n and m are their lengths"
 abbrev pub blockCount : Routine → ℕ
-blockCount t = length (t .blocks .costs)
+blockCount t = length (t .costs)
 
 abbrev pub loopCount : Routine → ℕ
-loopCount t = length (t .loops .parents)
+loopCount t = length (t .parents)
 
 -- "Block 0 is the entry and block n−1 the exit."
 abbrev pub exit : Routine → ℕ
@@ -44,32 +36,35 @@ abbrev pub missing : ℕ
 missing = 65535
 
 -- The columns' entries. Behind a column's end `getD` gives 0; no table that passes 201 to 203 has such an entry read.
+-- Of a block: its cost, its innermost loop, its two successors, and its figure, the solver's potential of the block (a dual variable).
 abbrev pub cost : Routine → ℕ → ℕ
-cost t u = getD (t .blocks .costs) u 0
+cost t u = getD (t .costs) u 0
 
 abbrev pub loopOf : Routine → ℕ → ℕ
-loopOf t u = getD (t .blocks .loops) u 0
+loopOf t u = getD (t .loops) u 0
 
 abbrev pub first : Routine → ℕ → ℕ
-first t u = getD (t .blocks .firsts) u 0
+first t u = getD (t .firsts) u 0
 
 abbrev pub second : Routine → ℕ → ℕ
-second t u = getD (t .blocks .seconds) u 0
+second t u = getD (t .seconds) u 0
 
 abbrev pub figure : Routine → ℕ → ℤ
-figure t u = getD (t .blocks .figures) u (pos 0)
+figure t u = getD (t .figures) u (pos 0)
 
+-- Of a loop: its parent, its header block, its limit, the loop bound (header visits per entry), and its multiplier, the dual variable of
+-- that bound.
 abbrev pub parent : Routine → ℕ → ℕ
-parent t l = getD (t .loops .parents) l 0
+parent t l = getD (t .parents) l 0
 
 abbrev pub header : Routine → ℕ → ℕ
-header t l = getD (t .loops .headers) l 0
+header t l = getD (t .headers) l 0
 
 abbrev pub limit : Routine → ℕ → ℕ
-limit t l = getD (t .loops .limits) l 0
+limit t l = getD (t .limits) l 0
 
 abbrev pub multiplier : Routine → ℕ → ℕ
-multiplier t l = getD (t .loops .multipliers) l 0
+multiplier t l = getD (t .multipliers) l 0
 
 -- "An edge runs from a block to each successor it names. Either successor, or both, may be missing":
 -- some edge out of u ends at a block that passes the test p
@@ -88,4 +83,4 @@ around parents (suc d) l k = eqb l k || around parents d (getD parents l 0) k
 -- "A block's loop is the innermost one around it; it is also inside that loop's parent, and so on up to loop 0":
 -- block u is inside loop l. A parent is below its loop (202), so m steps reach loop 0.
 unfoldable pub inside : Routine → ℕ → ℕ → Bool
-inside t u l = around (t .loops .parents) (loopCount t) (loopOf t u) l
+inside t u l = around (t .parents) (loopCount t) (loopOf t u) l
