@@ -157,3 +157,7 @@ size (pos n) = omega arith
 size (negsuc n) = omega arith
 
 pub ruleset ints = (arith, le-parts, parts-le, lt-parts, parts-lt, eq-parts, parts-eq, leZ-true, leZ-false, ltZ-true, ltZ-false, true-leZ, false-leZ, true-ltZ, false-ltZ)
+
+-- the test and the order that it decides
+pub leZ-le : (a b : ℤ) → leZ a b ≡ true → a ≤ℤ b
+leZ-le a b e = omega ints

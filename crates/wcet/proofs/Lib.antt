@@ -1,1 +1,10 @@
 pub mod Cases
+pub mod Replies
+pub mod Nesting
+pub mod Potential
+pub mod Path
+pub mod Entry
+pub mod Limits
+pub mod Bound
+pub mod Walks
+pub mod Counts

@@ -38,10 +38,10 @@ abbrev pub A : Routine
 A = routineA missing (pos 28) 1 4 8
 
 -- blocks in loop 0 only, which is the one loop
-abbrev pub oneLoop : (costs loops firsts seconds : List ℕ) (figures : List ℤ) → Routine
-oneLoop costs loops firsts seconds figures = record {
+abbrev pub oneLoop : (costs firsts seconds : List ℕ) (figures : List ℤ) → Routine
+oneLoop costs firsts seconds figures = record {
   costs = costs;
-  loops = loops;
+  loops = map (λ _. 0) costs;
   firsts = firsts;
   seconds = seconds;
   figures = figures;
@@ -53,11 +53,11 @@ oneLoop costs loops firsts seconds figures = record {
 
 -- "Two blocks, no edges, costs 7 and 9, figures −10 and 0, loop 0 only"
 abbrev pub noEdges : Routine
-noEdges = oneLoop (7 ∷ 9 ∷ []) (0 ∷ 0 ∷ []) (missing ∷ missing ∷ []) (missing ∷ missing ∷ []) (negℤ (pos 10) ∷ pos 0 ∷ [])
+noEdges = oneLoop (7 ∷ 9 ∷ []) (missing ∷ missing ∷ []) (missing ∷ missing ∷ []) (negℤ (pos 10) ∷ pos 0 ∷ [])
 
 -- "Four blocks in loop 0, edges 0 to 1, 1 to 2, 2 to 1, 2 to 3", at these costs and figures
 abbrev pub cycle : List ℕ → List ℤ → Routine
-cycle costs figures = oneLoop costs (0 ∷ 0 ∷ 0 ∷ 0 ∷ []) (1 ∷ 2 ∷ 1 ∷ missing ∷ []) (missing ∷ missing ∷ 3 ∷ missing ∷ []) figures
+cycle costs figures = oneLoop costs (1 ∷ 2 ∷ 1 ∷ missing ∷ []) (missing ∷ missing ∷ 3 ∷ missing ∷ []) figures
 
 -- a marked case: what is asked, and the reply that document 01 gives
 pub record Case : Type 0 where

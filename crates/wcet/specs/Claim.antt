@@ -1,5 +1,4 @@
--- What is claimed of the definitions: demand 3, and acceptance and accepted walks in other words. Each is a statement; proofs/ has its
--- proof.
+-- What is claimed of the definitions, and proved in proofs/: demand 3, acceptance in other words, accepted walks, negative bounds.
 use Prim.Native.Nat.{ℕ, suc, _-_, _≤_, _<_}
 use mathlib.Core.Path.{_≡_}
 use mathlib.Core.Logic.{_↔_}
@@ -7,32 +6,32 @@ use mathlib.Core.Bool.{true, false}
 use mathlib.Core.List.{List, [], _∷_, _++_}
 use lib.IntN.{ℤ, pos, _+ℤ_}
 use lib.ListN.{length, getD, take}
-use lib.Signed.{_≤ℤ_}
+use lib.Signed.{_≤ℤ_, _<ℤ_}
 use Rattle.wcet.specs.Table.{Routine, exit, cost, figure}
-use Rattle.wcet.specs.Rules.{Reply, accepted, refused, Rule, tableRules, bound, tableReply}
+use Rattle.wcet.specs.Rules.{Reply, accepted, refused, Rule, structureRules, tableRules, bound, tableReply}
 use Rattle.wcet.specs.Run.{countedRun, runCost}
 use Rattle.wcet.specs.Walk.{Walked, walked, longestWalk, walkReply}
 
 -- ---- demand 3
 
--- "cost so far + the block's figure ≤ entry's cost + entry's figure; and where that block is the exit, the cost so far ≤ the accepted
+-- Demand 3: "cost so far + the block's figure ≤ entry's cost + entry's figure; and where that block is the exit, the cost so far ≤ the accepted
 -- bound", at the block with index k of the list w. "The cost so far at a block of the list is the cost of the run that ends with that block."
 pub record BoundedAt (t : Routine) (b : ℤ) (w : List ℕ) (k : ℕ) : Type 0 where
   pub so-far : (pos (runCost t (take (suc k) w)) +ℤ figure t (getD w k 0)) ≤ℤ (pos (cost t 0) +ℤ figure t 0)
   pub finished : getD w k 0 ≡ exit t → pos (runCost t (take (suc k) w)) ≤ℤ b
 
--- "every list of block numbers of any length: at each block up to which the list is a counted run, that block included": one claim
+-- Demand 3: "every list of block numbers of any length: at each block up to which the list is a counted run, that block included": one claim
 -- about the whole list. "A list that breaks one of these rules is a counted run up to the block before the first break".
 abbrev pub WcetBound : Routine → ℤ → Type 0
 WcetBound t b = (w : List ℕ) (k : ℕ) → k < length w → countedRun t (take (suc k) w) ≡ true → BoundedAt t b w k
 
 -- "When the checker of a pair of tables is delivered, demand 3 is delivered with it, undivided": what the checker ensures of its reply r
--- to t. The reply is the one that the rules give (demand 2), and an accepted bound bounds every list (demand 3).
+-- to t. The reply is the one that the rules give (demand 2), and demand 3 holds of an accepted bound.
 pub record Checked (t : Routine) (r : Reply ℤ) : Type 0 where
   pub replied : r ≡ tableReply t
   pub bounded : (b : ℤ) → r ≡ accepted b → WcetBound t b
 
--- ---- acceptance without a search
+-- ---- acceptance in other words
 
 -- the rule is broken at none of its places
 abbrev pub Holds : Rule → Type 0
@@ -67,7 +66,11 @@ pub record FinishedRun (t : Routine) (w : List ℕ) : Type 0 where
   pub counted : countedRun t w ≡ true
   pub at-exit : getD w (length w - 1) 0 ≡ exit t
 
--- "A walk within the length limit, over tables that keep those ranges and rules, is accepted exactly when it is a finished counted run,
--- with its true cost", and its length less one for the step count
+-- Demand 2: "A walk within the length limit, over tables that keep those ranges and rules, is accepted exactly when it is a finished
+-- counted run, with its true cost", and its length less one for the step count
 abbrev pub WalksExactly : Routine → Type 0
-WalksExactly t = (w : List ℕ) → 0 < length w → length w ≤ longestWalk → (r : Walked) → (walkReply t w ≡ accepted r) ↔ (FinishedRun t w × (walked t w ≡ r))
+WalksExactly t = AllHold (structureRules t) → (w : List ℕ) → length w ≤ longestWalk → (r : Walked) → (walkReply t w ≡ accepted r) ↔ (FinishedRun t w × (walked t w ≡ r))
+
+-- "It may be negative; then no finished counted run exists."
+abbrev pub NegativeBound : Routine → Type 0
+NegativeBound t = (b : ℤ) → tableReply t ≡ accepted b → b <ℤ pos 0 → (w : List ℕ) → FinishedRun t w → ⊥

@@ -33,25 +33,22 @@ check [] passed = passed
 check (r ∷ rs) passed = refusedAt (r .number) (firstBelow (r .places) (r .broken)) (check rs passed)
 
 -- x is not from lo to hi
-abbrev pub outside : ℕ → ℕ → ℕ → Bool
-outside lo hi x = ltb x lo || ltb hi x
+abbrev pub outOfRange : ℕ → ℕ → ℕ → Bool
+outOfRange lo hi x = ltb x lo || ltb hi x
 
 -- the columns of one table are equal in length
+abbrev pub sized : {A : Type 0} → ℕ → List A → Bool
+sized n column = eqb (length column) n
+
 abbrev pub blockColumnsEqual : Routine → Bool
-blockColumnsEqual t = sized (t .loops) && sized (t .firsts) && sized (t .seconds) && eqb (length (t .figures)) (blockCount t)
-  where
-    sized : List ℕ → Bool
-    sized column = eqb (length column) (blockCount t)
+blockColumnsEqual t = sized (blockCount t) (t .loops) && sized (blockCount t) (t .firsts) && sized (blockCount t) (t .seconds) && sized (blockCount t) (t .figures)
 
 abbrev pub loopColumnsEqual : Routine → Bool
-loopColumnsEqual t = sized (t .headers) && sized (t .limits) && sized (t .multipliers)
-  where
-    sized : List ℕ → Bool
-    sized column = eqb (length column) (loopCount t)
+loopColumnsEqual t = sized (loopCount t) (t .headers) && sized (loopCount t) (t .limits) && sized (loopCount t) (t .multipliers)
 
 -- 201: "n not 2 to 1,024, m not 1 to 64, or columns of one table unequal in length"
 unfoldable pub sizesWrong : Routine → Bool
-sizesWrong t = outside 2 1024 (blockCount t) || outside 1 64 (loopCount t) || not (blockColumnsEqual t) || not (loopColumnsEqual t)
+sizesWrong t = outOfRange 2 1024 (blockCount t) || outOfRange 1 64 (loopCount t) || not (blockColumnsEqual t) || not (loopColumnsEqual t)
 
 -- 202: "loop 0 is not parent 0, header 0, limit 1, multiplier 0; or another loop has a parent not below its own number,
 -- a header not below n, a limit not 1 to 65,535, or a multiplier over 2^40"
@@ -59,7 +56,7 @@ unfoldable pub loopWrong : Routine → ℕ → Bool
 loopWrong t l =
     if eqb l 0
     then not (eqb (parent t 0) 0 && eqb (header t 0) 0 && eqb (limit t 0) 1 && eqb (multiplier t 0) 0)
-    else not (ltb (parent t l) l) || not (ltb (header t l) (blockCount t)) || outside 1 65535 (limit t l) || ltb (2 ^ 40) (multiplier t l)
+    else not (ltb (parent t l) l) || not (ltb (header t l) (blockCount t)) || outOfRange 1 65535 (limit t l) || ltb (2 ^ 40) (multiplier t l)
 
 -- 203: "cost over 1,000,000; loop not below m; successor present and not below n; figure outside −2^60 to 2^60"
 unfoldable pub blockWrong : Routine → ℕ → Bool
@@ -89,7 +86,7 @@ enters t u v l = inside t v l && not (inside t u l)
 unfoldable pub entersPastHeader : Routine → ℕ → Bool
 entersPastHeader t u = someEdge t u (λ v. anyBelow (loopCount t) (λ l. enters t u v l && not (eqb (header t l) v)))
 
--- v is a header: by 204 it is then the header of its innermost loop, and of no other
+-- v is a header: by 203 and 204 it is then the header of its innermost loop, and of no other
 abbrev pub isHeader : Routine → ℕ → Bool
 isHeader t v = eqb (header t (loopOf t v)) v
 
@@ -100,17 +97,14 @@ isHeader t v = eqb (header t (loopOf t v)) v
 unfoldable pub edgeHolds : Routine → ℕ → ℕ → Bool
 edgeHolds t u v =
     if not (isHeader t v) then leZ c d else
-    if inside t u l then leZ c (d +ℤ k) else
-    leZ (c +ℤ k *ℤ (pos (limit t l) -ℤ pos 1)) d
+    if inside t u l then leZ c (d +ℤ pos (multiplier t l)) else
+    leZ (c +ℤ pos (multiplier t l) *ℤ (pos (limit t l) -ℤ pos 1)) d
   where
     l : ℕ
     l = loopOf t v
 
     c : ℤ
     c = pos (cost t v)
-
-    k : ℤ
-    k = pos (multiplier t l)
 
     d : ℤ
     d = figure t u -ℤ figure t v

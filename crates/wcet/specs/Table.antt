@@ -6,15 +6,13 @@ use lib.Dec.{eqb}
 use lib.IntN.{ℤ, pos}
 use lib.ListN.{length, getD}
 
--- "A routine is two comma-separated tables .. in memory a table has the other five or four columns". A column's entry is named below.
+-- "A routine is two comma-separated tables .. in memory a table has the other five or four columns": of the basic blocks, of the loops.
 pub record Routine : Type 0 where
-  -- of the basic blocks
   pub costs : List ℕ
   pub loops : List ℕ
   pub firsts : List ℕ
   pub seconds : List ℕ
   pub figures : List ℤ
-  -- of the loops
   pub parents : List ℕ
   pub headers : List ℕ
   pub limits : List ℕ
@@ -35,7 +33,7 @@ exit t = blockCount t - 1
 abbrev pub missing : ℕ
 missing = 65535
 
--- The columns' entries. Behind a column's end `getD` gives 0; no table that passes 201 to 203 has such an entry read.
+-- The columns' entries, and 0 behind a column's end. Of a table that passes 201 to 203 no reply and no counted run depends on that 0.
 -- Of a block: its cost, its innermost loop, its two successors, and its figure, the solver's potential of the block (a dual variable).
 abbrev pub cost : Routine → ℕ → ℕ
 cost t u = getD (t .costs) u 0

@@ -1,0 +1,42 @@
+-- The limits along a list: a test at each block, and an order of each count and its limit. Assumes nothing.
+use mathlib.Core.Path.{_≡_, refl}
+use mathlib.Core.Bool.{Bool, true, false, not, _&&_}
+use mathlib.Core.List.{List, [], _∷_}
+use Prim.Native.Nat.{ℕ, zero, suc, _+_, _≤_, _<_}
+use native.Mathlib.Omega.{arith}
+use lib.Dec.{ltb}
+use borrow.Author.Tests.{ltb-false, le-ltb, not-true}
+use lib.ListN.{length, take}
+use Rattle.lists.specs.Search.{anyBelow}
+use Rattle.lists.proofs.Tests.{and-true, both}
+use Rattle.lists.proofs.Search.{none-of, any-none}
+use Rattle.wcet.specs.Table.{Routine, loopCount, limit}
+use Rattle.wcet.specs.Run.{State, next, after, passesLimit, keepsLimits}
+
+module _ (t : Routine) where
+  abbrev pub WithinLimits : State → Type 0
+  WithinLimits s = (l : ℕ) → l < loopCount t → s .count l ≤ limit t l
+
+  pub limits-kept : (s : State) → passesLimit t s ≡ false → WithinLimits s
+  unfolding passesLimit
+  limits-kept s e l b = ltb-false (limit t l) (s .count l) (none-of (loopCount t) (λ l. ltb (limit t l) (s .count l)) e l b)
+
+  pub kept-limits : (s : State) → WithinLimits s → passesLimit t s ≡ false
+  unfolding passesLimit
+  kept-limits s h = any-none (loopCount t) (λ l. ltb (limit t l) (s .count l)) (λ l b. le-ltb (limit t l) (s .count l) (h l b))
+
+  negated : {b : Bool} → b ≡ false → not b ≡ true
+  negated e = rw e
+
+  -- a list keeps the limits exactly where each of its beginnings ends in a state within them
+  pub keeps-each : (w : List ℕ) (s : State) → keepsLimits t s w ≡ true → (k : ℕ) → k ≤ length w → WithinLimits (after t s (take k w))
+  unfolding keepsLimits after
+  keeps-each [] s e zero h = limits-kept s (not-true _ e)
+  keeps-each [] s e (suc k) h = absurd (omega arith)
+  keeps-each (v ∷ w) s e zero h = limits-kept s (not-true _ (and-true _ _ e .0))
+  keeps-each (v ∷ w) s e (suc k) h = keeps-each w (next t s v) (and-true (not (passesLimit t s)) _ e .1) k (omega arith)
+
+  pub each-keeps : (w : List ℕ) (s : State) → ((k : ℕ) → k ≤ length w → WithinLimits (after t s (take k w))) → keepsLimits t s w ≡ true
+  unfolding keepsLimits after
+  each-keeps [] s h = negated (kept-limits s (h 0 (omega arith)))
+  each-keeps (v ∷ w) s h = both (negated (kept-limits s (h 0 (omega arith)))) (each-keeps w (next t s v) (λ k b. h (suc k) (omega arith)))

@@ -1,0 +1,86 @@
+-- What 201 to 207 say of the edges and the loops, by name. Assumes nothing.
+use mathlib.Core.Path.{_≡_, refl, sym, _∙_, ap}
+use mathlib.Core.Bool.{Bool, true, false, not, _&&_, _||_, false≢true}
+use Prim.Native.Nat.{ℕ, zero, suc, _-_, _≤_, _<_}
+use native.Mathlib.Omega.{arith}
+use lib.Dec.{eqb, ltb}
+use borrow.Author.Tests.{eqb-true, eqb-false, ltb-true, ltb-false, not-false, eq-eqb, ne-eqb}
+use Rattle.lists.specs.Search.{if_then_else_, anyBelow}
+use Rattle.lists.proofs.Tests.{or-false, and-true}
+use Rattle.lists.proofs.Search.{none-of}
+use Rattle.wcet.specs.Table.{Routine, blockCount, loopCount, exit, missing, cost, loopOf, first, second, parent, header, limit, multiplier, someEdge, edge, inside}
+use Rattle.wcet.specs.Rules.{outOfRange, sizesWrong, loopWrong, blockWrong, headerElsewhere, entryOrExitEdge, enters, entersPastHeader, structureRules}
+use Rattle.wcet.specs.Claim.{AllHold}
+
+-- a test that holds at no edge out of u fails at each
+pub no-edge : (t : Routine) (u v : ℕ) (p : ℕ → Bool) → someEdge t u p ≡ false → edge t u v ≡ true → p v ≡ false
+unfolding someEdge edge
+no-edge t u v p e h = go (eqb (first t u) missing) (eqb (second t u) missing) (eqb (first t u) v) (eqb (second t u) v) refl refl e h
+  where
+    go : (mf ms ef es : Bool) → eqb (first t u) v ≡ ef → eqb (second t u) v ≡ es
+        → ((not mf && p (first t u)) || (not ms && p (second t u))) ≡ false → ((not mf && ef) || (not ms && es)) ≡ true → p v ≡ false
+    go false ms true es qf qs none some = rw (eqb-true (first t u) v qf) at (or-false (p (first t u)) (not ms && p (second t u)) none .0)
+    go false false false true qf qs none some = rw (eqb-true (second t u) v qs) at (or-false (p (first t u)) (p (second t u)) none .1)
+    go true false ef true qf qs none some = rw (eqb-true (second t u) v qs) at none
+    go false false false false qf qs none some = absurd (false≢true some)
+    go false true false es qf qs none some = absurd (false≢true some)
+    go true false ef false qf qs none some = absurd (false≢true some)
+    go true true ef es qf qs none some = absurd (false≢true some)
+
+pub record Nested (t : Routine) : Type 0 where
+  -- 201
+  pub two-blocks : 2 ≤ blockCount t
+  pub some-loop : 0 < loopCount t
+  -- 202
+  pub loop0-parent : parent t 0 ≡ 0
+  pub loop0-header : header t 0 ≡ 0
+  pub loop0-limit : limit t 0 ≡ 1
+  pub loop0-multiplier : multiplier t 0 ≡ 0
+  pub parent-below : (l : ℕ) → 0 < l → l < loopCount t → parent t l < l
+  -- 203
+  pub innermost : (u : ℕ) → u < blockCount t → loopOf t u < loopCount t
+  pub target : (u v : ℕ) → u < blockCount t → edge t u v ≡ true → v < blockCount t
+  -- 204
+  pub own : (l : ℕ) → l < loopCount t → loopOf t (header t l) ≡ l
+  -- 206
+  pub exit-ends : (v : ℕ) → edge t (exit t) v ≡ true → ⊥
+  -- 207
+  pub at-header : (u v l : ℕ) → u < blockCount t → edge t u v ≡ true → l < loopCount t → inside t v l ≡ true → inside t u l ≡ false → header t l ≡ v
+
+pub nested : (t : Routine) → AllHold (structureRules t) → Nested t
+unfolding structureRules sizesWrong loopWrong blockWrong headerElsewhere entryOrExitEdge entersPastHeader
+nested t h = record {
+  two-blocks = blocks;
+  some-loop = loops;
+  loop0-parent = eqb-true (parent t 0) 0 (and-true _ _ (loop0 .0) .0);
+  loop0-header = eqb-true (header t 0) 0 (and-true (eqb (parent t 0) 0) _ (loop0 .0) .1);
+  loop0-limit = eqb-true (limit t 0) 1 (loop0 .1);
+  loop0-multiplier = eqb-true (multiplier t 0) 0 (all0 .1);
+  parent-below = λ l z b. ltb-true (parent t l) l (not-false _ (or-false _ _ (or-false _ _ (or-false _ _ (rw (ne-eqb l 0 (λ e. omega arith)) at (h .1 .0 l b)) .0) .0) .0));
+  innermost = λ u b. ltb-true (loopOf t u) (loopCount t) (not-false _ (or-false (ltb 1000000 (cost t u)) _ (block u b .0) .1));
+  target = λ u v b e. ltb-true v (blockCount t) (not-false _ (no-edge t u v (λ x. not (ltb x (blockCount t))) (block u b .1) e));
+  own = λ l b. eqb-true (loopOf t (header t l)) l (not-false _ (h .1 .1 .1 .0 l b));
+  exit-ends = λ v e. eqb-false (exit t) (exit t) (or-false (eqb v 0) _ (no-edge t (exit t) v (λ x. eqb x 0 || eqb (exit t) (exit t)) (h .1 .1 .1 .1 .1 .0 (exit t) (omega (arith, blocks))) e) .1) refl;
+  at-header = λ u v l b e k iv iu. eqb-true (header t l) v (not-false _ (rw (iv, iu) at (none-of (loopCount t) (past u v) (no-edge t u v (λ x. anyBelow (loopCount t) (past u x)) (h .1 .1 .1 .1 .1 .1 .0 u b) e) l k)));
+}
+  where
+    past : ℕ → ℕ → ℕ → Bool
+    past u v l = enters t u v l && not (eqb (header t l) v)
+
+    sizes : (outOfRange 2 1024 (blockCount t) ≡ false) × (outOfRange 1 64 (loopCount t) ≡ false)
+    sizes = or-false _ _ (or-false _ _ (or-false _ _ (h .0 0 (omega arith)) .0) .0)
+
+    blocks : 2 ≤ blockCount t
+    blocks = ltb-false (blockCount t) 2 (or-false _ _ (sizes .0) .0)
+
+    loops : 0 < loopCount t
+    loops = ltb-false (loopCount t) 1 (or-false _ _ (sizes .1) .0)
+
+    all0 : ((eqb (parent t 0) 0 && eqb (header t 0) 0 && eqb (limit t 0) 1) ≡ true) × (eqb (multiplier t 0) 0 ≡ true)
+    all0 = and-true _ _ (not-false _ (h .1 .0 0 loops))
+
+    loop0 : ((eqb (parent t 0) 0 && eqb (header t 0) 0) ≡ true) × (eqb (limit t 0) 1 ≡ true)
+    loop0 = and-true _ _ (all0 .0)
+
+    block : (u : ℕ) → u < blockCount t → ((ltb 1000000 (cost t u) || not (ltb (loopOf t u) (loopCount t))) ≡ false) × (someEdge t u (λ v. not (ltb v (blockCount t))) ≡ false)
+    block u b = or-false _ _ (or-false _ _ (h .1 .1 .0 u b) .0)

@@ -1,0 +1,115 @@
+-- A list of rules refuses with its first broken rule at the lowest place, and passes exactly where each rule holds at each of its places.
+-- So a pair of tables is accepted exactly where none of 201 to 208 is broken (`replies-exactly`). Assumes nothing.
+use mathlib.Core.Path.{_≡_, refl, sym, _∙_, ap}
+use mathlib.Core.Logic.{_⊎_, inl, inr, ⊎-elim}
+use mathlib.Core.Bool.{Bool, true, false}
+use mathlib.Core.List.{List, [], _∷_, _++_}
+use mathlib.Core.Option.{Option, none, some}
+use Prim.Native.Nat.{ℕ, _<_}
+use native.Mathlib.Omega.{arith}
+use lib.IntN.{ℤ}
+use Rattle.lists.specs.Search.{firstBelow}
+use Rattle.lists.proofs.Search.{Lowest, not-found, none-found, found, found-lowest}
+use Rattle.wcet.specs.Table.{Routine}
+use Rattle.wcet.specs.Rules.{Reply, accepted, refused, Rule, refusedAt, check, tableRules, bound, tableReply}
+use Rattle.wcet.specs.Claim.{Holds, AllHold, FirstBroken, RepliesExactly}
+
+-- ---- one rule: how a checker comes to its reply. A rule that is broken decides, one that holds hands on.
+
+module _ {A : Type 0} (r : Rule) (rs : List Rule) (passed : Reply A) where
+  pub decides : (p : ℕ) → Lowest (r .places) (r .broken) p → check (r ∷ rs) passed ≡ refused (r .number) p
+  unfolding check
+  decides p l = rw (found (r .places) (r .broken) p l)
+
+  pub hands-on : Holds r → check (r ∷ rs) passed ≡ check rs passed
+  unfolding check
+  hands-on h = rw (none-found (r .places) (r .broken) h)
+
+-- ---- a list of rules
+
+pub all-append : (rs qs : List Rule) → AllHold (rs ++ qs) → AllHold rs × AllHold qs
+all-append [] qs h = (tt, h)
+all-append (r ∷ rs) qs h = let q : AllHold rs × AllHold qs = all-append rs qs (h .1) in ((h .0, q .0), q .1)
+
+pub append-all : (rs qs : List Rule) → AllHold rs → AllHold qs → AllHold (rs ++ qs)
+append-all [] qs h k = k
+append-all (r ∷ rs) qs h k = (h .0, append-all rs qs (h .1) k)
+
+-- where the rules before hold, those behind them decide
+pub behind-all : {A : Type 0} (rs qs : List Rule) (passed : Reply A) → AllHold rs → check (rs ++ qs) passed ≡ check qs passed
+behind-all [] qs passed h = refl
+behind-all (r ∷ rs) qs passed h = hands-on r (rs ++ qs) passed (h .0) ∙ behind-all rs qs passed (h .1)
+
+unrefused : {A : Type 0} (n : ℕ) (o : Option ℕ) (rest : Reply A) (a : A) → refusedAt n o rest ≡ accepted a → (o ≡ none) × (rest ≡ accepted a)
+unrefused n none rest a e = (refl, e)
+unrefused n (some p) rest a e = absurd (let z : _≡_ {A = ℕ} 0 1 = cc in omega arith)
+
+pub passes : {A : Type 0} (rs : List Rule) (passed : Reply A) (a : A) → check rs passed ≡ accepted a → AllHold rs × (passed ≡ accepted a)
+unfolding check
+passes [] passed a e = (tt, e)
+passes (r ∷ rs) passed a e =
+    let q : (firstBelow (r .places) (r .broken) ≡ none) × (check rs passed ≡ accepted a) = unrefused (r .number) (firstBelow (r .places) (r .broken)) (check rs passed) a e in
+    let rest : AllHold rs × (passed ≡ accepted a) = passes rs passed a (q .1) in
+    ((not-found (r .places) (r .broken) (q .0), rest .0), rest .1)
+
+pub all-pass : {A : Type 0} (rs : List Rule) (passed : Reply A) → AllHold rs → check rs passed ≡ passed
+unfolding check
+all-pass [] passed h = refl
+all-pass (r ∷ rs) passed h = hands-on r rs passed (h .0) ∙ all-pass rs passed (h .1)
+
+-- a refusal is by a rule of the list, or by what comes after all of them
+pub first-broken : {A : Type 0} (rs : List Rule) (passed : Reply A) (n p : ℕ) → check rs passed ≡ refused n p → FirstBroken rs n p ⊎ (passed ≡ refused n p)
+unfolding check
+first-broken [] passed n p e = inr e
+first-broken (r ∷ rs) passed n p e = go (firstBelow (r .places) (r .broken)) refl e (first-broken rs passed n p)
+  where
+    go : (o : Option ℕ) → firstBelow (r .places) (r .broken) ≡ o → refusedAt (r .number) o (check rs passed) ≡ refused n p
+        → (check rs passed ≡ refused n p → FirstBroken rs n p ⊎ (passed ≡ refused n p)) → FirstBroken (r ∷ rs) n p ⊎ (passed ≡ refused n p)
+    go (some q) o e rest =
+        let q≡p : q ≡ p = cc in
+        let l : Lowest (r .places) (r .broken) p = found-lowest (r .places) (r .broken) p (o ∙ ap some q≡p) in
+        inl (record {
+          before = [];
+          rule = r;
+          behind = rs;
+          order = refl;
+          earlier = tt;
+          named = cc;
+          there = l .below;
+          breaks = l .passes;
+          lowest = l .first;
+        })
+    go none o e rest =
+        ⊎-elim (λ b. inl (record {
+          before = r ∷ b .before;
+          rule = b .rule;
+          behind = b .behind;
+          order = ap (λ (qs : List Rule). r ∷ qs) (b .order);
+          earlier = (not-found (r .places) (r .broken) o, b .earlier);
+          named = b .named;
+          there = b .there;
+          breaks = b .breaks;
+          lowest = b .lowest;
+        })) (λ q. inr q) (rest e)
+
+pub broken-refuses : {A : Type 0} (rs : List Rule) (passed : Reply A) (n p : ℕ) → FirstBroken rs n p → check rs passed ≡ refused n p
+broken-refuses rs passed n p b =
+    rw (b .order)
+    (behind-all (b .before) (b .rule ∷ b .behind) passed (b .earlier)
+    ∙ decides (b .rule) (b .behind) passed p (record { below = b .there; passes = b .breaks; first = b .lowest })
+    ∙ ap (λ (k : ℕ). refused k p) (b .named))
+
+-- ---- the two tables
+
+pub replies-exactly : (t : Routine) → RepliesExactly t
+unfolding tableReply
+replies-exactly t = record {
+  accepts = λ b. (
+    λ e. let q : AllHold (tableRules t) × (accepted (bound t) ≡ accepted b) = passes (tableRules t) (accepted (bound t)) b e in (q .0, cc (q .1)),
+    λ h. all-pass (tableRules t) (accepted (bound t)) (h .0) ∙ ap accepted (h .1),
+  );
+  refuses = λ n p. (
+    λ e. ⊎-elim (λ b. b) (λ q. absurd (let z : _≡_ {A = ℕ} 0 1 = cc in omega arith)) (first-broken (tableRules t) (accepted (bound t)) n p e),
+    broken-refuses (tableRules t) (accepted (bound t)) n p,
+  );
+}
