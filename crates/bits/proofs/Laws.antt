@@ -1,7 +1,7 @@
 -- The digits of an or, an and, a complement and a shifted one, what the code's test of a digit says, and that the count of ones is the
 -- count of members. The width of a word is a parameter throughout. Assumes nothing.
 use mathlib.Core.Path.{_≡_, refl, sym, ap, ap₂, _∙_}
-use mathlib.Core.Bool.{Bool, true, false, not, _&&_, _||_}
+use mathlib.Core.Bool.{Bool, false, not, _&&_, _||_}
 use Prim.Native.Nat.{ℕ, zero, suc, _+_, _-_, _*_, _/_, _%_, _^_, _<_}
 use native.Mathlib.Nat.{pow-suc, zero-div, one-mul, mod-eq-of-lt, zero-add}
 use native.Mathlib.Numerals.{one-add}

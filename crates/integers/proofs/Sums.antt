@@ -1,6 +1,6 @@
 -- Sums over the numbers below k, compared term by term in a direction. Assumes nothing.
 use mathlib.Core.Path.{_≡_, refl, sym, subst₂}
-use Prim.Native.Nat.{ℕ, zero, suc, _+_, _≤_, _<_}
+use Prim.Native.Nat.{ℕ, zero, suc, _<_}
 use native.Mathlib.Decide.{ℕ-discrete}
 use native.Mathlib.Omega.{arith}
 use lib.IntN.{ℤ, pos, _+ℤ_}

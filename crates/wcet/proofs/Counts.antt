@@ -8,7 +8,7 @@ use mathlib.Core.List.{List, [], _∷_, _++_}
 use Prim.Native.Nat.{ℕ, zero, suc, _+_, _≤_, _<_}
 use native.Mathlib.Omega.{arith}
 use lib.Dec.{eqb, eqb·suc-zero, eqb·zero-suc}
-use borrow.Author.Tests.{eqb-true, eq-eqb}
+use borrow.Author.Tests.{eqb-true}
 use lib.ListN.{length, take}
 use Rattle.lists.specs.Search.{if_then_else_}
 use Rattle.lists.proofs.Tests.{and-true, both}
@@ -19,7 +19,7 @@ use Rattle.wcet.specs.Claim.{AllHold}
 use Rattle.wcet.proofs.Nesting.{Nested, nested}
 use Rattle.wcet.proofs.Potential.{inside-own}
 use Rattle.wcet.proofs.Entry.{inside-0}
-use Rattle.wcet.proofs.Limits.{WithinLimits, keeps-each, each-keeps}
+use Rattle.wcet.proofs.Limits.{keeps-each, each-keeps}
 
 -- each block of w is inside loop l
 unfoldable pub allInside : Routine → ℕ → List ℕ → Bool

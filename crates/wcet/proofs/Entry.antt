@@ -1,15 +1,15 @@
 -- Where a run starts and what it costs, for any certificate. Assumes nothing.
 use mathlib.Core.Path.{_≡_, refl, sym, _∙_, ap}
-use mathlib.Core.Bool.{Bool, true, false, _||_, or-self}
+use mathlib.Core.Bool.{Bool, true, false, or-self}
 use mathlib.Core.List.{List, [], _∷_}
 use Prim.Native.Nat.{ℕ, zero, suc, _+_, _<_}
 use lib.Dec.{eqb}
 use borrow.Author.Tests.{eqb-true}
-use lib.IntN.{ℤ, pos, +ℤ-idr, zero-*ℤ}
+use lib.IntN.{pos, +ℤ-idr, zero-*ℤ}
 use Rattle.lists.specs.Search.{if_then_else_}
 use Rattle.integers.proofs.Sums.{sum-zero}
 use Rattle.wcet.specs.Table.{Routine, loopCount, loopOf, cost, around, inside}
-use Rattle.wcet.specs.Run.{State, start, runCost}
+use Rattle.wcet.specs.Run.{start, runCost}
 use Rattle.wcet.proofs.Potential.{Certificate, remaining, term, potential}
 use Rattle.wcet.proofs.Path.{pathWeight}
 use Rattle.wcet.proofs.Nesting.{Nested}

@@ -8,3 +8,5 @@ pub mod Limits
 pub mod Bound
 pub mod Walks
 pub mod Counts
+pub mod Around
+pub mod Steps

@@ -1,13 +1,12 @@
 -- The limits along a list: a test at each block, and an order of each count and its limit. Assumes nothing.
-use mathlib.Core.Path.{_≡_, refl}
-use mathlib.Core.Bool.{Bool, true, false, not, _&&_}
+use mathlib.Core.Path.{_≡_}
+use mathlib.Core.Bool.{Bool, true, false, not}
 use mathlib.Core.List.{List, [], _∷_}
-use Prim.Native.Nat.{ℕ, zero, suc, _+_, _≤_, _<_}
+use Prim.Native.Nat.{ℕ, zero, suc, _≤_, _<_}
 use native.Mathlib.Omega.{arith}
 use lib.Dec.{ltb}
 use borrow.Author.Tests.{ltb-false, le-ltb, not-true}
 use lib.ListN.{length, take}
-use Rattle.lists.specs.Search.{anyBelow}
 use Rattle.lists.proofs.Tests.{and-true, both}
 use Rattle.lists.proofs.Search.{none-of, any-none}
 use Rattle.wcet.specs.Table.{Routine, loopCount, limit}

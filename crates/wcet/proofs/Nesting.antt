@@ -1,11 +1,11 @@
 -- What 201 to 207 say of the edges and the loops, by name. Assumes nothing.
-use mathlib.Core.Path.{_≡_, refl, sym, _∙_, ap}
+use mathlib.Core.Path.{_≡_, refl}
 use mathlib.Core.Bool.{Bool, true, false, not, _&&_, _||_, false≢true}
-use Prim.Native.Nat.{ℕ, zero, suc, _-_, _≤_, _<_}
+use Prim.Native.Nat.{ℕ, _≤_, _<_}
 use native.Mathlib.Omega.{arith}
 use lib.Dec.{eqb, ltb}
-use borrow.Author.Tests.{eqb-true, eqb-false, ltb-true, ltb-false, not-false, eq-eqb, ne-eqb}
-use Rattle.lists.specs.Search.{if_then_else_, anyBelow}
+use borrow.Author.Tests.{eqb-true, eqb-false, ltb-true, ltb-false, not-false, ne-eqb}
+use Rattle.lists.specs.Search.{anyBelow}
 use Rattle.lists.proofs.Tests.{or-false, and-true}
 use Rattle.lists.proofs.Search.{none-of}
 use Rattle.wcet.specs.Table.{Routine, blockCount, loopCount, exit, missing, cost, loopOf, first, second, parent, header, limit, multiplier, someEdge, edge, inside}

@@ -1,7 +1,7 @@
 -- The potential of a state: the figure of the present block, and for each loop around it its multiplier times the visits that are left of
 -- its bound. No step of a run raises it (for an upper bound) or lowers it (for a lower one): which of the two is the direction R, and the
 -- argument is the same. Assumes nothing.
-use mathlib.Core.Path.{_≡_, refl, sym, _∙_, ap, subst, subst₂}
+use mathlib.Core.Path.{_≡_, refl, sym, _∙_, ap, subst₂}
 use mathlib.Core.Bool.{Bool, true, false, not, _&&_, true≢false}
 use mathlib.Core.List.{List}
 use Prim.Native.Nat.{ℕ, zero, suc, _+_, _*_, _<_}

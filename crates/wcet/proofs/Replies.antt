@@ -1,13 +1,11 @@
 -- A list of rules refuses with its first broken rule at the lowest place, and passes exactly where each rule holds at each of its places.
 -- So a pair of tables is accepted exactly where none of 201 to 208 is broken (`replies-exactly`). Assumes nothing.
-use mathlib.Core.Path.{_≡_, refl, sym, _∙_, ap}
+use mathlib.Core.Path.{_≡_, refl, _∙_, ap}
 use mathlib.Core.Logic.{_⊎_, inl, inr, ⊎-elim}
-use mathlib.Core.Bool.{Bool, true, false}
 use mathlib.Core.List.{List, [], _∷_, _++_}
 use mathlib.Core.Option.{Option, none, some}
-use Prim.Native.Nat.{ℕ, _<_}
+use Prim.Native.Nat.{ℕ}
 use native.Mathlib.Omega.{arith}
-use lib.IntN.{ℤ}
 use Rattle.lists.specs.Search.{firstBelow}
 use Rattle.lists.proofs.Search.{Lowest, not-found, none-found, found, found-lowest}
 use Rattle.wcet.specs.Table.{Routine}

@@ -4,25 +4,25 @@
 use mathlib.Core.Path.{_≡_, refl, sym, _∙_, ap}
 use mathlib.Core.Bool.{Bool, true, false, not, _&&_, false≢true}
 use mathlib.Core.List.{List, [], _∷_, _++_}
-use Prim.Native.Nat.{ℕ, zero, suc, _+_, _-_, _≤_, _<_}
+use Prim.Native.Nat.{ℕ, suc, _-_, _≤_, _<_}
 use native.Mathlib.Omega.{arith}
 use lib.Dec.{eqb, ltb}
-use borrow.Author.Tests.{eqb-true, ltb-false, lt-ltb, le-ltb, eq-eqb, ne-eqb, not-true, not-false}
+use borrow.Author.Tests.{eqb-true, ltb-false, lt-ltb, le-ltb, eq-eqb, ne-eqb, not-false}
 use lib.IntN.{ℤ, pos}
-use lib.ListN.{length, getD, take}
+use lib.ListN.{length, getD}
 use lib.Seq.{take-length}
 use lib.Signed.{_≤ℤ_}
 use Rattle.lists.specs.Search.{if_then_else_}
 use Rattle.lists.proofs.Tests.{or-false, and-true, both, neither}
-use Rattle.wcet.specs.Table.{Routine, blockCount, loopCount, exit, limit, edge}
+use Rattle.wcet.specs.Table.{Routine, blockCount, exit, limit, edge}
 use Rattle.wcet.specs.Rules.{Reply, accepted, refused, structureRules, tableReply}
-use Rattle.wcet.specs.Run.{path, run, State, start, next, after, passesLimit, keepsLimits, countedRun, runCost}
+use Rattle.wcet.specs.Run.{path, run, State, start, next, after, passesLimit, keepsLimits, countedRun}
 use Rattle.wcet.specs.Walk.{Walked, walked, longestWalk, lengthRule, walkFrom, walkBlocks, walkReply}
 use Rattle.wcet.specs.Claim.{AllHold, FinishedRun, WalksExactly}
 use Rattle.wcet.proofs.Replies.{passes, all-append, append-all, all-pass}
 use Rattle.wcet.proofs.Nesting.{Nested, nested}
 use Rattle.wcet.proofs.Path.{after-block}
-use Rattle.wcet.proofs.Limits.{WithinLimits, keeps-each, kept-limits}
+use Rattle.wcet.proofs.Limits.{keeps-each, kept-limits}
 use Rattle.wcet.proofs.Bound.{finished-bounded}
 
 -- a reply that is accepted passed the test before it
