@@ -68,14 +68,14 @@ unfolding has
 pow-zero l = ap (λ (n : ℕ). eqb n 1) (pow-even l)
 
 -- the set of l alone
-pub has-pow : (l k : ℕ) → has (2 ^ l) k ≡ eqb k l
+pub has-pow : (l k : ℕ) → has (2 ^ l) k ≡ eqb l k
 has-pow zero zero = unfold has in refl
-has-pow zero (suc k) = has-suc (2 ^ 0) k ∙ has-zero k ∙ sym (eqb·suc-zero k)
-has-pow (suc l) zero = pow-zero l ∙ sym (eqb·zero-suc l)
-has-pow (suc l) (suc k) = has-suc (2 ^ suc l) k ∙ ap (λ (n : ℕ). has n k) (pow-half l) ∙ has-pow l k ∙ sym (eqb·suc-suc k l)
+has-pow zero (suc k) = has-suc (2 ^ 0) k ∙ has-zero k ∙ sym (eqb·zero-suc k)
+has-pow (suc l) zero = pow-zero l ∙ sym (eqb·suc-zero l)
+has-pow (suc l) (suc k) = has-suc (2 ^ suc l) k ∙ ap (λ (n : ℕ). has n k) (pow-half l) ∙ has-pow l k ∙ sym (eqb·suc-suc l k)
 
 -- the code's shift `1 << l`, where l is below the word's width
-pub has-shl : (w l k : ℕ) → l < w → has (1 * 2 ^ l % 2 ^ w) k ≡ eqb k l
+pub has-shl : (w l k : ℕ) → l < w → has (1 * 2 ^ l % 2 ^ w) k ≡ eqb l k
 has-shl w l k h = ap (λ (n : ℕ). has n k) (ap (λ (n : ℕ). n % 2 ^ w) (one-mul (2 ^ l)) ∙ mod-eq-of-lt (pow-lt h)) ∙ has-pow l k
 
 not-half : (w a : ℕ) → ((2 ^ suc w - 1) - a) / 2 ≡ (2 ^ w - 1) - a / 2

@@ -6,6 +6,7 @@ use Prim.Native.Nat.{ℕ, zero, suc, _+_, _<_}
 use lib.Dec.{eqb}
 use borrow.Author.Tests.{eqb-true}
 use lib.IntN.{pos, +ℤ-idr, zero-*ℤ}
+use lib.ListN.{getD}
 use Rattle.lists.specs.Search.{if_then_else_}
 use Rattle.integers.proofs.Sums.{sum-zero}
 use Rattle.wcet.specs.Table.{Routine, loopCount, loopOf, cost, around, inside}
@@ -24,18 +25,19 @@ unfolding pathWeight runCost
 weight-cost t [] u = refl
 weight-cost t (v ∷ w) u = ap (λ (x : ℕ). cost t v + x) (weight-cost t w v)
 
-module _ (t : Routine) (N : Nested t) where
-  -- around loop 0 is loop 0 alone, and block 0 is inside loop 0 only
-  pub around-0 : (d l : ℕ) → around (t .parents) d 0 l ≡ eqb 0 l
-  unfolding around
-  around-0 zero l = refl
-  around-0 (suc d) l = rw (N .loop0-parent, around-0 d l) (or-self (eqb 0 l))
+-- around loop 0, which is its own parent, is loop 0 alone
+pub around-0 : (parents : List ℕ) → getD parents 0 0 ≡ 0 → (d l : ℕ) → around parents d 0 l ≡ eqb 0 l
+unfolding around
+around-0 parents root zero l = refl
+around-0 parents root (suc d) l = rw (root, around-0 parents root d l) (or-self (eqb 0 l))
 
+module _ (t : Routine) (N : Nested t) where
+  -- so block 0 is inside loop 0 only
   pub inside-0 : (l : ℕ) → inside t 0 l ≡ eqb 0 l
   unfolding inside
-  inside-0 l = rw (ap (loopOf t) (sym (N .loop0-header)) ∙ N .own 0 (N .some-loop), around-0 (loopCount t) l)
+  inside-0 l = rw (ap (loopOf t) (sym (N .loop0-header)) ∙ N .own 0 (N .some-loop), around-0 (t .parents) (N .loop0-parent) (loopCount t) l)
 
-  -- so where loop 0's multiplier is 0, the potential at the start is the figure of block 0
+  -- and where loop 0's multiplier is 0, the potential at the start is the figure of block 0
   pub potential-start : (C : Certificate) → C .multiplier 0 ≡ 0 → potential t C start ≡ C .figure 0
   unfolding potential start
   potential-start C z = rw (sum-zero (loopCount t) (term t C 0 (start .count)) nothing) (+ℤ-idr (C .figure 0))

@@ -1,0 +1,76 @@
+// The loops around each loop, one set for each, and what is read off the sets: membership by shift and mask, the loops of one set that are
+// not in another by and-not, how many there are by a count of ones. A set is one word here, and no other layer knows that.
+ghost use mathlib.Core.Path.{_≡_};
+ghost use mathlib.Core.Bool.{not, _&&_, _||_};
+ghost use Prim.Native.Nat.{ℕ, _≤_, _<_};
+ghost use lib.Dec.{eqb};
+ghost use lib.ListN.{length, getD};
+ghost use Rattle.lists.specs.Search.{countBelow};
+ghost use Rattle.loopsets.specs.Sets.{member, setAt, Parents, SetsAround};
+
+// A set of loops.
+pub struct LoopSet {
+    pub word: u64,
+}
+
+impl LoopSet {
+    // Whether loop k is in the set.
+    pub fn contains(self, k: usize) -> bool
+        requires { ⌜ k < 64 ⌝ }
+        ensures { λ r. ⌜ r ≡ member self k ⌝ }
+    {
+        (self.word >> k) & 1 == 1
+    }
+
+    // The set with loop l in it.
+    pub fn with(self, l: usize) -> LoopSet
+        requires { ⌜ l < 64 ⌝ }
+        ensures { λ r. ⌜ ((k : ℕ) → member r k ≡ (eqb l k || member self k)) ⌝ }
+    {
+        LoopSet {
+            word: (1u64 << l) | self.word,
+        }
+    }
+
+    // The loops of the set that are not in the other.
+    pub fn without(self, other: LoopSet) -> LoopSet
+        ensures { λ r. ⌜ ((k : ℕ) → k < 64 → member r k ≡ (member self k && not (member other k))) ⌝ }
+    {
+        LoopSet {
+            word: self.word & !other.word,
+        }
+    }
+
+    // How many loops are in the set.
+    pub fn size(self) -> u32
+        ensures { λ r. ⌜ r ≡ countBelow 64 (member self) ⌝ }
+    {
+        u64::count_ones(self.word)
+    }
+}
+
+// The set of loop l.
+pub fn set_at(sets: &[u64; 64], l: usize) -> LoopSet
+    requires { ⌜ l < 64 ⌝ }
+    ensures { λ r. ⌜ r ≡ setAt (now (sets .entry)) l ⌝ }
+{
+    LoopSet { word: sets[l] }
+}
+
+// The loops around each loop of the parent column: around loop 0 itself alone, around any other loop itself and the loops around its parent.
+pub fn sets_around(parent: &[u16]) -> [u64; 64]
+    requires { ⌜ (0 < length (now parent)) × (length (now parent) ≤ 64) × Parents (now parent) ⌝ }
+    ensures { λ r. ⌜ SetsAround (now (parent .entry)) r ⌝ }
+{
+    let mut around = [0u64; 64];
+    around[0] = 1;
+    let mut l = 1;
+    while l < parent.len() {
+        let p = parent[l] as usize;
+        let s = LoopSet { word: around[p] };
+        let t = s.with(l);
+        around[l] = t.word;
+        l += 1;
+    }
+    around
+}
