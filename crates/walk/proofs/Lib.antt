@@ -1,3 +1,4 @@
 pub mod Facts
 pub mod Resets
 pub mod Steps
+pub mod Walks

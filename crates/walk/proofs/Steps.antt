@@ -61,7 +61,7 @@ module _ (t : Routine) (sets : List ℕ) (S : Sound t sets) (u v : ℕ) (block :
           let past : length (t .headers) ≤ l = omega (arith, S .headers-size, ltb-false l (loopCount t) q) in
           not-entry t sets S u v block there (sym e ∙ List·getD-eq-default (t .headers) 0 past)
 
-  other-next : (l c : ℕ) → (l ≡ loopOf t v → ⊥) → (if leaves t u v l then 0 else c) ≡ nextCount t u v l c
+  pub other-next : (l c : ℕ) → (l ≡ loopOf t v → ⊥) → (if leaves t u v l then 0 else c) ≡ nextCount t u v l c
   unfolding nextCount
   other-next l c ne = rw (ne-eqb (header t l) v (other-header l ne))
 

@@ -1,3 +1,8 @@
+use Prim.Native.Nat.{_-_}
+use native.Mathlib.Omega.{arith}
+use lib.ListN.{length}
+use Rattle.walk.specs.Step.{routine}
+use Rattle.walk.proofs.Walks.{Underway, underway-first, underway-next, standing, end-accepted, end-unfinished, stop-no-block, stop-after-exit, stop-no-edge, stop-over-limit}
 use borrow.Author.Needs.{needs}
 use Rattle.walk.proofs.follow.Statement.{statement}
 use Rattle.walk.proofs.follow.Tie as tie
@@ -7,12 +12,10 @@ use Rattle.walk.proofs.Run.start.Reads as start-reads
 use Rattle.walk.proofs.Run.step.Reads as step-reads
 
 abbrev Inv-loop : tie.InvT-loop
-Inv-loop cost loops first second figure parent header limit multiplier around blocks last₀ i₀ last i =
-    ?
+Inv-loop cost loops first second figure parent header limit multiplier around blocks last₀ i₀ last i = Underway (routine cost loops first second figure parent header limit multiplier) blocks (last .run) i
 
 abbrev μ-loop : tie.MeasureT-loop
-μ-loop cost loops first second figure parent header limit multiplier around blocks last₀ i₀ last i =
-    ?
+μ-loop cost loops first second figure parent header limit multiplier around blocks last₀ i₀ last i = length blocks - i
 
 -- src/lib.rt:175:28
 shared-slice-read-start : tie.Need-shared-slice-read-start Inv-loop μ-loop
@@ -24,7 +27,7 @@ start-requires c κs = search needs
 
 -- src/lib.rt:181:5
 loop-holds : tie.Need-loop-holds Inv-loop μ-loop
-loop-holds c = search needs
+loop-holds c = search (needs, underway-first)
 
 -- src/lib.rt:194:13
 mul-step : tie.Need-mul-step Inv-loop μ-loop
@@ -36,7 +39,7 @@ shared-slice-read-step c = search needs
 
 -- src/lib.rt:183:9
 step-requires : tie.Need-step-requires Inv-loop μ-loop
-step-requires c κs = search needs
+step-requires c κs = (search needs, standing (c .before .before .before .loop .inv) (omega arith))
 
 enum-told : tie.Need-enum-told Inv-loop μ-loop
 enum-told c = search needs
@@ -47,7 +50,7 @@ enum-told-2 c = search needs
 
 -- src/lib.rt:200:17
 returns : tie.Need-returns Inv-loop μ-loop
-returns c = search needs
+returns c = search stop-no-block
 
 -- src/lib.rt:203:17
 enum-told-3 : tie.Need-enum-told-3 Inv-loop μ-loop
@@ -55,7 +58,7 @@ enum-told-3 c = search needs
 
 -- src/lib.rt:203:17
 returns-2 : tie.Need-returns-2 Inv-loop μ-loop
-returns-2 c = search needs
+returns-2 c = search stop-after-exit
 
 -- src/lib.rt:206:17
 enum-told-4 : tie.Need-enum-told-4 Inv-loop μ-loop
@@ -63,7 +66,7 @@ enum-told-4 c = search needs
 
 -- src/lib.rt:206:17
 returns-3 : tie.Need-returns-3 Inv-loop μ-loop
-returns-3 c = search needs
+returns-3 c = search stop-no-edge
 
 -- src/lib.rt:209:17
 enum-told-5 : tie.Need-enum-told-5 Inv-loop μ-loop
@@ -71,7 +74,7 @@ enum-told-5 c = search needs
 
 -- src/lib.rt:209:17
 returns-4 : tie.Need-returns-4 Inv-loop μ-loop
-returns-4 c = search needs
+returns-4 c = search stop-over-limit
 
 -- src/lib.rt:212:9
 add-i : tie.Need-add-i Inv-loop μ-loop
@@ -83,7 +86,7 @@ loop-less c = search needs
 
 -- src/lib.rt:181:5
 loop-again : tie.Need-loop-again Inv-loop μ-loop
-loop-again c = search needs
+loop-again c = search underway-next
 
 -- src/lib.rt:215:14
 cast-at : tie.Need-cast-at Inv-loop μ-loop
@@ -99,11 +102,11 @@ sub-t30 c = search needs
 
 -- src/lib.rt:159:1
 returns-5 : tie.Need-returns-5 Inv-loop μ-loop
-returns-5 c = search needs
+returns-5 c = search end-accepted
 
 -- src/lib.rt:159:1
 returns-6 : tie.Need-returns-6 Inv-loop μ-loop
-returns-6 c = search needs
+returns-6 c = search end-unfinished
 
 pub follow-spec : {M : Type 1} → statement M
 follow-spec =
