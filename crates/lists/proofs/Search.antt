@@ -1,11 +1,13 @@
 -- What a search over the numbers below k finds, from what holds at each number, and the other way round. Assumes nothing.
 use mathlib.Core.Path.{_≡_, refl, sym, _∙_, ap, subst}
-use mathlib.Core.Bool.{Bool, true, false, _||_, or-true}
+use mathlib.Core.Bool.{Bool, true, false, not, _&&_, _||_, and-true, or-true}
 use mathlib.Core.Option.{Option, none, some}
-use Prim.Native.Nat.{ℕ, zero, suc, _+_, _<_}
+use Prim.Native.Nat.{ℕ, zero, suc, _+_, _≤_, _<_}
 use native.Mathlib.Decide.{ℕ-discrete}
 use native.Mathlib.Nat.{add-assoc}
 use native.Mathlib.Omega.{arith}
+use lib.Dec.{eqb}
+use borrow.Author.Tests.{eq-eqb, ne-eqb}
 use Rattle.lists.specs.Search.{if_then_else_, anyBelow, countBelow, orElse, firstBelow}
 use Rattle.lists.proofs.Tests.{or-false, neither}
 
@@ -106,3 +108,42 @@ count-lowest zero p = omega arith
 count-lowest (suc k) p =
     ap (λ (n : ℕ). n + (if p (suc k) then 1 else 0)) (count-lowest k p)
     ∙ add-assoc (if p 0 then 1 else 0) (countBelow k (λ i. p (suc i))) (if p (suc k) then 1 else 0)
+
+-- numbers that do not pass do not count
+pub count-beyond : (m k : ℕ) (p : ℕ → Bool) → m ≤ k → ((i : ℕ) → m ≤ i → i < k → p i ≡ false) → countBelow k p ≡ countBelow m p
+unfolding countBelow
+count-beyond m zero p h fail = let z : m ≡ 0 = omega arith in rw z
+count-beyond m (suc k) p h fail = go (ℕ-discrete m (suc k)) (λ l. count-beyond m k p l (λ i a b. fail i a (omega arith)))
+  where
+    go : Dec (m ≡ suc k) → (m ≤ k → countBelow k p ≡ countBelow m p) → countBelow k p + (if p k then 1 else 0) ≡ countBelow m p
+    go (yes e) rest = sym (ap (λ (n : ℕ). countBelow n p) e)
+    go (no ne) rest = rw (fail k (omega arith) (omega arith)) (let r = rest (omega arith) in omega arith)
+
+pub count-none : (k : ℕ) (p : ℕ → Bool) → ((i : ℕ) → i < k → p i ≡ false) → countBelow k p ≡ 0
+unfolding countBelow
+count-none zero p h = refl
+count-none (suc k) p h = rw (h k (omega arith)) (let r = count-none k p (λ i l. h i (omega arith)) in omega arith)
+
+pub none-counted : (k : ℕ) (p : ℕ → Bool) → countBelow k p ≡ 0 → (i : ℕ) → i < k → p i ≡ false
+unfolding countBelow
+none-counted zero p e i h = absurd (omega arith)
+none-counted (suc k) p e i h = below-suc (λ i. p i ≡ false) k (none-counted k p (omega arith)) (last (p k) refl e) i h
+  where
+    last : (b : Bool) → p k ≡ b → countBelow k p + (if b then 1 else 0) ≡ 0 → p k ≡ false
+    last true q e = absurd (omega arith)
+    last false q e = q
+
+-- one number that passes, and the others
+pub count-remove : (k h : ℕ) (p : ℕ → Bool) → h < k → p h ≡ true → countBelow k p ≡ suc (countBelow k (λ i. p i && not (eqb i h)))
+unfolding countBelow
+count-remove zero h p l e = absurd (omega arith)
+count-remove (suc k) h p l e = go (ℕ-discrete h k) (λ b. count-remove k h p b e)
+  where
+    go : Dec (h ≡ k) → (h < k → countBelow k p ≡ suc (countBelow k (λ i. p i && not (eqb i h))))
+        → countBelow k p + (if p k then 1 else 0) ≡ suc (countBelow k (λ i. p i && not (eqb i h)) + (if p k && not (eqb k h) then 1 else 0))
+    go (yes q) rest =
+        let same : countBelow k (λ i. p i && not (eqb i h)) ≡ countBelow k p
+        = count-ext k (λ i. p i && not (eqb i h)) p (λ i b. rw (ne-eqb i h (λ z. omega arith)) (and-true (p i))) in
+        rw (← q, e, eq-eqb h h refl) (let s : countBelow h (λ i. p i && not (eqb i h)) ≡ countBelow h p = rw (← q) at same in omega arith)
+    go (no ne) rest =
+        rw (ne-eqb k h (λ z. ne (sym z)), and-true (p k)) (let r = rest (omega arith) in omega arith)

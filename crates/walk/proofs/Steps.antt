@@ -25,8 +25,8 @@ use Rattle.loopsets.specs.declared.LoopSet.{LoopSet}
 use Rattle.walk.specs.declared.Run.{Run}
 use Rattle.walk.specs.declared.Answer.the-variants.{Moved, NoBlock, AfterExit, NoEdge, OverLimit}
 use Rattle.walk.specs.declared.Stepped.{Stepped}
-use Rattle.walk.specs.Step.{stateOf, moved, refusing, stepped, visitsAfter, zeroIn, Sound, Standing}
-use Rattle.walk.proofs.Facts.{nesting, cost-at-most, limit-at-most, not-entry}
+use Rattle.walk.specs.Step.{stateOf, moved, refusing, stepped, visitsAfter, zeroIn, Walkable, Standing}
+use Rattle.walk.proofs.Facts.{nesting, not-entry}
 use Rattle.walk.proofs.Resets.{mapped-at}
 
 -- ---- the edge
@@ -45,7 +45,7 @@ edge-is t u v h = ap₂ _||_ (present (first t u)) (present (second t u))
 
 -- ---- the counts
 
-module _ (t : Routine) (sets : List ℕ) (S : Sound t sets) (u v : ℕ) (block : u < blockCount t) (there : edge t u v ≡ true) where
+module _ (t : Routine) (sets : List ℕ) (S : Walkable t sets) (u v : ℕ) (block : u < blockCount t) (there : edge t u v ≡ true) where
   -- the loop that the step ends in is not left
   pub visits-next : (c : ℕ) → visitsAfter c (eqb (header t (loopOf t v)) v) (inside t u (loopOf t v)) ≡ nextCount t u v (loopOf t v) c
   unfolding nextCount
@@ -58,7 +58,7 @@ module _ (t : Routine) (sets : List ℕ) (S : Sound t sets) (u v : ℕ) (block :
       go : (b : Bool) → ltb l (loopCount t) ≡ b → ⊥
       go true q = ne (header-of t (nesting t sets S) l v (ltb-true l (loopCount t) q) e)
       go false q =
-          let past : length (t .headers) ≤ l = omega (arith, S .headers-size, ltb-false l (loopCount t) q) in
+          let past : length (t .headers) ≤ l = omega (arith, S .ranged .sized .headers, ltb-false l (loopCount t) q) in
           not-entry t sets S u v block there (sym e ∙ List·getD-eq-default (t .headers) 0 past)
 
   pub other-next : (l c : ℕ) → (l ≡ loopOf t v → ⊥) → (if leaves t u v l then 0 else c) ≡ nextCount t u v l c
@@ -99,7 +99,7 @@ module _ (t : Routine) (sets : List ℕ) (S : Sound t sets) (u v : ℕ) (block :
 abbrev pub visitsAt : Routine → Run → ℕ → ℕ
 visitsAt t r v = nextCount t (r .at) v (loopOf t v) (getD (r .counts) (loopOf t v) 0)
 
-module _ (t : Routine) (sets : List ℕ) (S : Sound t sets) (r : Run) (v : ℕ) (stands : Standing t r) (there : edge t (r .at) v ≡ true) where
+module _ (t : Routine) (sets : List ℕ) (S : Walkable t sets) (r : Run) (v : ℕ) (stands : Standing t r) (there : edge t (r .at) v ≡ true) where
   within : WithinLimits t (stateOf r)
   within = limits-kept t (stateOf r) (stands .within)
 
@@ -141,16 +141,16 @@ pub record InStep (t : Routine) (r : Run) (v : ℕ) : Type 0 where
   pub price : cost t v ≤ 1000000
   pub room : r .cost ≤ 1000000 * longestWalk
 
-pub in-step : (t : Routine) (sets : List ℕ) → Sound t sets → (r : Run) (v : ℕ) → Standing t r → v < blockCount t
+pub in-step : (t : Routine) (sets : List ℕ) → Walkable t sets → (r : Run) (v : ℕ) → Standing t r → v < blockCount t
     → (b : Bool) → b ≡ (eqb (first t (r .at)) v || eqb (second t (r .at)) v) → not b ≡ false → InStep t r v
 in-step t sets S r v stands block b found e = record {
   block = block;
-  few-blocks = S .few-blocks;
-  there = edge-is t (r .at) v (omega (arith, S .few-blocks)) ∙ sym found ∙ not-false b e;
+  few-blocks = S .ranged .sized .few-blocks;
+  there = edge-is t (r .at) v (omega (arith, S .ranged .sized .few-blocks)) ∙ sym found ∙ not-false b e;
   into = into;
   from = nesting t sets S .innermost (r .at) (stands .at-block);
-  visits = omega (arith, limit-at-most t sets S (loopOf t v) into, limits-kept t (stateOf r) (stands .within) (loopOf t v) into);
-  price = cost-at-most t sets S v block;
+  visits = omega (arith, S .ranged .limit-most (loopOf t v) into, limits-kept t (stateOf r) (stands .within) (loopOf t v) into);
+  price = S .ranged .cost-most v block;
   room = stands .room;
 }
   where

@@ -23,9 +23,9 @@ use Rattle.walk.specs.declared.Answer.the-variants.{Moved, NoBlock, Afte
 use Rattle.walk.specs.declared.Stepped.{Stepped}
 use Rattle.walk.specs.declared.WalkReply.the-variants.{Accepted, Unfinished}
 use Rattle.walk.specs.declared.WalkReply.the-variants as reply
-use Rattle.walk.specs.Step.{stateOf, moved, refusing, stepped, Sound, Standing}
+use Rattle.walk.specs.Step.{stateOf, moved, refusing, stepped, Walkable, Standing}
 use Rattle.walk.specs.Reply.{meaning}
-use Rattle.walk.proofs.Facts.{nesting, cost-at-most}
+use Rattle.walk.proofs.Facts.{nesting}
 use Rattle.walk.proofs.Resets.{mapped-at}
 use Rattle.walk.proofs.Steps.{other-next, step-moved}
 
@@ -82,7 +82,7 @@ moves t r v = go (ltb v (blockCount t)) refl (eqb (r .at) (exit t)) refl (edge t
     go true p false q true u true x e = absurd (let z : _≡_ {A = ℕ} 0 1 = cc in omega arith)
 
 -- the state that the code hands back is the state of the definition, at every loop
-state-next : (t : Routine) (sets : List ℕ) → Sound t sets → (r : Run) (v : ℕ) → length (r .counts) ≡ 64 → r .at < blockCount t → edge t (r .at) v ≡ true
+state-next : (t : Routine) (sets : List ℕ) → Walkable t sets → (r : Run) (v : ℕ) → length (r .counts) ≡ 64 → r .at < blockCount t → edge t (r .at) v ≡ true
     → next t (stateOf r) v ≡ stateOf (moved t r v)
 unfolding next
 state-next t sets S r v size block there = ap (λ (f : ℕ → ℕ). record { block = v; count = f }) (fun-ext (λ l. at l (ltb l (length (r .counts))) refl))
@@ -97,7 +97,7 @@ state-next t sets S r v size block there = ap (λ (f : ℕ → ℕ). record { bl
         let past : length (r .counts) ≤ l = ltb-false l (length (r .counts)) e in
         let into : loopOf t v < loopCount t = nesting t sets S .innermost v (nesting t sets S .target (r .at) v block there) in
         rw (List·getD-eq-default (r .counts) 0 past, List·getD-eq-default (mapFrom (nextCount t (r .at) v) 0 (r .counts)) 0 {n = l} (omega (arith, length-mapFrom (nextCount t (r .at) v) 0 (r .counts))))
-        (sym (other-next t sets S (r .at) v block there l 0 (λ q. omega (arith, S .few-loops))) ∙ none (leaves t (r .at) v l))
+        (sym (other-next t sets S (r .at) v block there l 0 (λ q. omega (arith, S .ranged .sized .few-loops))) ∙ none (leaves t (r .at) v l))
 
 -- ---- the walk
 
@@ -119,16 +119,16 @@ pub record Underway (t : Routine) (w : List ℕ) (r : Run) (i : ℕ) : Type 0 wh
 pub standing : {t : Routine} {w : List ℕ} {r : Run} {i : ℕ} → Underway t w r i → i ≤ longestWalk → Standing t r
 standing U h = record { at-block = U .at-block; within = U .within; room = omega (arith, U .room) }
 
-module _ (t : Routine) (sets : List ℕ) (S : Sound t sets) (w : List ℕ) where
+module _ (t : Routine) (sets : List ℕ) (S : Walkable t sets) (w : List ℕ) where
   pub underway-first : (r : Run) → length (r .counts) ≡ 64 → 0 < length w → getD w 0 0 ≡ 0 → stateOf r ≡ start → r .cost ≡ cost t 0 → Underway t w r 1
   unfolding start
   underway-first r size some first e c = record {
     some = omega arith;
     in-walk = some;
     size = size;
-    at-block = omega (arith, S .blocks, ap (λ (s : State). s .block) e);
+    at-block = omega (arith, S .ranged .sized .some-block, ap (λ (s : State). s .block) e);
     within = rw e (start-kept t (nesting t sets S));
-    room = omega (arith, cost-at-most t sets S 0 (omega (arith, S .blocks)));
+    room = omega (arith, S .ranged .cost-most 0 (omega (arith, S .ranged .sized .some-block)));
     spent = rw (c, ap (cost t) (sym first)) (sym (spent-next t w 0 some));
     same = rw e;
   }
@@ -173,7 +173,7 @@ module _ (t : Routine) (sets : List ℕ) (S : Sound t sets) (w : List ℕ) where
         size = length-mapFrom (nextCount t (r .at) v) 0 (r .counts) ∙ U .size;
         at-block = M .block;
         within = rw (← state) (M .within);
-        room = omega (arith, U .room, cost-at-most t sets S v (M .block));
+        room = omega (arith, U .room, S .ranged .cost-most v (M .block));
         spent = rw add-one (omega (arith, U .spent, spent-next t w i h));
         same = rw add-one (stops Moved e ∙ rw state);
       }

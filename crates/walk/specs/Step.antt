@@ -13,26 +13,13 @@ use Rattle.wcet.specs.Rules.{structureRules}
 use Rattle.wcet.specs.Run.{State, nextCount, next, passesLimit}
 use Rattle.wcet.specs.Walk.{longestWalk}
 use Rattle.wcet.specs.Claim.{AllHold}
+use Rattle.nesting.specs.Columns.{Ranged}
 use Rattle.loopsets.specs.Sets.{member, SetsAround}
 use Rattle.loopsets.specs.declared.LoopSet.{LoopSet}
 use Rattle.walk.specs.declared.Run.{Run}
 use Rattle.walk.specs.declared.Answer.{Answer}
 use Rattle.walk.specs.declared.Answer.the-variants.{Moved, NoBlock, AfterExit, NoEdge, OverLimit}
 use Rattle.walk.specs.declared.Stepped.{Stepped}
-
--- the nine columns as one routine
-abbrev pub routine : List ℕ → List ℕ → List ℕ → List ℕ → List ℤ → List ℕ → List ℕ → List ℕ → List ℕ → Routine
-routine costs loops firsts seconds figures parents headers limits multipliers = record {
-  costs = costs;
-  loops = loops;
-  firsts = firsts;
-  seconds = seconds;
-  figures = figures;
-  parents = parents;
-  headers = headers;
-  limits = limits;
-  multipliers = multipliers;
-}
 
 -- where the run stands, in the terms of document 01's definition
 abbrev pub stateOf : Run → State
@@ -67,17 +54,10 @@ zeroIn left l c = if member left l then 0 else c
 
 -- ---- what a step may rely on
 
--- the tables keep 201 to 207, what 201 says of the columns' lengths, and `sets` has the loops around each loop
-pub record Sound (t : Routine) (sets : List ℕ) : Type 0 where
+-- the tables keep 201 to 207, with what 201 to 203 say of lengths and ranges by name, and `sets` has the loops around each loop
+pub record Walkable (t : Routine) (sets : List ℕ) : Type 0 where
   pub rules : AllHold (structureRules t)
-  pub blocks : 2 ≤ blockCount t
-  pub few-blocks : blockCount t ≤ 1024
-  pub few-loops : loopCount t ≤ 64
-  pub loops-size : length (t .loops) ≡ blockCount t
-  pub firsts-size : length (t .firsts) ≡ blockCount t
-  pub seconds-size : length (t .seconds) ≡ blockCount t
-  pub headers-size : length (t .headers) ≡ loopCount t
-  pub limits-size : length (t .limits) ≡ loopCount t
+  pub ranged : Ranged t
   pub sets-around : SetsAround (t .parents) sets
 
 -- the run stands at a block, within the limits, and has room for the cost of the longest walk

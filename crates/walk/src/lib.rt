@@ -9,7 +9,8 @@ ghost use Rattle.lists.specs.InPlace.{mapFrom};
 ghost use Rattle.wcet.specs.Rules.{accepted};
 ghost use Rattle.wcet.specs.Run.{start};
 ghost use Rattle.wcet.specs.Walk.{walked, longestWalk, walkFrom};
-ghost use Rattle.walk.specs.Step.{routine, stateOf, stepped, visitsAfter, zeroIn, Sound, Standing};
+ghost use Rattle.nesting.specs.Columns.{routine};
+ghost use Rattle.walk.specs.Step.{stateOf, stepped, visitsAfter, zeroIn, Walkable, Standing};
 ghost use Rattle.walk.specs.Reply.{meaning};
 use loopsets::LoopSet;
 
@@ -112,7 +113,7 @@ impl Run {
         around: &[u64; 64],
         v: u16,
     ) -> Stepped
-        requires { ⌜ Sound (routine (now cost) (now loops) (now first) (now second) (now figure) (now parent) (now header) (now limit) (now multiplier)) (now around) × Standing (routine (now cost) (now loops) (now first) (now second) (now figure) (now parent) (now header) (now limit) (now multiplier)) self ⌝ }
+        requires { ⌜ Walkable (routine (now cost) (now loops) (now first) (now second) (now figure) (now parent) (now header) (now limit) (now multiplier)) (now around) × Standing (routine (now cost) (now loops) (now first) (now second) (now figure) (now parent) (now header) (now limit) (now multiplier)) self ⌝ }
         ensures { λ r. ⌜ r ≡ stepped (routine (now (cost .entry)) (now (loops .entry)) (now (first .entry)) (now (second .entry)) (now (figure .entry)) (now (parent .entry)) (now (header .entry)) (now (limit .entry)) (now (multiplier .entry))) self v ⌝ }
     {
         let from = self.at as usize;
@@ -169,7 +170,7 @@ fn follow(
     around: &[u64; 64],
     blocks: &[u16],
 ) -> WalkReply
-    requires { ⌜ Sound (routine (now cost) (now loops) (now first) (now second) (now figure) (now parent) (now header) (now limit) (now multiplier)) (now around) × (0 < length (now blocks)) × (length (now blocks) ≤ longestWalk) × (getD (now blocks) 0 0 ≡ 0) ⌝ }
+    requires { ⌜ Walkable (routine (now cost) (now loops) (now first) (now second) (now figure) (now parent) (now header) (now limit) (now multiplier)) (now around) × (0 < length (now blocks)) × (length (now blocks) ≤ longestWalk) × (getD (now blocks) 0 0 ≡ 0) ⌝ }
     ensures { λ r. ⌜ meaning r ≡ walkFrom (routine (now (cost .entry)) (now (loops .entry)) (now (first .entry)) (now (second .entry)) (now (figure .entry)) (now (parent .entry)) (now (header .entry)) (now (limit .entry)) (now (multiplier .entry))) start 1 (drop 1 (now (blocks .entry))) (accepted (walked (routine (now (cost .entry)) (now (loops .entry)) (now (first .entry)) (now (second .entry)) (now (figure .entry)) (now (parent .entry)) (now (header .entry)) (now (limit .entry)) (now (multiplier .entry))) (now (blocks .entry)))) ⌝ }
 {
     let begin = Run::start(cost[0]);

@@ -1,7 +1,7 @@
 use Prim.Native.Nat.{_-_}
 use native.Mathlib.Omega.{arith}
 use lib.ListN.{length}
-use Rattle.walk.specs.Step.{routine}
+use Rattle.nesting.specs.Columns.{routine}
 use Rattle.walk.proofs.Walks.{Underway, underway-first, underway-next, standing, end-accepted, end-unfinished, stop-no-block, stop-after-exit, stop-no-edge, stop-over-limit}
 use borrow.Author.Needs.{needs}
 use Rattle.walk.proofs.follow.Statement.{statement}

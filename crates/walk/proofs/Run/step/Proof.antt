@@ -5,7 +5,7 @@ use mathlib.Core.Bool.{not, _&&_}
 use lib.ListN.{length, length-set}
 use Rattle.wcet.specs.Table.{Routine, loopOf}
 use Rattle.loopsets.specs.Sets.{member, setAt}
-use Rattle.walk.specs.Step.{routine}
+use Rattle.nesting.specs.Columns.{routine}
 use Rattle.walk.proofs.Steps.{InStep, in-step, visitsAt, visits-found, counts-next, over-limit, within-limit, step-no-block, step-after-exit, step-no-edge, step-over-limit, step-moved}
 use borrow.Author.Needs.{needs}
 use Rattle.walk.proofs.Run.step.Statement.{statement}

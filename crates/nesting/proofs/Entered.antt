@@ -1,0 +1,133 @@
+-- 205 and 207 read off the loop sets: the depth of a header and the number of loops that an edge enters are counts of ones. An edge that
+-- enters a loop enters its target's innermost one, so it keeps 207 where it enters none, or that one alone and at its header.
+-- Assumes nothing.
+use mathlib.Core.Path.{_≡_, refl, sym, _∙_, ap}
+use mathlib.Core.Bool.{Bool, true, false, not, _&&_}
+use mathlib.Core.List.{List}
+use Prim.Native.Nat.{ℕ, suc, _≤_, _<_}
+use native.Mathlib.Decide.{ℕ-discrete}
+use native.Mathlib.Omega.{arith}
+use lib.Dec.{eqb, ltb}
+use borrow.Author.Tests.{eqb-true, ne-eqb}
+use Rattle.lists.specs.Search.{anyBelow, countBelow}
+use Rattle.lists.proofs.Tests.{both}
+use Rattle.lists.proofs.Search.{any-none, none-of, any-at, count-ext, count-beyond, count-none, none-counted, count-remove}
+use Rattle.wcet.specs.Table.{Routine, blockCount, loopCount, loopOf, header, around, inside}
+use Rattle.wcet.specs.Rules.{tooDeep, enters, isHeader}
+use Rattle.wcet.proofs.Potential.{inside-own}
+use Rattle.wcet.proofs.Around.{around-above, entered-own}
+use Rattle.loopsets.specs.Sets.{member, setAt, SetsAround}
+use Rattle.loopsets.specs.declared.LoopSet.{LoopSet}
+use Rattle.nesting.specs.Columns.{Headed, pastHeader}
+
+module _ (t : Routine) (sets : List ℕ) (H : Headed t) (S : SetsAround (t .parents) sets) where
+  -- a count over all 64 numbers is one over the loops
+  few : (p : ℕ → Bool) → ((k : ℕ) → loopCount t ≤ k → p k ≡ false) → countBelow 64 p ≡ countBelow (loopCount t) p
+  few p none-above = count-beyond (loopCount t) 64 p (H .ranged .sized .few-loops) (λ k a b. none-above k a)
+
+  above : (l k : ℕ) → l < loopCount t → loopCount t ≤ k → around (t .parents) (loopCount t) l k ≡ false
+  above l k b h = around-above (t .parents) (H .ranged .parents .root) (H .ranged .parents .below) (loopCount t) l k (omega arith)
+
+  -- ---- 205
+  pub depth : (l : ℕ) → l < loopCount t → tooDeep t l ≡ ltb 16 (countBelow 64 (member (setAt sets l)))
+  unfolding tooDeep inside
+  depth l b =
+      ap (ltb 16)
+      (count-ext (loopCount t) (inside t (header t l)) (around (t .parents) (loopCount t) l) (λ k c. ap (λ (x : ℕ). around (t .parents) (loopCount t) x k) (H .own l b))
+      ∙ sym (count-ext 64 (member (setAt sets l)) (around (t .parents) (loopCount t) l) (λ k c. S .each l k b)
+      ∙ few (around (t .parents) (loopCount t) l) (λ k h. above l k b h)))
+
+  -- ---- 207
+  module _ (u v : ℕ) (ub : u < blockCount t) (vb : v < blockCount t) where
+    abbrev into : ℕ → Bool
+    into = enters t u v
+
+    own-below : loopOf t v < loopCount t
+    own-below = H .ranged .loop-below v vb
+
+    -- how many loops the target's set has that the source's has not is how many are entered
+    pub entered : (to from s : LoopSet) (n : ℕ) → to ≡ setAt sets (loopOf t v) → from ≡ setAt sets (loopOf t u)
+        → ((k : ℕ) → k < 64 → member s k ≡ (member to k && not (member from k))) → n ≡ countBelow 64 (member s) → n ≡ countBelow (loopCount t) into
+    unfolding inside
+    entered to from s n p q e size =
+        size
+        ∙ count-ext 64 (member s) into (λ k b. e k b ∙ rw (p, q, S .each (loopOf t v) k own-below, S .each (loopOf t u) k (H .ranged .loop-below u ub)))
+        ∙ few into (λ k h. rw (above (loopOf t v) k own-below h))
+
+    -- the target's innermost loop is entered if any is
+    none-but-own : into (loopOf t v) ≡ false → (l : ℕ) → into l ≡ false
+    unfolding inside
+    none-but-own e l =
+        entered-own (t .parents) (H .ranged .parents .root) (H .ranged .parents .below) (loopOf t u) (loopOf t v) l (H .ranged .loop-below u ub)
+        (inside-it (inside t u (loopOf t v)) refl)
+      where
+        inside-it : (b : Bool) → inside t u (loopOf t v) ≡ b → inside t u (loopOf t v) ≡ true
+        inside-it true q = q
+        inside-it false q = absurd (mathlib.Core.Bool.true≢false (sym (both (inside-own t v) (rw q)) ∙ e))
+
+    own-entered : (countBelow (loopCount t) into ≡ 0 → ⊥) → into (loopOf t v) ≡ true
+    own-entered some = go (into (loopOf t v)) refl
+      where
+        go : (b : Bool) → into (loopOf t v) ≡ b → into (loopOf t v) ≡ true
+        go true q = q
+        go false q = absurd (some (count-none (loopCount t) into (λ l b. none-but-own q l)))
+
+    -- the loops entered besides it
+    others : ℕ → Bool
+    others l = into l && not (eqb l (loopOf t v))
+
+    counted : (countBelow (loopCount t) into ≡ 0 → ⊥) → countBelow (loopCount t) into ≡ suc (countBelow (loopCount t) others)
+    unfolding others
+    counted some = count-remove (loopCount t) (loopOf t v) into own-below (own-entered some)
+
+    pub enters-none : countBelow (loopCount t) into ≡ 0 → pastHeader t u v ≡ false
+    unfolding pastHeader
+    enters-none e = any-none (loopCount t) (λ l. into l && not (eqb (header t l) v)) (λ l b. rw (none-counted (loopCount t) into e l b))
+
+    pub enters-more : (countBelow (loopCount t) into ≡ 0 → ⊥) → (countBelow (loopCount t) into ≡ 1 → ⊥) → pastHeader t u v ≡ true
+    unfolding pastHeader others
+    enters-more some more = go (anyBelow (loopCount t) past) refl
+      where
+        past : ℕ → Bool
+        past l = into l && not (eqb (header t l) v)
+
+        -- a loop entered besides the innermost one has another header
+        away : (l : ℕ) → l < loopCount t → past l ≡ false → others l ≡ false
+        away l b e = by (into l) refl (ℕ-discrete l (loopOf t v))
+          where
+            by : (i : Bool) → into l ≡ i → Dec (l ≡ loopOf t v) → (i && not (eqb l (loopOf t v))) ≡ false
+            by false i d = refl
+            by true i (yes q) = rw (borrow.Author.Tests.eq-eqb l (loopOf t v) q)
+            by true i (no ne) = absurd (ne (sym (H .own l b) ∙ ap (loopOf t) (eqb-true (header t l) v (borrow.Author.Tests.not-false _ (rw i at e)))))
+
+        go : (b : Bool) → anyBelow (loopCount t) past ≡ b → anyBelow (loopCount t) past ≡ true
+        go true q = q
+        go false q = absurd (more (counted some ∙ ap suc (count-none (loopCount t) others (λ l b. away l b (none-of (loopCount t) past q l b)))))
+
+    pub enters-its : countBelow (loopCount t) into ≡ 1 → pastHeader t u v ≡ not (isHeader t v)
+    unfolding pastHeader others
+    enters-its e = go (isHeader t v) refl
+      where
+        some : countBelow (loopCount t) into ≡ 0 → ⊥
+        some z = omega arith
+
+        past : ℕ → Bool
+        past l = into l && not (eqb (header t l) v)
+
+        alone : (l : ℕ) → l < loopCount t → (l ≡ loopOf t v → ⊥) → into l ≡ false
+        alone l b ne = by (into l) refl
+          where
+            none-else : countBelow (loopCount t) others ≡ 0
+            none-else = omega (arith, counted some)
+
+            by : (i : Bool) → into l ≡ i → into l ≡ false
+            by false i = i
+            by true i = absurd (mathlib.Core.Bool.true≢false (sym (both i (rw (ne-eqb l (loopOf t v) ne))) ∙ none-counted (loopCount t) others none-else l b))
+
+        go : (h : Bool) → isHeader t v ≡ h → anyBelow (loopCount t) past ≡ not h
+        go true h = any-none (loopCount t) past (λ l b. by l b (ℕ-discrete l (loopOf t v)))
+          where
+            by : (l : ℕ) → l < loopCount t → Dec (l ≡ loopOf t v) → past l ≡ false
+            by l b (yes q) = rw (q, h) (mathlib.Core.Bool.and-false (into (loopOf t v)))
+            by l b (no ne) = rw (alone l b ne)
+        go false h = any-at (loopCount t) past (loopOf t v) own-below (both (own-entered some) (rw h))

@@ -1,0 +1,16 @@
+use borrow.Author.Tests.{lt-ltb, le-ltb}
+use Rattle.nesting.proofs.out_of_range.Statement.{statement}
+use Rattle.nesting.proofs.out_of_range.Tie as tie
+use Rattle.nesting.proofs.out_of_range.Reads as reads
+use Rattle.nesting.proofs.out_of_range.Lts as lts
+
+-- src/lib.rt:52:9
+returns : tie.Need-returns
+returns c = rw (lt-ltb _ _ (c .if1 .taken))
+
+-- src/lib.rt:48:1
+returns-2 : tie.Need-returns-2
+returns-2 c = rw (le-ltb _ _ (c .if1 .left))
+
+pub out-of-range-spec : {M : Type 1} → statement M
+out-of-range-spec = tie.close (tie.spec returns returns-2)
