@@ -1,16 +1,13 @@
 -- What 201 to 207 say of the steps of a walk. Assumes nothing.
-use mathlib.Core.Path.{_≡_, sym, _∙_, ap}
-use mathlib.Core.Bool.{Bool, true, false, not, _&&_, _||_}
+use mathlib.Core.Path.{_≡_}
+use mathlib.Core.Bool.{true, _||_}
 use mathlib.Core.List.{List}
-use Prim.Native.Nat.{ℕ, _≤_, _<_}
-use native.Mathlib.Decide.{ℕ-discrete}
-use native.Mathlib.Omega.{arith}
-use lib.Dec.{eqb, ltb}
-use borrow.Author.Tests.{eqb-true, eqb-false, ltb-false, not-false, ne-eqb}
-use lib.ListN.{length}
-use Rattle.lists.proofs.Tests.{or-false, and-true}
-use Rattle.wcet.specs.Table.{Routine, blockCount, loopCount, exit, cost, loopOf, limit, parent, header, multiplier, someEdge, edge}
-use Rattle.wcet.specs.Rules.{outOfRange, sized, blockColumnsEqual, loopColumnsEqual, sizesWrong, loopWrong, blockWrong, entryOrExitEdge, structureRules}
+use Prim.Native.Nat.{ℕ, _<_}
+use lib.Dec.{eqb}
+use borrow.Author.Tests.{eqb-false}
+use Rattle.lists.proofs.Tests.{or-false}
+use Rattle.wcet.specs.Table.{Routine, blockCount, exit, edge}
+use Rattle.wcet.specs.Rules.{entryOrExitEdge, structureRules}
 use Rattle.wcet.specs.Claim.{AllHold}
 use Rattle.wcet.proofs.Nesting.{Nested, nested, no-edge}
 use Rattle.nesting.proofs.Stages.{headed}

@@ -2,3 +2,4 @@ pub mod Facts
 pub mod Resets
 pub mod Steps
 pub mod Walks
+pub mod Replies

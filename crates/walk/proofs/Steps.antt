@@ -1,6 +1,6 @@
 -- What the code finds out in a step, and what the definition says of it. Assumes nothing.
 use mathlib.Core.Path.{_≡_, refl, sym, _∙_, ap, ap₂, fun-ext}
-use mathlib.Core.Bool.{Bool, true, false, not, _&&_, _||_, and-false, or-true}
+use mathlib.Core.Bool.{Bool, true, false, not, _&&_, _||_, and-false}
 use mathlib.Core.List.{List, _∷_}
 use Prim.Native.Nat.{ℕ, zero, suc, _+_, _*_, _≤_, _<_}
 use native.Mathlib.Decide.{ℕ-discrete}
@@ -14,7 +14,7 @@ use Rattle.lists.specs.InPlace.{mapFrom}
 use Rattle.lists.proofs.InPlace.{length-mapFrom}
 use Rattle.wcet.specs.Table.{Routine, blockCount, loopCount, exit, missing, cost, loopOf, first, second, header, limit, someEdge, edge, inside}
 use Rattle.wcet.specs.Rules.{isHeader}
-use Rattle.wcet.specs.Run.{State, start, leaves, nextCount, next, passesLimit}
+use Rattle.wcet.specs.Run.{start, leaves, nextCount, next, passesLimit}
 use Rattle.wcet.specs.Walk.{longestWalk}
 use Rattle.wcet.proofs.Potential.{inside-own}
 use Rattle.wcet.proofs.Around.{header-of}
@@ -24,8 +24,7 @@ use Rattle.loopsets.specs.Sets.{member, setAt}
 use Rattle.loopsets.specs.declared.LoopSet.{LoopSet}
 use Rattle.walk.specs.declared.Run.{Run}
 use Rattle.walk.specs.declared.Answer.the-variants.{Moved, NoBlock, AfterExit, NoEdge, OverLimit}
-use Rattle.walk.specs.declared.Stepped.{Stepped}
-use Rattle.walk.specs.Step.{stateOf, moved, refusing, stepped, visitsAfter, zeroIn, Walkable, Standing}
+use Rattle.walk.specs.Step.{stateOf, refusing, stepped, visitsAfter, zeroIn, Walkable, Standing}
 use Rattle.walk.proofs.Facts.{nesting, not-entry}
 use Rattle.walk.proofs.Resets.{mapped-at}
 

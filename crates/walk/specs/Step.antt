@@ -1,14 +1,13 @@
 -- The state of a run as the code has it, and what one block more makes of it.
 use Prim.Native.Nat.{ℕ, _+_, _*_, _≤_, _<_}
 use mathlib.Core.Path.{_≡_}
-use mathlib.Core.Bool.{Bool, true, false, not}
+use mathlib.Core.Bool.{Bool, false, not}
 use mathlib.Core.List.{List}
 use lib.Dec.{eqb, ltb}
-use lib.IntN.{ℤ}
-use lib.ListN.{length, getD}
+use lib.ListN.{getD}
 use Rattle.lists.specs.Search.{if_then_else_}
 use Rattle.lists.specs.InPlace.{mapFrom}
-use Rattle.wcet.specs.Table.{Routine, blockCount, loopCount, exit, cost, edge}
+use Rattle.wcet.specs.Table.{Routine, blockCount, exit, cost, edge}
 use Rattle.wcet.specs.Rules.{structureRules}
 use Rattle.wcet.specs.Run.{State, nextCount, next, passesLimit}
 use Rattle.wcet.specs.Walk.{longestWalk}

@@ -11,8 +11,10 @@ ghost use Rattle.wcet.specs.Run.{start};
 ghost use Rattle.wcet.specs.Walk.{walked, longestWalk, walkFrom};
 ghost use Rattle.nesting.specs.Columns.{routine};
 ghost use Rattle.walk.specs.Step.{stateOf, stepped, visitsAfter, zeroIn, Walkable, Standing};
-ghost use Rattle.walk.specs.Reply.{meaning};
+ghost use Rattle.walk.specs.Reply.{meaning, WalkAnswered};
 use loopsets::LoopSet;
+use nesting::Structure;
+use nesting::StructureFault;
 
 // The state of a run: the block it stands at, the cost of its blocks, and for each loop the visits to its header in the present stay.
 struct Run {
@@ -38,6 +40,7 @@ struct Stepped {
 // The reply to a walk; a refusal with its index.
 pub enum WalkReply {
     Accepted { cost: u64, steps: usize },
+    Structure(StructureFault),
     Length,
     NoBlock(usize),
     NotEntry,
@@ -222,4 +225,63 @@ fn follow(
     } else {
         WalkReply::Unfinished(i)
     }
+}
+
+// The reply to a walk: 201 to 207 first, then 301, then the first block, then the others.
+pub fn walk(
+    cost: &[u32],
+    loops: &[u16],
+    first: &[u16],
+    second: &[u16],
+    figure: &[i64],
+    parent: &[u16],
+    header: &[u16],
+    limit: &[u32],
+    multiplier: &[u64],
+    blocks: &[u16],
+) -> WalkReply
+    ensures { λ r. ⌜ WalkAnswered (routine (now (cost .entry)) (now (loops .entry)) (now (first .entry)) (now (second .entry)) (now (figure .entry)) (now (parent .entry)) (now (header .entry)) (now (limit .entry)) (now (multiplier .entry))) (now (blocks .entry)) (meaning r) ⌝ }
+{
+    let checked = nesting::check_structure(
+        cost,
+        loops,
+        first,
+        second,
+        figure,
+        parent,
+        header,
+        limit,
+        multiplier,
+    );
+    let answer = checked.answer;
+    if let Structure::Broken(fault) = answer {
+        return WalkReply::Structure(fault);
+    }
+    if blocks.len() < 1 {
+        return WalkReply::Length;
+    }
+    if 1048576 < blocks.len() {
+        return WalkReply::Length;
+    }
+    let entry = blocks[0] as usize;
+    if cost.len() <= entry {
+        return WalkReply::NoBlock(0);
+    }
+    if entry != 0 {
+        return WalkReply::NotEntry;
+    }
+    let around = checked.around;
+    follow(
+        cost,
+        loops,
+        first,
+        second,
+        figure,
+        parent,
+        header,
+        limit,
+        multiplier,
+        &around,
+        blocks,
+    )
 }

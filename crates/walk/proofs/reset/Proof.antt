@@ -1,7 +1,7 @@
 use Prim.Native.Nat.{_-_}
 use mathlib.Core.Path.{_≡_, refl, sym, _∙_}
 use native.Mathlib.Omega.{arith}
-use lib.ListN.{length, length-set}
+use lib.ListN.{length}
 use Rattle.lists.specs.InPlace.{mapFrom}
 use Rattle.loopsets.specs.Sets.{LowestOf}
 use Rattle.walk.specs.Step.{zeroIn}
