@@ -6,7 +6,7 @@ use Prim.Native.Nat.{ℕ, suc, _+_, _-_, _*_, _≤_, _<_}
 use native.Mathlib.Numerals.{add-one}
 use native.Mathlib.Omega.{arith}
 use lib.Dec.{eqb, ltb}
-use borrow.Author.Tests.{eq-eqb, ne-eqb, ltb-true, ltb-false, eqb-false}
+use borrow.Author.Tests.{ltb-true, ltb-false, eqb-false}
 use lib.ListN.{length, getD, drop, drop-of-length-le, List·getD-eq-default}
 use lib.Seq.{drop-cons}
 use Rattle.lists.specs.Search.{if_then_else_}
@@ -21,10 +21,11 @@ use Rattle.walk.specs.declared.Run.{Run}
 use Rattle.walk.specs.declared.Answer.{Answer}
 use Rattle.walk.specs.declared.Answer.the-variants.{Moved, NoBlock, AfterExit, NoEdge, OverLimit}
 use Rattle.walk.specs.declared.Stepped.{Stepped}
+use Rattle.walk.specs.declared.WalkReply.{WalkReply}
 use Rattle.walk.specs.declared.WalkReply.the-variants.{Accepted, Unfinished}
 use Rattle.walk.specs.declared.WalkReply.the-variants as reply
 use Rattle.walk.specs.Step.{stateOf, moved, refusing, stepped, Walkable, Standing}
-use Rattle.walk.specs.Reply.{meaning}
+use Rattle.walk.specs.Reply.{meaning, endOf}
 use Rattle.walk.proofs.Facts.{nesting}
 use Rattle.walk.proofs.Resets.{mapped-at}
 use Rattle.walk.proofs.Steps.{other-next, step-moved}
@@ -134,16 +135,19 @@ module _ (t : Routine) (sets : List ℕ) (S : Walkable t sets) (w : List ℕ) wh
   }
 
   module _ (r : Run) (i : ℕ) (U : Underway t w r i) where
-    pub end-accepted : length w ≤ i → r .at ≡ exit t → meaning (Accepted (r .cost) (i - 1)) ≡ walkFrom t start 1 (drop 1 w) (accepted (walked t w))
-    unfolding walkFrom runCost
-    end-accepted h e =
-        let all : i ≡ length w = omega (arith, U .in-walk) in
-        let total : r .cost ≡ runCost t w = omega (arith, U .spent, ap (runCost t) (drop-of-length-le w h)) in
-        rw (U .same, drop-of-length-le w h, eq-eqb (r .at) (exit t) e, total, all)
+    pub end-reply : length w ≤ i → (x : WalkReply) → x ≡ endOf r (blockCount t) i → meaning x ≡ walkFrom t start 1 (drop 1 w) (accepted (walked t w))
+    unfolding walkFrom runCost endOf
+    end-reply h x e = rw (e, U .same, drop-of-length-le w h) (go (eqb (r .at) (exit t)))
+      where
+        all : i ≡ length w
+        all = omega (arith, U .in-walk)
 
-    pub end-unfinished : length w ≤ i → (r .at ≡ exit t → ⊥) → meaning (Unfinished i) ≡ walkFrom t start 1 (drop 1 w) (accepted (walked t w))
-    unfolding walkFrom
-    end-unfinished h on = rw (U .same, drop-of-length-le w h, ne-eqb (r .at) (exit t) on)
+        total : r .cost ≡ runCost t w
+        total = omega (arith, U .spent, ap (runCost t) (drop-of-length-le w h))
+
+        go : (b : Bool) → meaning (if not b then Unfinished i else Accepted (r .cost) (i - 1)) ≡ (if b then accepted (walked t w) else refused 314 i)
+        go true = rw (total, all)
+        go false = refl
 
     module _ (h : i < length w) (s : Stepped) (step : s ≡ stepped t r (getD w i 0)) where
       stops : (a : Answer) → s .answer ≡ a

@@ -11,7 +11,7 @@ ghost use Rattle.wcet.specs.Run.{start};
 ghost use Rattle.wcet.specs.Walk.{walked, longestWalk, walkFrom};
 ghost use Rattle.nesting.specs.Columns.{routine};
 ghost use Rattle.walk.specs.Step.{stateOf, stepped, visitsAfter, zeroIn, Walkable, Standing};
-ghost use Rattle.walk.specs.Reply.{meaning, WalkAnswered};
+ghost use Rattle.walk.specs.Reply.{meaning, endOf, WalkAnswered};
 use loopsets::LoopSet;
 use nesting::Structure;
 use nesting::StructureFault;
@@ -101,6 +101,20 @@ impl Run {
         }
     }
 
+    // The reply where a walk of this length ends here, in a routine of n blocks.
+    fn ends(self, n: usize, length: usize) -> WalkReply
+        requires { ⌜ (0 < n) × (0 < length) ⌝ }
+        ensures { λ r. ⌜ r ≡ endOf self n length ⌝ }
+    {
+        let at = self.at as usize;
+        if at != n - 1 {
+            return WalkReply::Unfinished(length);
+        }
+        let cost = self.cost;
+        let steps = length - 1;
+        WalkReply::Accepted { cost, steps }
+    }
+
     // One block more. The contract speaks of the routine, so it takes all nine columns.
     fn step(
         mut self,
@@ -122,40 +136,30 @@ impl Run {
         let from = self.at as usize;
         let to = v as usize;
         if cost.len() <= to {
-            return Stepped {
-                run: self,
-                answer: Answer::NoBlock,
-            };
+            let answer = Answer::NoBlock;
+            return Stepped { run: self, answer };
         }
         if from == cost.len() - 1 {
-            return Stepped {
-                run: self,
-                answer: Answer::AfterExit,
-            };
+            let answer = Answer::AfterExit;
+            return Stepped { run: self, answer };
         }
         if !has_edge(first, second, from, v) {
-            return Stepped {
-                run: self,
-                answer: Answer::NoEdge,
-            };
+            let answer = Answer::NoEdge;
+            return Stepped { run: self, answer };
         }
         let l = loops[to] as usize;
         let here = loopsets::set_at(around, loops[from] as usize);
         let visits = visits_after(self.counts[l], header[l] == v, here.contains(l));
         if limit[l] < visits {
-            return Stepped {
-                run: self,
-                answer: Answer::OverLimit,
-            };
+            let answer = Answer::OverLimit;
+            return Stepped { run: self, answer };
         }
         self.counts[l] = visits;
         reset(&mut self.counts, here.without(loopsets::set_at(around, l)));
         self.at = v;
         self.cost += cost[to] as u64;
-        Stepped {
-            run: self,
-            answer: Answer::Moved,
-        }
+        let answer = Answer::Moved;
+        Stepped { run: self, answer }
     }
 }
 
@@ -176,11 +180,9 @@ fn follow(
     requires { ⌜ Walkable (routine (now cost) (now loops) (now first) (now second) (now figure) (now parent) (now header) (now limit) (now multiplier)) (now around) × (0 < length (now blocks)) × (length (now blocks) ≤ longestWalk) × (getD (now blocks) 0 0 ≡ 0) ⌝ }
     ensures { λ r. ⌜ meaning r ≡ walkFrom (routine (now (cost .entry)) (now (loops .entry)) (now (first .entry)) (now (second .entry)) (now (figure .entry)) (now (parent .entry)) (now (header .entry)) (now (limit .entry)) (now (multiplier .entry))) start 1 (drop 1 (now (blocks .entry))) (accepted (walked (routine (now (cost .entry)) (now (loops .entry)) (now (first .entry)) (now (second .entry)) (now (figure .entry)) (now (parent .entry)) (now (header .entry)) (now (limit .entry)) (now (multiplier .entry))) (now (blocks .entry)))) ⌝ }
 {
-    let begin = Run::start(cost[0]);
-    let mut last = Stepped {
-        run: begin,
-        answer: Answer::Moved,
-    };
+    let run = Run::start(cost[0]);
+    let answer = Answer::Moved;
+    let mut last = Stepped { run, answer };
     let mut i = 1;
     while i < blocks.len() {
         let run = last.run;
@@ -200,31 +202,15 @@ fn follow(
         let answer = last.answer;
         match answer {
             Answer::Moved => {}
-            Answer::NoBlock => {
-                return WalkReply::NoBlock(i);
-            }
-            Answer::AfterExit => {
-                return WalkReply::AfterExit(i);
-            }
-            Answer::NoEdge => {
-                return WalkReply::NoEdge(i);
-            }
-            Answer::OverLimit => {
-                return WalkReply::OverLimit(i);
-            }
+            Answer::NoBlock => return WalkReply::NoBlock(i),
+            Answer::AfterExit => return WalkReply::AfterExit(i),
+            Answer::NoEdge => return WalkReply::NoEdge(i),
+            Answer::OverLimit => return WalkReply::OverLimit(i),
         }
         i += 1;
     }
     let run = last.run;
-    let at = run.at as usize;
-    if at == cost.len() - 1 {
-        WalkReply::Accepted {
-            cost: run.cost,
-            steps: i - 1,
-        }
-    } else {
-        WalkReply::Unfinished(i)
-    }
+    run.ends(cost.len(), i)
 }
 
 // The reply to a walk: 201 to 207 first, then 301, then the first block, then the others.

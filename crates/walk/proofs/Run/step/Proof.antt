@@ -39,93 +39,93 @@ visits c =
     visits-found (table s) (s .args .around .now) (s .pre .0) (s .args .t1) (s .args .v) (s .pre .1) (passed (c .before .before .before .before .before .before .before) .there) (c .before .before .before .before .set-at .result) (c .before .contains .result) (c .visits-after .result)
     (c .before .before .before .before .set-at .ensures) (c .before .contains .ensures) (c .visits-after .ensures)
 
--- src/lib.rt:118:20
+-- src/lib.rt:136:20
 cast-from : tie.Need-cast-from
 cast-from c = search needs
 
--- src/lib.rt:121:13
+-- src/lib.rt:140:13
 returns : tie.Need-returns
 returns c = search step-no-block
 
--- src/lib.rt:126:20
+-- src/lib.rt:142:20
 sub-if2 : tie.Need-sub-if2
 sub-if2 c = search needs
 
--- src/lib.rt:127:13
+-- src/lib.rt:144:13
 returns-2 : tie.Need-returns-2
 returns-2 c = search step-after-exit
 
--- src/lib.rt:132:13
+-- src/lib.rt:146:13
 has-edge-requires : tie.Need-has-edge-requires
 has-edge-requires c κs = search needs
 
--- src/lib.rt:133:13
+-- src/lib.rt:148:13
 returns-3 : tie.Need-returns-3
 returns-3 c =
     let s = c .before .before .before .before .before .before .before .before .before .before .before .before in
     step-no-edge (table s) (s .args .t1) (s .args .v) (omega arith) (c .before .before .if2 .left) (c .before .has-edge .result) (omega arith) (c .before .has-edge .ensures) (c .if3 .taken)
 
--- src/lib.rt:138:17
+-- src/lib.rt:150:17
 mul-l : tie.Need-mul-l
 mul-l c = search needs
 
--- src/lib.rt:138:17
+-- src/lib.rt:150:17
 shared-slice-read-l : tie.Need-shared-slice-read-l
 shared-slice-read-l c = search needs
 
--- src/lib.rt:138:17
+-- src/lib.rt:150:17
 cast-l : tie.Need-cast-l
 cast-l c = omega (arith, passed (c .before))
 
--- src/lib.rt:139:45
+-- src/lib.rt:151:45
 mul-set-at : tie.Need-mul-set-at
 mul-set-at c = search needs
 
--- src/lib.rt:139:45
+-- src/lib.rt:151:45
 shared-slice-read-set-at : tie.Need-shared-slice-read-set-at
 shared-slice-read-set-at c = search needs
 
--- src/lib.rt:139:45
+-- src/lib.rt:151:45
 cast-set-at : tie.Need-cast-set-at
 cast-set-at c = omega (arith, passed (c .before .before))
 
--- src/lib.rt:139:13
+-- src/lib.rt:151:13
 set-at-requires : tie.Need-set-at-requires
 set-at-requires c κs = omega (arith, passed (c .before .before))
 
--- src/lib.rt:140:35
+-- src/lib.rt:152:35
 mul-visits-after : tie.Need-mul-visits-after
 mul-visits-after c = omega (arith, passed (c .before .before .before))
 
--- src/lib.rt:140:35
+-- src/lib.rt:152:35
 element-copy-out-visits-after : tie.Need-element-copy-out-visits-after
 element-copy-out-visits-after c = omega (arith, passed (c .before .before .before))
 
--- src/lib.rt:140:51
+-- src/lib.rt:152:51
 mul-visits-after-2 : tie.Need-mul-visits-after-2
 mul-visits-after-2 c = omega (arith, passed (c .before .before .before .before))
 
--- src/lib.rt:140:51
+-- src/lib.rt:152:51
 shared-slice-read-visits-after : tie.Need-shared-slice-read-visits-after
 shared-slice-read-visits-after c = omega (arith, passed (c .before .before .before .before .before))
 
--- src/lib.rt:140:67
+-- src/lib.rt:152:67
 contains-requires : tie.Need-contains-requires
 contains-requires c κs = omega (arith, passed (c .before .before .before .before .before))
 
--- src/lib.rt:140:13
+-- src/lib.rt:152:13
 visits-after-requires : tie.Need-visits-after-requires
 visits-after-requires c κs = omega (arith, passed (c .before .before .before .before .before .before))
 
--- src/lib.rt:141:12
+-- src/lib.rt:153:12
 mul-if4 : tie.Need-mul-if4
 mul-if4 c = omega (arith, passed (c .before .before .before .before .before .before .before))
 
--- src/lib.rt:141:12
+-- src/lib.rt:153:12
 shared-slice-read-if4 : tie.Need-shared-slice-read-if4
 shared-slice-read-if4 c = omega (arith, passed (c .before .before .before .before .before .before .before .before))
 
--- src/lib.rt:142:13
+-- src/lib.rt:155:13
 returns-4 : tie.Need-returns-4
 returns-4 c =
     let s = c .before .before .before .before .before .before .before .before .before .before .before .before .before .before .before .before .before .before .before .before .before in
@@ -133,43 +133,43 @@ returns-4 c =
     step-over-limit (table s) (s .args .t1) (s .args .v) (in-range .block) (c .before .before .before .before .before .before .before .before .before .before .before .if2 .left) (in-range .there)
     (over-limit (table s) (s .args .around .now) (s .pre .0) (s .args .t1) (s .args .v) (s .pre .1) (in-range .there) (c .before .before .visits-after .result) (visits (c .before .before)) (c .if4 .taken))
 
--- src/lib.rt:147:9
+-- src/lib.rt:157:9
 mul-self : tie.Need-mul-self
 mul-self c = omega (arith, passed (c .before .before .before .before .before .before .before .before .before))
 
--- src/lib.rt:147:9
+-- src/lib.rt:157:9
 element-write-self : tie.Need-element-write-self
 element-write-self c = omega (arith, passed (c .before .before .before .before .before .before .before .before .before))
 
--- src/lib.rt:148:46
+-- src/lib.rt:158:46
 set-at-requires-2 : tie.Need-set-at-requires-2
 set-at-requires-2 c κs = omega (arith, passed (c .before .before .before .before .before .before .before .before .before .before))
 
--- src/lib.rt:148:33
+-- src/lib.rt:158:33
 without-requires : tie.Need-without-requires
 without-requires c κs = search needs
 
--- src/lib.rt:148:9
+-- src/lib.rt:158:9
 reset-requires : tie.Need-reset-requires
 reset-requires c κs = rw length-set (size (c .before .before .before .before .before .before .before .before .before .before .before .before .before .before .before .before .before .before .before .before .before .before .before .before))
 
--- src/lib.rt:150:22
+-- src/lib.rt:160:22
 mul-self-2 : tie.Need-mul-self-2
 mul-self-2 c = omega (arith, passed (c .before .before .before .before .before .before .before .before .before .before .before .before .before))
 
--- src/lib.rt:150:22
+-- src/lib.rt:160:22
 shared-slice-read-self : tie.Need-shared-slice-read-self
 shared-slice-read-self c = omega (arith, passed (c .before .before .before .before .before .before .before .before .before .before .before .before .before .before))
 
--- src/lib.rt:150:22
+-- src/lib.rt:160:22
 cast-self : tie.Need-cast-self
 cast-self c = omega (arith, passed (c .before .before .before .before .before .before .before .before .before .before .before .before .before .before))
 
--- src/lib.rt:150:9
+-- src/lib.rt:160:9
 add-self : tie.Need-add-self
 add-self c = omega (arith, passed (c .before .before .before .before .before .before .before .before .before .before .before .before .before .before))
 
--- src/lib.rt:101:5
+-- src/lib.rt:119:5
 returns-5 : tie.Need-returns-5
 returns-5 c =
     let s = c .before .before .before .before .before .before .before .before .before .before .before .before .before .before .before .before .before .before .before .before .before .before .before .before .before .before in
