@@ -16,6 +16,9 @@ use loopsets::LoopSet;
 use nesting::Structure;
 use nesting::StructureFault;
 
+// The longest walk that is accepted, in blocks.
+const LONGEST_WALK: usize = 1048576;
+
 // The state of a run: the block it stands at, the cost of its blocks, and for each loop the visits to its header in the present stay.
 struct Run {
     at: u16,
@@ -102,7 +105,7 @@ impl Run {
     }
 
     // The reply where a walk of this length ends here, in a routine of n blocks.
-    fn ends(self, n: usize, length: usize) -> WalkReply
+    fn finish(self, n: usize, length: usize) -> WalkReply
         requires { ⌜ (0 < n) × (0 < length) ⌝ }
         ensures { λ r. ⌜ r ≡ endOf self n length ⌝ }
     {
@@ -210,7 +213,7 @@ fn follow(
         i += 1;
     }
     let run = last.run;
-    run.ends(cost.len(), i)
+    run.finish(cost.len(), i)
 }
 
 // The reply to a walk: 201 to 207 first, then 301, then the first block, then the others.
@@ -246,7 +249,7 @@ pub fn walk(
     if blocks.len() < 1 {
         return WalkReply::Length;
     }
-    if 1048576 < blocks.len() {
+    if LONGEST_WALK < blocks.len() {
         return WalkReply::Length;
     }
     let entry = blocks[0] as usize;

@@ -8,7 +8,7 @@ use Rattle.walk.proofs.follow.Statement.{statement}
 use Rattle.walk.proofs.follow.Tie as tie
 use Rattle.walk.proofs.follow.Reads as reads
 use Rattle.walk.proofs.follow.Lts as lts
-use Rattle.walk.proofs.Run.ends.Reads as ends-reads
+use Rattle.walk.proofs.Run.finish.Reads as finish-reads
 use Rattle.walk.proofs.Run.start.Reads as start-reads
 use Rattle.walk.proofs.Run.step.Reads as step-reads
 
@@ -90,8 +90,8 @@ loop-again : tie.Need-loop-again Inv-loop μ-loop
 loop-again c = search underway-next
 
 -- src/lib.rt:213:5
-ends-requires : tie.Need-ends-requires Inv-loop μ-loop
-ends-requires c κs = search needs
+finish-requires : tie.Need-finish-requires Inv-loop μ-loop
+finish-requires c κs = search needs
 
 -- src/lib.rt:167:1
 returns-5 : tie.Need-returns-5 Inv-loop μ-loop
@@ -121,5 +121,5 @@ follow-spec =
     add-i
     loop-less
     loop-again
-    ends-requires
+    finish-requires
     returns-5)

@@ -1,10 +1,10 @@
 use borrow.Author.Tests.{eq-eqb, ne-eqb}
 use Rattle.walk.specs.Reply.{endOf}
 use borrow.Author.Needs.{needs}
-use Rattle.walk.proofs.Run.ends.Statement.{statement}
-use Rattle.walk.proofs.Run.ends.Tie as tie
-use Rattle.walk.proofs.Run.ends.Reads as reads
-use Rattle.walk.proofs.Run.ends.Lts as lts
+use Rattle.walk.proofs.Run.finish.Statement.{statement}
+use Rattle.walk.proofs.Run.finish.Tie as tie
+use Rattle.walk.proofs.Run.finish.Reads as reads
+use Rattle.walk.proofs.Run.finish.Lts as lts
 
 -- src/lib.rt:109:18
 cast-at : tie.Need-cast-at
@@ -28,5 +28,5 @@ returns-2 : tie.Need-returns-2
 unfolding endOf
 returns-2 c = rw (eq-eqb _ _ (c .if1 .left))
 
-pub ends-spec : {M : Type 1} → statement M
-ends-spec = tie.close (tie.spec cast-at sub-if1 returns sub-steps returns-2)
+pub finish-spec : {M : Type 1} → statement M
+finish-spec = tie.close (tie.spec cast-at sub-if1 returns sub-steps returns-2)
