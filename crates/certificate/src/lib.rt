@@ -32,7 +32,8 @@ fn plain_holds(cost: u32, from: i64, to: i64) -> bool
     requires { ⌜ (cost ≤ 1000000) × Figure from × Figure to ⌝ }
     ensures { λ r. ⌜ r ≡ leZ (pos cost) (from -ℤ to) ⌝ }
 {
-    cost as i64 <= from - to
+    let d = from - to;
+    cost as i64 <= d
 }
 
 // Of an edge back to a header from inside its loop.
@@ -40,7 +41,9 @@ fn return_holds(cost: u32, from: i64, to: i64, multiplier: u64) -> bool
     requires { ⌜ (cost ≤ 1000000) × Figure from × Figure to × (multiplier ≤ 2 ^ 40) ⌝ }
     ensures { λ r. ⌜ r ≡ leZ (pos cost) (from -ℤ to +ℤ pos multiplier) ⌝ }
 {
-    cost as i64 <= from - to + multiplier as i64
+    let d = from - to;
+    let most = d + multiplier as i64;
+    cost as i64 <= most
 }
 
 // Of an edge to a header from outside its loop.
@@ -48,8 +51,9 @@ fn entry_holds(cost: u32, from: i64, to: i64, multiplier: u64, limit: u32) -> bo
     requires { ⌜ (cost ≤ 1000000) × Figure from × Figure to × (multiplier ≤ 2 ^ 40) × (1 ≤ limit) × (limit ≤ 65535) ⌝ }
     ensures { λ r. ⌜ r ≡ leZ (pos cost +ℤ pos multiplier *ℤ (pos limit -ℤ pos 1)) (from -ℤ to) ⌝ }
 {
+    let d = from - to;
     let later = multiplier * (limit as u64 - 1);
-    cost as i64 + later as i64 <= from - to
+    cost as i64 + later as i64 <= d
 }
 
 // The form that applies: to a header or not, and from inside its loop or not.

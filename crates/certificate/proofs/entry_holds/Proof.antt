@@ -35,8 +35,8 @@ add-result c =
     rw (toZ-pos w64 {n = a .cost} (omega arith), toZ-pos w64 {n = a .multiplier * (a .limit - 1)} (omega arith)) (record { sfits = omega arith })
 
 -- src/lib.rt:52:35
-sub-result : tie.Need-sub-result
-sub-result c = rw (toZ-ofZ (c .fits .from), toZ-ofZ (c .fits .to)) (diff-fits _ _ (c .pre .1) (c .pre .2))
+sub-d : tie.Need-sub-d
+sub-d c = rw (toZ-ofZ (c .fits .from), toZ-ofZ (c .fits .to)) (diff-fits _ _ (c .pre .1) (c .pre .2))
 
 -- src/lib.rt:47:1
 returns : tie.Need-returns
@@ -50,4 +50,4 @@ returns c =
 pub entry-holds-spec : {M : Type 1} → statement M
 entry-holds-spec =
     tie.close
-    (tie.spec sub-later mul-later cast-result cast-result-2 add-result sub-result returns)
+    (tie.spec sub-d sub-later mul-later cast-result cast-result-2 add-result returns)

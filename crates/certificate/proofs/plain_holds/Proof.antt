@@ -15,8 +15,8 @@ cast-result : tie.Need-cast-result
 cast-result c = search needs
 
 -- src/lib.rt:35:20
-sub-result : tie.Need-sub-result
-sub-result c = rw (toZ-ofZ (c .fits .from), toZ-ofZ (c .fits .to)) (diff-fits _ _ (c .pre .1) (c .pre .2))
+sub-d : tie.Need-sub-d
+sub-d c = rw (toZ-ofZ (c .fits .from), toZ-ofZ (c .fits .to)) (diff-fits _ _ (c .pre .1) (c .pre .2))
 
 -- src/lib.rt:31:1
 returns : tie.Need-returns
@@ -26,4 +26,4 @@ returns c =
     rw (toZ-pos w64 {n = a .cost} (omega arith), toZ-ofZ (c .fits .from), toZ-ofZ (c .fits .to), toZ-ofZ less)
 
 pub plain-holds-spec : {M : Type 1} → statement M
-plain-holds-spec = tie.close (tie.spec cast-result sub-result returns)
+plain-holds-spec = tie.close (tie.spec sub-d cast-result returns)

@@ -15,16 +15,16 @@ cast-result : tie.Need-cast-result
 cast-result c = search needs
 
 -- src/lib.rt:43:20
-sub-result : tie.Need-sub-result
-sub-result c = rw (toZ-ofZ (c .fits .from), toZ-ofZ (c .fits .to)) (diff-fits _ _ (c .pre .1) (c .pre .2))
+sub-d : tie.Need-sub-d
+sub-d c = rw (toZ-ofZ (c .fits .from), toZ-ofZ (c .fits .to)) (diff-fits _ _ (c .pre .1) (c .pre .2))
 
 -- src/lib.rt:43:32
-cast-result-2 : tie.Need-cast-result-2
-cast-result-2 c = search needs
+cast-most : tie.Need-cast-most
+cast-most c = search needs
 
 -- src/lib.rt:43:20
-add-result : tie.Need-add-result
-add-result c =
+add-most : tie.Need-add-most
+add-most c =
     let a = c .args in
     let less : SFits w64 (a .from -ℤ a .to) = diff-fits _ _ (c .pre .1) (c .pre .2) in
     rw (toZ-ofZ (c .fits .from), toZ-ofZ (c .fits .to), toZ-ofZ less, toZ-pos w64 {n = a .multiplier} (omega arith)) (diff-sum-fits _ _ (a .multiplier) (c .pre .1) (c .pre .2) (c .pre .3))
@@ -38,4 +38,4 @@ returns c =
     rw (toZ-pos w64 {n = a .cost} (omega arith), toZ-ofZ (c .fits .from), toZ-ofZ (c .fits .to), toZ-ofZ less, toZ-pos w64 {n = a .multiplier} (omega arith), toZ-ofZ more)
 
 pub return-holds-spec : {M : Type 1} → statement M
-return-holds-spec = tie.close (tie.spec cast-result sub-result cast-result-2 add-result returns)
+return-holds-spec = tie.close (tie.spec sub-d cast-most add-most cast-result returns)
