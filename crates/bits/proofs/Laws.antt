@@ -1,7 +1,7 @@
--- The digits of an or, an and, a complement and a shifted one, what the code's test of a digit says, and that the count of ones is the
--- count of members. The width of a word is a parameter throughout. Assumes nothing.
+-- The digits of an or, an and, a complement and a shifted one, what the code's test of a digit says, that the count of ones is the count
+-- of members and the count of trailing zeros the lowest member. The width of a word is a parameter throughout. Assumes nothing.
 use mathlib.Core.Path.{_≡_, refl, sym, ap, ap₂, _∙_}
-use mathlib.Core.Bool.{Bool, false, not, _&&_, _||_}
+use mathlib.Core.Bool.{Bool, true, false, not, _&&_, _||_}
 use Prim.Native.Nat.{ℕ, zero, suc, _+_, _-_, _*_, _/_, _%_, _^_, _<_}
 use native.Mathlib.Nat.{pow-suc, zero-div, one-mul, mod-eq-of-lt, zero-add}
 use native.Mathlib.Numerals.{one-add}
@@ -10,7 +10,7 @@ use lib.Dec.{eqb, eqb·suc-zero, eqb·zero-suc, eqb·suc-suc}
 use lib.Bits.{bitAnd, bitOr, and-shr, or-shr, and-mod, or-mod, and-mask, and-lt}
 use lib.Arith.{lt-one}
 use lib.Pow.{pow-lt, shr-shr, ones-sub-lt}
-use lib.Count.{ones, ones-step}
+use lib.Count.{ones, ones-step, under, trailingZeros}
 use Rattle.lists.specs.Search.{if_then_else_, countBelow}
 use Rattle.lists.proofs.Search.{count-ext, count-lowest}
 use Rattle.bits.specs.Digits.{has}
@@ -137,3 +137,40 @@ pub ones-diff : (w a b : ℕ) → a < 2 ^ w → b < 2 ^ w → ones (bitAnd a ((2
 ones-diff w a b p q =
     ones-count w (bitAnd a ((2 ^ w - 1) - b)) (and-lt w a ((2 ^ w - 1) - b) p (ones-sub-lt w b))
     ∙ count-ext w (has (bitAnd a ((2 ^ w - 1) - b))) (λ k. has a k && not (has b k)) (λ k h. has-and-not w a b k q h)
+
+-- ---- the lowest member
+
+even : (s : ℕ) → s % 2 ≡ 0 → has s 0 ≡ false
+unfolding has
+even s e = ap (λ (n : ℕ). eqb n 1) (one-of e)
+  where
+    one-of : s % 2 ≡ 0 → s / 2 ^ 0 % 2 ≡ 0
+    one-of e = omega arith
+
+odd : (s d : ℕ) → s % 2 ≡ suc d → has s 0 ≡ true
+unfolding has
+odd s d e = ap (λ (n : ℕ). eqb n 1) (one-of e)
+  where
+    one-of : s % 2 ≡ suc d → s / 2 ^ 0 % 2 ≡ 1
+    one-of e = omega arith
+
+-- the digits below the trailing zeros of a word of w digits are 0, and the digit behind them is 1
+pub trailing-lower : (w s k : ℕ) → k < trailingZeros w s → has s k ≡ false
+unfolding trailingZeros
+trailing-lower zero s k h = absurd (omega arith)
+trailing-lower (suc w) s k h = go k (s % 2) refl h (λ j. trailing-lower w (s / 2) j)
+  where
+    go : (k d : ℕ) → s % 2 ≡ d → k < under d (trailingZeros w (s / 2)) → ((j : ℕ) → j < trailingZeros w (s / 2) → has (s / 2) j ≡ false) → has s k ≡ false
+    go zero zero e h rest = even s e
+    go (suc k) zero e h rest = has-suc s k ∙ rest k (omega arith)
+    go k (suc d) e h rest = absurd (omega arith)
+
+pub trailing-present : (w s : ℕ) → trailingZeros w s < w → has s (trailingZeros w s) ≡ true
+unfolding trailingZeros
+trailing-present zero s h = absurd (omega arith)
+trailing-present (suc w) s h = go (s % 2) refl h (trailing-present w (s / 2))
+  where
+    go : (d : ℕ) → s % 2 ≡ d → under d (trailingZeros w (s / 2)) < suc w → (trailingZeros w (s / 2) < w → has (s / 2) (trailingZeros w (s / 2)) ≡ true)
+        → has s (under d (trailingZeros w (s / 2))) ≡ true
+    go zero e h rest = has-suc s (trailingZeros w (s / 2)) ∙ rest (omega arith)
+    go (suc d) e h rest = odd s d e

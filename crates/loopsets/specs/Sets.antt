@@ -1,7 +1,7 @@
 -- What a set of loops holds, and the sets of the loops around each loop.
-use Prim.Native.Nat.{ℕ, _<_}
+use Prim.Native.Nat.{ℕ, _≤_, _<_}
 use mathlib.Core.Path.{_≡_}
-use mathlib.Core.Bool.{Bool}
+use mathlib.Core.Bool.{Bool, true, false}
 use mathlib.Core.List.{List}
 use lib.ListN.{length, getD}
 use Rattle.bits.specs.Digits.{has}
@@ -11,6 +11,12 @@ use Rattle.loopsets.specs.declared.LoopSet.{LoopSet}
 -- loop k is in the set
 unfoldable pub member : LoopSet → ℕ → Bool
 member s k = has (s .word) k
+
+-- l is the lowest loop in the set, and 64 where the set is empty
+pub record LowestOf (s : LoopSet) (l : ℕ) : Type 0 where
+  pub within : l ≤ 64
+  pub present : l < 64 → member s l ≡ true
+  pub lower : (k : ℕ) → k < l → member s k ≡ false
 
 -- the set of loop l
 unfoldable pub setAt : List ℕ → ℕ → LoopSet

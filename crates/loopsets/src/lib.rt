@@ -1,12 +1,13 @@
 // The loops around each loop, one set for each, and what is read off the sets: membership by shift and mask, the loops of one set that are
-// not in another by and-not, how many there are by a count of ones. A set is one word here, and no other layer knows that.
+// not in another by and-not, how many there are by a count of ones, the lowest by a count of trailing zeros. A set is one word here, and no
+// other layer knows that.
 ghost use mathlib.Core.Path.{_≡_};
 ghost use mathlib.Core.Bool.{not, _&&_, _||_};
 ghost use Prim.Native.Nat.{ℕ, _≤_, _<_};
 ghost use lib.Dec.{eqb};
 ghost use lib.ListN.{length, getD};
 ghost use Rattle.lists.specs.Search.{countBelow};
-ghost use Rattle.loopsets.specs.Sets.{member, setAt, Parents, SetsAround};
+ghost use Rattle.loopsets.specs.Sets.{member, setAt, LowestOf, Parents, SetsAround};
 
 // A set of loops.
 pub struct LoopSet {
@@ -46,6 +47,23 @@ impl LoopSet {
         ensures { λ r. ⌜ r ≡ countBelow 64 (member self) ⌝ }
     {
         u64::count_ones(self.word)
+    }
+
+    // The lowest loop in the set; 64 where the set is empty.
+    pub fn lowest(self) -> usize
+        ensures { λ r. ⌜ LowestOf self r ⌝ }
+    {
+        u64::trailing_zeros(self.word) as usize
+    }
+
+    // The set without loop l.
+    pub fn without_loop(self, l: usize) -> LoopSet
+        requires { ⌜ l < 64 ⌝ }
+        ensures { λ r. ⌜ ((k : ℕ) → k < 64 → member r k ≡ (member self k && not (eqb l k))) ⌝ }
+    {
+        LoopSet {
+            word: self.word & !(1u64 << l),
+        }
     }
 }
 

@@ -72,7 +72,7 @@ module _ (t : Routine) (N : Nested t) where
       (from-accepted w (next t s v) (suc i) passed v-block (q .1) l e)
 
   -- the run starts within the limits
-  start-kept : passesLimit t start ≡ false
+  pub start-kept : passesLimit t start ≡ false
   unfolding start
   start-kept = kept-limits t start (λ l b. go l (eqb l 0) refl)
     where

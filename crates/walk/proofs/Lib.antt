@@ -1,0 +1,5 @@
+pub mod Facts
+pub mod Resets
+pub mod Steps
+pub mod Walks
+pub mod Replies

@@ -1,0 +1,39 @@
+-- The number, the place and the values that document 01 gives each reply to a walk, and what the reply says of the walk.
+use Prim.Native.Nat.{ℕ, _-_, _≤_}
+use mathlib.Core.Bool.{not}
+use mathlib.Core.Path.{_≡_}
+use mathlib.Core.Logic.{_↔_}
+use mathlib.Core.List.{List}
+use lib.Dec.{eqb}
+use lib.ListN.{length}
+use Rattle.lists.specs.Search.{if_then_else_}
+use Rattle.wcet.specs.Table.{Routine}
+use Rattle.wcet.specs.Rules.{Reply, accepted, refused, structureRules}
+use Rattle.wcet.specs.Walk.{Walked, walked, longestWalk, walkReply}
+use Rattle.wcet.specs.Claim.{AllHold, FinishedRun}
+use Rattle.nesting.specs.Answers.{refusal}
+use Rattle.walk.specs.declared.Run.{Run}
+use Rattle.walk.specs.declared.WalkReply.{WalkReply}
+use Rattle.walk.specs.declared.WalkReply.the-variants.{Accepted, Structure, Length, NoBlock, NotEntry, AfterExit, NoEdge, OverLimit, Unfinished}
+
+-- 201 to 207 are those of the structure check
+abbrev pub meaning : WalkReply → Reply Walked
+meaning (Accepted cost steps) = accepted (record { total = cost; steps = steps })
+meaning (Structure fault) = refusal fault
+meaning Length = refused 301 0
+meaning (NoBlock i) = refused 302 i
+meaning NotEntry = refused 303 0
+meaning (AfterExit i) = refused 311 i
+meaning (NoEdge i) = refused 312 i
+meaning (OverLimit i) = refused 313 i
+meaning (Unfinished n) = refused 314 n
+
+-- the reply where a walk of this length ends in state r, in a routine of n blocks
+unfoldable pub endOf : Run → ℕ → ℕ → WalkReply
+endOf r n length = if not (eqb (r .at) (n - 1)) then Unfinished length else Accepted (r .cost) (length - 1)
+
+-- Demand 2, of the reply r to the walk w over t: it is the one of the definition; and "A walk within the length limit, over tables that keep
+-- those ranges and rules, is accepted exactly when it is a finished counted run, with its true cost".
+pub record WalkAnswered (t : Routine) (w : List ℕ) (r : Reply Walked) : Type 0 where
+  pub replied : r ≡ walkReply t w
+  pub accepts : AllHold (structureRules t) → length w ≤ longestWalk → (x : Walked) → (r ≡ accepted x) ↔ (FinishedRun t w × (walked t w ≡ x))
