@@ -2,7 +2,7 @@
 -- loop the loops around that one. An edge that enters loops enters its target's innermost one (`enters-own`), and where it keeps 207 no
 -- other (`enters-one`). Assumes nothing.
 use mathlib.Core.Path.{_≡_, refl, sym, _∙_, ap}
-use mathlib.Core.Bool.{Bool, true, false, not, _&&_, _||_, true≢false, or-true, and-true}
+use mathlib.Core.Bool.{Bool, true, false, not, _&&_, _||_, or-true}
 use mathlib.Core.List.{List}
 use Prim.Native.Nat.{ℕ, zero, suc, _≤_, _<_}
 use native.Mathlib.Decide.{ℕ-discrete}
@@ -11,9 +11,7 @@ use borrow.Author.Tests.{eqb-true, ne-eqb}
 use lib.Dec.{eqb}
 use lib.ListN.{length, getD}
 use Rattle.wcet.specs.Table.{Routine, blockCount, loopCount, loopOf, header, edge, around, inside}
-use Rattle.wcet.specs.Rules.{enters}
 use Rattle.wcet.proofs.Nesting.{Nested}
-use Rattle.wcet.proofs.Potential.{inside-own}
 use Rattle.wcet.proofs.Entry.{around-0}
 
 -- loop 0 is its own parent, and any other loop's parent is below it

@@ -2,7 +2,7 @@
 -- So a pair of tables is accepted exactly where none of 201 to 208 is broken (`replies-exactly`). Assumes nothing.
 use mathlib.Core.Path.{_≡_, refl, _∙_, ap}
 use mathlib.Core.Logic.{_⊎_, inl, inr, ⊎-elim}
-use mathlib.Core.List.{List, [], _∷_, _++_}
+use mathlib.Core.List.{List, [], _∷_, _++_, append-assoc}
 use mathlib.Core.Option.{Option, none, some}
 use Prim.Native.Nat.{ℕ}
 use native.Mathlib.Omega.{arith}
@@ -96,6 +96,23 @@ broken-refuses rs passed n p b =
     (behind-all (b .before) (b .rule ∷ b .behind) passed (b .earlier)
     ∙ decides (b .rule) (b .behind) passed p (record { below = b .there; passes = b .breaks; first = b .lowest })
     ∙ ap (λ (k : ℕ). refused k p) (b .named))
+
+-- a refusal stands whatever rules come behind
+pub refused-append : {A B : Type 0} (rs qs : List Rule) (a : A) (passed : Reply B) (n p : ℕ) → check rs (accepted a) ≡ refused n p → check (rs ++ qs) passed ≡ refused n p
+refused-append rs qs a passed n p e = ⊎-elim (λ b. go b) (λ q. absurd (let z : _≡_ {A = ℕ} 0 1 = cc in omega arith)) (first-broken rs (accepted a) n p e)
+  where
+    go : FirstBroken rs n p → check (rs ++ qs) passed ≡ refused n p
+    go b = broken-refuses (rs ++ qs) passed n p (record {
+      before = b .before;
+      rule = b .rule;
+      behind = b .behind ++ qs;
+      order = ap (λ (xs : List Rule). xs ++ qs) (b .order) ∙ append-assoc (b .before) (b .rule ∷ b .behind) qs;
+      earlier = b .earlier;
+      named = b .named;
+      there = b .there;
+      breaks = b .breaks;
+      lowest = b .lowest;
+    })
 
 -- ---- the two tables
 

@@ -1,0 +1,232 @@
+// The certificate check: 208, the inequality of each edge, and the reply to a pair of tables. Figures and multipliers are claims of
+// whoever made the tables; what an accepted bound means does not lean on them.
+ghost use mathlib.Core.Path.{_≡_};
+ghost use mathlib.Core.Bool.{not};
+ghost use Prim.Native.Nat.{_^_, _≤_, _<_};
+ghost use lib.IntN.{pos, _+ℤ_, _-ℤ_, _*ℤ_};
+ghost use lib.Signed.{leZ};
+ghost use lib.ListN.{length};
+ghost use Rattle.lists.specs.Search.{firstBelow};
+ghost use Rattle.wcet.specs.Rules.{edgeHolds, inequalityBroken};
+ghost use Rattle.wcet.specs.Claim.{Checked};
+ghost use Rattle.loopsets.specs.Sets.{SetsAround};
+ghost use Rattle.nesting.specs.Columns.{routine, Names, Headed, ofEdge};
+ghost use Rattle.nesting.specs.Answers.{placeOf};
+ghost use Rattle.certificate.specs.Answers.{tableMeaning};
+ghost use Rattle.certificate.specs.Figures.{Figure, inequality};
+use nesting::Place;
+use nesting::Structure;
+use nesting::StructureFault;
+
+// The bound, or the first broken rule: 201 to 207 as the structure check names them, or 208 at its source block.
+pub enum TableReply {
+    Accepted(i64),
+    Structure(StructureFault),
+    Inequality(usize),
+}
+
+// ---- the inequality on numbers, in its three forms
+
+// Of an edge to a block that is no header.
+fn plain_holds(cost: u32, from: i64, to: i64) -> bool
+    requires { ⌜ (cost ≤ 1000000) × Figure from × Figure to ⌝ }
+    ensures { λ r. ⌜ r ≡ leZ (pos cost) (from -ℤ to) ⌝ }
+{
+    let d = from - to;
+    cost as i64 <= d
+}
+
+// Of an edge back to a header from inside its loop.
+fn return_holds(cost: u32, from: i64, to: i64, multiplier: u64) -> bool
+    requires { ⌜ (cost ≤ 1000000) × Figure from × Figure to × (multiplier ≤ 2 ^ 40) ⌝ }
+    ensures { λ r. ⌜ r ≡ leZ (pos cost) (from -ℤ to +ℤ pos multiplier) ⌝ }
+{
+    let d = from - to;
+    let most = d + multiplier as i64;
+    cost as i64 <= most
+}
+
+// Of an edge to a header from outside its loop.
+fn entry_holds(cost: u32, from: i64, to: i64, multiplier: u64, limit: u32) -> bool
+    requires { ⌜ (cost ≤ 1000000) × Figure from × Figure to × (multiplier ≤ 2 ^ 40) × (1 ≤ limit) × (limit ≤ 65535) ⌝ }
+    ensures { λ r. ⌜ r ≡ leZ (pos cost +ℤ pos multiplier *ℤ (pos limit -ℤ pos 1)) (from -ℤ to) ⌝ }
+{
+    let d = from - to;
+    let later = multiplier * (limit as u64 - 1);
+    cost as i64 + later as i64 <= d
+}
+
+// The form that applies: to a header or not, and from inside its loop or not.
+fn inequality_holds(
+    headed: bool,
+    inside: bool,
+    cost: u32,
+    from: i64,
+    to: i64,
+    multiplier: u64,
+    limit: u32,
+) -> bool
+    requires { ⌜ (cost ≤ 1000000) × Figure from × Figure to × (multiplier ≤ 2 ^ 40) × (1 ≤ limit) × (limit ≤ 65535) ⌝ }
+    ensures { λ r. ⌜ r ≡ inequality headed inside cost from to multiplier limit ⌝ }
+{
+    if !headed {
+        return plain_holds(cost, from, to);
+    }
+    if inside {
+        return return_holds(cost, from, to, multiplier);
+    }
+    entry_holds(cost, from, to, multiplier, limit)
+}
+
+// ---- 208
+
+// Whether an edge from block u to v breaks its inequality.
+fn edge_breaks(
+    around: &[u64; 64],
+    cost: &[u32],
+    loops: &[u16],
+    first: &[u16],
+    second: &[u16],
+    figure: &[i64],
+    parent: &[u16],
+    header: &[u16],
+    limit: &[u32],
+    multiplier: &[u64],
+    u: usize,
+    v: u16,
+) -> bool
+    requires { ⌜ Headed (routine (now cost) (now loops) (now first) (now second) (now figure) (now parent) (now header) (now limit) (now multiplier)) × SetsAround (now parent) (now around) × (u < length (now cost)) × Names (routine (now cost) (now loops) (now first) (now second) (now figure) (now parent) (now header) (now limit) (now multiplier)) v ⌝ }
+    ensures { λ r. ⌜ r ≡ ofEdge v (λ x. not (edgeHolds (routine (now (cost .entry)) (now (loops .entry)) (now (first .entry)) (now (second .entry)) (now (figure .entry)) (now (parent .entry)) (now (header .entry)) (now (limit .entry)) (now (multiplier .entry))) u x)) ⌝ }
+{
+    if v == 65535 {
+        return false;
+    }
+    let to = v as usize;
+    let l = loops[to] as usize;
+    let from = loops[u] as usize;
+    let inside = loopsets::set_at(around, from).contains(l);
+    !inequality_holds(
+        header[l] == v,
+        inside,
+        cost[to],
+        figure[u],
+        figure[to],
+        multiplier[l],
+        limit[l],
+    )
+}
+
+fn first_broken_inequality(
+    around: &[u64; 64],
+    cost: &[u32],
+    loops: &[u16],
+    first: &[u16],
+    second: &[u16],
+    figure: &[i64],
+    parent: &[u16],
+    header: &[u16],
+    limit: &[u32],
+    multiplier: &[u64],
+) -> Place
+    requires { ⌜ Headed (routine (now cost) (now loops) (now first) (now second) (now figure) (now parent) (now header) (now limit) (now multiplier)) × SetsAround (now parent) (now around) ⌝ }
+    ensures { λ r. ⌜ placeOf r ≡ firstBelow (length (now (cost .entry))) (inequalityBroken (routine (now (cost .entry)) (now (loops .entry)) (now (first .entry)) (now (second .entry)) (now (figure .entry)) (now (parent .entry)) (now (header .entry)) (now (limit .entry)) (now (multiplier .entry)))) ⌝ }
+{
+    let n = cost.len();
+    let mut u = 0;
+    while u < n {
+        if edge_breaks(
+            around,
+            cost,
+            loops,
+            first,
+            second,
+            figure,
+            parent,
+            header,
+            limit,
+            multiplier,
+            u,
+            first[u],
+        ) {
+            return Place::At(u);
+        }
+        if edge_breaks(
+            around,
+            cost,
+            loops,
+            first,
+            second,
+            figure,
+            parent,
+            header,
+            limit,
+            multiplier,
+            u,
+            second[u],
+        ) {
+            return Place::At(u);
+        }
+        u += 1;
+    }
+    Place::Nowhere
+}
+
+// ---- the reply
+
+// The bound, at values in range.
+fn bound_of(cost: u32, entry: i64, exit: i64) -> i64
+    requires { ⌜ (cost ≤ 1000000) × Figure entry × Figure exit ⌝ }
+    ensures { λ r. ⌜ r ≡ pos cost +ℤ entry -ℤ exit ⌝ }
+{
+    cost as i64 + entry - exit
+}
+
+// The reply to a pair of tables: the longest time of the routine, or the first broken rule; and with it what an accepted bound means for
+// every list of blocks.
+pub fn check(
+    cost: &[u32],
+    loops: &[u16],
+    first: &[u16],
+    second: &[u16],
+    figure: &[i64],
+    parent: &[u16],
+    header: &[u16],
+    limit: &[u32],
+    multiplier: &[u64],
+) -> TableReply
+    ensures { λ r. ⌜ Checked (routine (now (cost .entry)) (now (loops .entry)) (now (first .entry)) (now (second .entry)) (now (figure .entry)) (now (parent .entry)) (now (header .entry)) (now (limit .entry)) (now (multiplier .entry))) (tableMeaning r) ⌝ }
+{
+    let structured = nesting::check_structure(
+        cost,
+        loops,
+        first,
+        second,
+        figure,
+        parent,
+        header,
+        limit,
+        multiplier,
+    );
+    let answer = structured.answer;
+    if let Structure::Broken(fault) = answer {
+        return TableReply::Structure(fault);
+    }
+    let around = structured.around;
+    let place = first_broken_inequality(
+        &around,
+        cost,
+        loops,
+        first,
+        second,
+        figure,
+        parent,
+        header,
+        limit,
+        multiplier,
+    );
+    if let Place::At(u) = place {
+        return TableReply::Inequality(u);
+    }
+    let exit = cost.len() - 1;
+    TableReply::Accepted(bound_of(cost[0], figure[0], figure[exit]))
+}

@@ -1,0 +1,201 @@
+-- The end of a field, at a position of a text: what one byte more says, and each way through the functions up to `find_field`.
+-- Assumes nothing.
+use mathlib.Core.Path.{_≡_, refl, sym, ap, subst, _∙_}
+use mathlib.Core.Bool.{Bool, true, false, cond, not, _||_}
+use mathlib.Core.Logic.{_⊎_, inl, inr}
+use mathlib.Core.List.{List, [], _∷_}
+use Prim.Native.Nat.{ℕ, zero, suc, _+_, _-_, _<_, _≤_}
+use native.Mathlib.Nat.{add-suc, add-zero}
+use native.Mathlib.Numerals.{add-one, sub-one}
+use native.Mathlib.Omega.{arith}
+use borrow.Author.Tests.{eq-eqb, ne-eqb, le-leb, lt-leb, lt-ltb, le-ltb}
+use lib.ListN.{length, take, drop, getD, drop-of-length-le}
+use lib.Seq.{drop-cons, drop-drop}
+use lib.Dec.{leb, eqb, leb·zero, leb·suc-suc, leb·suc-zero}
+use Rattle.csv.specs.Grammar.{Extent, size, unclosed, longer, plain, inside, after, extent, isQuote, isComma, isCr, isLf, isText, Field, comma, ends, broken, following, lineFeed, limited, field}
+use Rattle.csv.specs.Place.{closeAt, foundAt}
+use Rattle.csv.specs.declared.Close.{Close}
+use Rattle.csv.specs.declared.Close.the-variants.{At, Never}
+use Rattle.csv.specs.declared.Found.{Found}
+use Rattle.csv.specs.declared.Found.the-variants.{Comma, Ends, Broken}
+use Rattle.csv.specs.declared.Ending.{Ending}
+use Rattle.csv.specs.declared.Ending.the-variants.{CrLf, EndOfText}
+
+-- one byte more: one place on, and one byte less of room
+pub closeAt-longer : (at room : ℕ) (e : Extent) → (room ≡ 0 → ⊥) → closeAt at room (longer e) ≡ closeAt (at + 1) (room - 1) e
+closeAt-longer at zero e f = absurd (f refl)
+closeAt-longer at (suc r) (size n) f =
+    rw (sub-one, leb·suc-suc, add-one, add-suc, suc-add′)
+  where
+    suc-add′ : suc at + n ≡ suc (at + n)
+    suc-add′ = omega arith
+closeAt-longer at (suc r) unclosed f = refl
+
+-- no room, and a byte more
+pub closeAt-full : (at : ℕ) (e : Extent) → closeAt at 0 (longer e) ≡ Never
+closeAt-full at (size n) = rw leb·suc-zero
+closeAt-full at unclosed = refl
+
+-- the bytes from a place within the text: the byte there, and those from the next place on
+pub next-byte : (s : List ℕ) (at : ℕ) → at < length s → drop at s ≡ getD s at 0 ∷ drop (at + 1) s
+next-byte s at h = rw (add-one, drop-cons s at 0)
+
+module _ (s : List ℕ) (at : ℕ) where
+  -- inside quotes, and following a quote mark: at the end of the text, at a quote mark, at another byte
+  inside-end : length s ≤ at → inside (drop at s) ≡ unclosed
+  unfolding inside
+  inside-end h = rw drop-of-length-le
+
+  inside-mark : at < length s → getD s at 0 ≡ 34 → inside (drop at s) ≡ longer (after (drop (at + 1) s))
+  unfolding inside
+  inside-mark h e = rw (next-byte s at h, eq-eqb _ _ e)
+
+  inside-text : at < length s → (getD s at 0 ≡ 34 → ⊥) → inside (drop at s) ≡ longer (inside (drop (at + 1) s))
+  unfolding inside
+  inside-text h e = rw (next-byte s at h, ne-eqb _ _ e)
+
+  after-end : length s ≤ at → after (drop at s) ≡ size 0
+  unfolding inside
+  after-end h = rw drop-of-length-le
+
+  after-mark : at < length s → getD s at 0 ≡ 34 → after (drop at s) ≡ longer (inside (drop (at + 1) s))
+  unfolding inside
+  after-mark h e = rw (next-byte s at h, eq-eqb _ _ e)
+
+  after-other : at < length s → (getD s at 0 ≡ 34 → ⊥) → after (drop at s) ≡ size 0
+  unfolding inside
+  after-other h e = rw (next-byte s at h, ne-eqb _ _ e)
+
+  -- a byte more than there is room for
+  pub inside-full : {room : ℕ} → at < length s → room ≡ 0 → Never ≡ closeAt at room (inside (drop at s))
+  unfolding inside
+  inside-full h e = rw (e, next-byte s at h) (sym (closeAt-full at (cond (isQuote (getD s at 0)) (after (drop (at + 1) s)) (inside (drop (at + 1) s)))))
+
+  pub after-full : {room : ℕ} → at < length s → getD s at 0 ≡ 34 → room ≡ 0 → Never ≡ closeAt at room (after (drop at s))
+  after-full h e f = rw (f, after-mark h e) (sym (closeAt-full at (inside (drop (at + 1) s))))
+
+-- Each way through `inside_quotes` and `after_quote`. The conclusions have the form of their `ensures`.
+module _ (s : List ℕ) (at room : ℕ) where
+  pub inside-stops : length s ≤ at → Never ≡ closeAt at room (inside (drop at s))
+  inside-stops h = rw (inside-end s at h)
+
+  pub after-stops : length s ≤ at → At at ≡ closeAt at room (after (drop at s))
+  after-stops h = rw (after-end s at h, leb·zero, add-zero)
+
+  pub after-closes : at < length s → (getD s at 0 ≡ 34 → ⊥) → At at ≡ closeAt at room (after (drop at s))
+  after-closes h e = rw (after-other s at h e, leb·zero, add-zero)
+
+  module _ {r : Close} (h : at < length s) (f : room ≡ 0 → ⊥) where
+    pub inside-to-after : getD s at 0 ≡ 34 → r ≡ closeAt (at + 1) (room - 1) (after (drop (at + 1) s)) → r ≡ closeAt at room (inside (drop at s))
+    inside-to-after e q = rw (inside-mark s at h e) (q ∙ sym (closeAt-longer at room (after (drop (at + 1) s)) f))
+
+    pub inside-on : (getD s at 0 ≡ 34 → ⊥) → r ≡ closeAt (at + 1) (room - 1) (inside (drop (at + 1) s)) → r ≡ closeAt at room (inside (drop at s))
+    inside-on e q = rw (inside-text s at h e) (q ∙ sym (closeAt-longer at room (inside (drop (at + 1) s)) f))
+
+    pub after-to-inside : getD s at 0 ≡ 34 → r ≡ closeAt (at + 1) (room - 1) (inside (drop (at + 1) s)) → r ≡ closeAt at room (after (drop at s))
+    after-to-inside e q = rw (after-mark s at h e) (q ∙ sym (closeAt-longer at room (inside (drop (at + 1) s)) f))
+
+-- The marks, and any other byte.
+pub no-text : (b : ℕ) → (b ≡ 10) ⊎ ((b ≡ 13) ⊎ ((b ≡ 34) ⊎ (b ≡ 44))) → false ≡ isText b
+no-text b (inl e) = rw e
+no-text b (inr (inl e)) = rw e
+no-text b (inr (inr (inl e))) = rw e
+no-text b (inr (inr (inr e))) = rw e
+
+pub text : (b : ℕ) → ((b ≡ 10) ⊎ ((b ≡ 13) ⊎ ((b ≡ 34) ⊎ (b ≡ 44))) → ⊥) → true ≡ isText b
+text b f = rw (ne-eqb b 34 (λ e. f (inr (inr (inl e)))), ne-eqb b 44 (λ e. f (inr (inr (inr e)))), ne-eqb b 13 (λ e. f (inr (inl e))), ne-eqb b 10 (λ e. f (inl e)))
+
+-- A run of text bytes that starts at i: at the end of the text, at another byte, at a text byte. t is where the run ends.
+module _ (s : List ℕ) (i t : ℕ) where
+  pub run-over : length s ≤ i → t ≡ i + plain (drop i s) → i ≡ t
+  unfolding plain
+  run-over h e = sym (e ∙ rw (drop-of-length-le s h, add-zero))
+
+  pub run-stops : {f : Bool} → i < length s → f ≡ isText (getD s i 0) → f ≡ false → t ≡ i + plain (drop i s) → i ≡ t
+  unfolding plain
+  run-stops h p q e = sym (e ∙ rw (next-byte s i h, sym p ∙ q, add-zero))
+
+  pub run-on : {f : Bool} → i < length s → f ≡ isText (getD s i 0) → f ≡ true → t ≡ i + plain (drop i s) → t ≡ i + 1 + plain (drop (i + 1) s)
+  unfolding plain
+  run-on h p q e = e ∙ rw (next-byte s i h, sym p ∙ q) (omega arith)
+
+-- Each way through `field_close`.
+module _ (s : List ℕ) (at : ℕ) where
+  pub close-over : length s ≤ at → At at ≡ closeAt at 64 (extent (drop at s))
+  unfolding extent
+  close-over h = rw (drop-of-length-le s h, add-zero)
+
+  pub close-quoted : {r : Close} → at < length s → getD s at 0 ≡ 34 → r ≡ closeAt (at + 1) 63 (inside (drop (at + 1) s)) → r ≡ closeAt at 64 (extent (drop at s))
+  unfolding extent
+  close-quoted h e q = rw (next-byte s at h, eq-eqb _ _ e) (q ∙ sym (closeAt-longer at 64 (inside (drop (at + 1) s)) (λ z. omega arith)))
+
+  extent-plain : at < length s → (getD s at 0 ≡ 34 → ⊥) → extent (drop at s) ≡ size (plain (drop at s))
+  unfolding extent
+  extent-plain h e = rw (next-byte s at h, ne-eqb _ _ e)
+
+  pub close-plain : (e : ℕ) → at < length s → (getD s at 0 ≡ 34 → ⊥) → e ≡ at + plain (drop at s) → e - at ≤ 64 → At e ≡ closeAt at 64 (extent (drop at s))
+  close-plain e h f q l = rw (extent-plain h f, le-leb (plain (drop at s)) 64 (omega arith), q)
+
+  pub close-long : (e : ℕ) → at < length s → (getD s at 0 ≡ 34 → ⊥) → e ≡ at + plain (drop at s) → 64 < e - at → Never ≡ closeAt at 64 (extent (drop at s))
+  close-long e h f q l = rw (extent-plain h f, lt-leb (plain (drop at s)) 64 (omega arith))
+
+-- A field that ends at e: how many bytes it has, and that what stands at e decides.
+closed : (x : Extent) (t : List ℕ) (at e : ℕ) → At e ≡ closeAt at 64 x → (n : ℕ) × (e ≡ at + n) × (limited t x ≡ following n (drop n t))
+closed (size n) t at e q = go (leb n 64) refl q
+  where
+    go : (b : Bool) → leb n 64 ≡ b → At e ≡ cond b (At (at + n)) Never → (k : ℕ) × (e ≡ at + k) × (limited t (size n) ≡ following k (drop k t))
+    go true p q = (n, (cc), rw p)
+    go false p q = absurd (let z : _≡_ {A = ℕ} 0 1 = cc in omega arith)
+closed unclosed t at e q = absurd (let z : _≡_ {A = ℕ} 0 1 = cc in omega arith)
+
+never : (x : Extent) (t : List ℕ) (at : ℕ) → Never ≡ closeAt at 64 x → limited t x ≡ broken
+never (size n) t at q = go (leb n 64) refl q
+  where
+    go : (b : Bool) → leb n 64 ≡ b → Never ≡ cond b (At (at + n)) Never → limited t (size n) ≡ broken
+    go true p q = absurd (let z : _≡_ {A = ℕ} 0 1 = cc in omega arith)
+    go false p q = rw p
+never unclosed t at q = refl
+
+-- Each way through `find_field`; r is what `field_close` gave.
+module _ (s : List ℕ) (at : ℕ) {r : Close} (q : r ≡ closeAt at 64 (extent (drop at s))) where
+  pub find-never : r ≡ Never → Broken ≡ foundAt at (field (drop at s))
+  unfolding field
+  find-never p = rw (never (extent (drop at s)) (drop at s) at (sym p ∙ q))
+
+  module _ (e : ℕ) (p : r ≡ At e) where
+    at-end : (n : ℕ) × (e ≡ at + n) × (field (drop at s) ≡ following n (drop e s))
+    unfolding field
+    at-end =
+        let k = closed (extent (drop at s)) (drop at s) at e (sym p ∙ q) in
+        (k .0, k .1, k .2 ∙ rw (drop-drop (k .0) at s, ← k .1))
+
+    pub find-last : length s ≤ e → Ends EndOfText e ≡ foundAt at (field (drop at s))
+    unfolding following
+    find-last h = ap (Ends EndOfText) (at-end .1) ∙ rw (at-end .2, drop-of-length-le s h)
+
+    module _ (h : e < length s) where
+      pub find-comma : getD s e 0 ≡ 44 → Comma e ≡ foundAt at (field (drop at s))
+      unfolding following
+      find-comma m = ap Comma (at-end .1) ∙ rw (at-end .2, next-byte s e h, eq-eqb _ _ m)
+
+      pub find-other : (getD s e 0 ≡ 44 → ⊥) → (getD s e 0 ≡ 13 → ⊥) → Broken ≡ foundAt at (field (drop at s))
+      unfolding following
+      find-other m o = rw (at-end .2, next-byte s e h, ne-eqb _ _ m, ne-eqb _ _ o)
+
+      module _ (m : getD s e 0 ≡ 44 → ⊥) (o : getD s e 0 ≡ 13) where
+        after-cr : field (drop at s) ≡ lineFeed (at-end .0) (drop (e + 1) s)
+        unfolding following
+        after-cr = at-end .2 ∙ rw (next-byte s e h, ne-eqb _ _ m, eq-eqb _ _ o)
+
+        pub find-cr-last : length s - e ≡ 1 → Broken ≡ foundAt at (field (drop at s))
+        find-cr-last l = rw (after-cr, drop-of-length-le s {i = e + 1} (omega arith))
+
+        module _ (l : length s - e ≡ 1 → ⊥) where
+          in-text : e + 1 < length s
+          in-text = omega arith
+
+          pub find-line : getD s (e + 1) 0 ≡ 10 → Ends CrLf e ≡ foundAt at (field (drop at s))
+          find-line w = ap (Ends CrLf) (at-end .1) ∙ rw (after-cr, next-byte s (e + 1) in-text, eq-eqb _ _ w)
+
+          pub find-cr-other : (getD s (e + 1) 0 ≡ 10 → ⊥) → Broken ≡ foundAt at (field (drop at s))
+          find-cr-other w = rw (after-cr, next-byte s (e + 1) in-text, ne-eqb _ _ w)

@@ -1,0 +1,362 @@
+-- Reading what RFC 4180 writes gives what was written, and every text whose records are all sound is written so.
+-- Assumes nothing.
+use mathlib.Core.Path.{_≡_, refl, sym, ap, subst, _∙_}
+use mathlib.Core.Bool.{Bool, true, false, cond, not, _&&_, _||_, true≢false, false≢true}
+use mathlib.Core.List.{List, [], _∷_, _++_, map, append-assoc, append-nil}
+use Prim.Native.Nat.{ℕ, zero, suc, _+_, _-_, _<_, _≤_}
+use native.Mathlib.Nat.{add-zero}
+use native.Mathlib.Numerals.{add-one}
+use native.Mathlib.Omega.{arith}
+use borrow.Author.Tests.{eqb-true, leb-true, eq-eqb, ne-eqb, le-leb}
+use lib.ListN.{length, take, drop, length-append, length-drop, take-append-drop}
+use lib.Seq.{length-take-le, take-append-seam, drop-append-seam, drop-append-add, take-append-add, take-all, take-length, drop-drop, drop-length, drop-nil}
+use lib.Dec.{leb, eqb}
+use Rattle.csv.specs.Grammar.{isQuote, isComma, isCr, isLf, isText, Extent, size, unclosed, longer, plain, inside, after, extent, most, width, Field, comma, ends, broken, lineFeed, following, limited, field, Record, torn, only, joined, recordWith, recordIn, recordOf, onward, recordsIn, records}
+use Rattle.csv.specs.Number.{undoubled, content}
+use Rattle.csv.specs.Write.{Entry, bare, quoted, textOf, doubled, written, allText, Unmarked, Writable, Line, writeFields, writeLine, write, AllWritable, LastLine, Allowed, recordAs, recordsAs, AllSound, Written}
+use Rattle.csv.specs.declared.Ending.{Ending}
+use Rattle.csv.specs.declared.Ending.the-variants.{CrLf, EndOfText}
+use Rattle.csv.proofs.Records.{record-step, records-none, records-step, Spans, record-spans}
+
+-- what may follow a field: nothing, or a byte that is neither text nor a quote mark
+abbrev Stops : List ℕ → Type 0
+Stops [] = Unit {0}
+Stops (b ∷ t) = (isText b ≡ false) × (isQuote b ≡ false)
+
+pub and-left : (a b : Bool) → (a && b) ≡ true → a ≡ true
+and-left true b e = refl
+and-left false b e = e
+
+pub and-right : (a b : Bool) → (a && b) ≡ true → b ≡ true
+and-right true b e = e
+and-right false b e = absurd (false≢true e)
+
+text-no-quote : (b : ℕ) → isText b ≡ true → isQuote b ≡ false
+text-no-quote b e = go (isQuote b) e
+  where
+    go : (q : Bool) → not (q || isComma b || isCr b || isLf b) ≡ true → q ≡ false
+    go true e = absurd (false≢true e)
+    go false e = refl
+
+plain-run : (s t : List ℕ) → allText s ≡ true → Stops t → plain (s ++ t) ≡ length s
+unfolding plain allText
+plain-run [] [] e h = refl
+plain-run [] (b ∷ t) e h = rw (h .0)
+plain-run (b ∷ s) t e h = rw (and-left (isText b) (allText s) e) (ap suc (plain-run s t (and-right (isText b) (allText s) e) h))
+
+after-stops : (t : List ℕ) → Stops t → after t ≡ size 0
+unfolding inside
+after-stops [] h = refl
+after-stops (b ∷ t) h = rw (h .1)
+
+inside-doubled : (u t : List ℕ) → Stops t → inside (doubled u ++ 34 ∷ t) ≡ size (suc (length (doubled u)))
+unfolding inside doubled
+inside-doubled [] t h = ap longer (after-stops t h)
+inside-doubled (b ∷ u) t h = go (isQuote b) refl (inside-doubled u t h)
+  where
+    go : (q : Bool) → isQuote b ≡ q → inside (doubled u ++ 34 ∷ t) ≡ size (suc (length (doubled u))) → inside (cond q (b ∷ b ∷ doubled u) (b ∷ doubled u) ++ 34 ∷ t) ≡ size (suc (length (cond q (b ∷ b ∷ doubled u) (b ∷ doubled u))))
+    go true e ih = rw e (ap (λ (x : Extent). longer (longer x)) ih)
+    go false e ih = rw e (ap longer ih)
+
+extent-bare : (b : ℕ) (s : List ℕ) → isQuote b ≡ false → extent (b ∷ s) ≡ size (plain (b ∷ s))
+unfolding extent
+extent-bare b s e = rw e
+
+extent-written : (f : Entry) (t : List ℕ) → Unmarked f → Stops t → extent (written f ++ t) ≡ size (length (written f))
+unfolding extent allText plain
+extent-written (bare []) [] e h = refl
+extent-written (bare []) (b ∷ t) e h = rw (h .0, h .1)
+extent-written (bare (b ∷ s)) t e h = extent-bare b (s ++ t) (text-no-quote b (and-left (isText b) (allText s) e)) ∙ ap size (plain-run (b ∷ s) t e h)
+extent-written (quoted u) t e h =
+    let l : length (doubled u ++ (34 ∷ [])) ≡ suc (length (doubled u)) = length-append (doubled u) (34 ∷ []) ∙ add-one (length (doubled u)) in
+    rw (append-assoc (doubled u) (34 ∷ []) t, l) (ap longer (inside-doubled u t h))
+
+pub field-written : (f : Entry) (t : List ℕ) → Writable f → Stops t → field (written f ++ t) ≡ following (length (written f)) t
+unfolding field
+field-written f t w h = rw (extent-written f t (w .unmarked) h, le-leb (length (written f)) most (w .size), drop-append-seam (written f) t)
+
+-- what follows the last field of a record
+abbrev pub ending : Ending → List ℕ → List ℕ
+ending CrLf t = 13 ∷ 10 ∷ t
+ending EndOfText t = []
+
+ending-stops : (e : Ending) (t : List ℕ) → Stops (ending e t)
+ending-stops CrLf t = (refl, refl)
+ending-stops EndOfText t = tt
+
+pub following-ending : (e : Ending) (n : ℕ) (t : List ℕ) → following n (ending e t) ≡ ends e n
+unfolding following
+following-ending CrLf n t = refl
+following-ending EndOfText n t = refl
+
+pub following-comma : (n : ℕ) (t : List ℕ) → following n (44 ∷ t) ≡ comma n
+unfolding following
+following-comma n t = refl
+
+line-record : (f : Entry) (gs : List Entry) (e : Ending) (t : List ℕ) → AllWritable (f ∷ gs) → recordOf (writeFields f gs ++ ending e t) ≡ recordAs (record { first = f; more = gs }) e
+unfolding writeFields
+line-record f [] e t w =
+    record-step (written f ++ ending e t) ∙ rw (field-written f (ending e t) (w .0) (ending-stops e t), following-ending e (length (written f)) t, take-append-seam (written f) (ending e t))
+line-record f (g ∷ gs) e t w =
+    let n : ℕ = length (written f) in
+    let y : List ℕ = writeFields g gs ++ ending e t in
+    let d : drop (n + 1) (written f ++ 44 ∷ y) ≡ y = drop-append-add (written f) (44 ∷ y) 1 in
+    let l : n + 1 + (length (writeFields g gs) + width e) ≡ length (written f ++ 44 ∷ writeFields g gs) + width e = rw length-append (omega arith) in
+    rw (append-assoc (written f) (44 ∷ writeFields g gs) (ending e t))
+    (record-step (written f ++ 44 ∷ y) ∙ rw (field-written f (44 ∷ y) (w .0) (refl, refl), following-comma n y, take-append-seam (written f) (44 ∷ y), d, line-record g gs e t (w .1), l))
+
+-- THEOREM: reading what is written gives the records that were written, whichever fields stand between quote marks, and whether or
+-- not the last line end is there.
+pub read-back : (ls : List Line) (ended : Bool) → Allowed ls ended → records (write ls ended) ≡ recordsAs ls ended
+unfolding write recordsAs
+read-back [] ended a = records-none [] refl
+read-back (l ∷ []) ended a = last ended (a .1)
+  where
+    step : (e : Ending) → 0 < length (writeLine l ++ ending e []) → records (writeLine l ++ ending e []) ≡ recordAs l e ∷ []
+    step e h =
+        let r : recordOf (writeLine l ++ ending e []) ≡ recordAs l e = line-record (l .first) (l .more) e [] (a .0) in
+        records-step (writeLine l ++ ending e []) h ∙ rw (r, drop-append-add (writeLine l) (ending e []) (width e), rest e)
+      where
+        rest : (e : Ending) → records (drop (width e) (ending e [])) ≡ []
+        rest CrLf = records-none [] refl
+        rest EndOfText = records-none [] refl
+
+    last : (ended : Bool) → LastLine l ended → records (writeLine l ++ cond ended (13 ∷ 10 ∷ []) []) ≡ recordAs l (cond ended CrLf EndOfText) ∷ []
+    last true h = step CrLf (rw length-append (omega arith))
+    last false h = step EndOfText (rw length-append (omega arith))
+read-back (l ∷ m ∷ ls) ended a =
+    let t : List ℕ = write (m ∷ ls) ended in
+    let r : recordOf (writeLine l ++ 13 ∷ 10 ∷ t) ≡ recordAs l CrLf = line-record (l .first) (l .more) CrLf t (a .0) in
+    records-step (writeLine l ++ 13 ∷ 10 ∷ t) (rw length-append (omega arith)) ∙ rw (r, drop-append-add (writeLine l) (13 ∷ 10 ∷ t) 2, read-back (m ∷ ls) ended (a .1))
+
+-- The text of a field that was written is the text that was to be written.
+undoubled-doubled : (u : List ℕ) → undoubled (doubled u) ≡ u
+unfolding undoubled doubled
+undoubled-doubled [] = refl
+undoubled-doubled (b ∷ u) = go (isQuote b) refl (undoubled-doubled u)
+  where
+    one : (x : List ℕ) → isQuote b ≡ false → undoubled (b ∷ x) ≡ b ∷ undoubled x
+    one [] e = refl
+    one (c ∷ x) e = rw e
+
+    go : (q : Bool) → isQuote b ≡ q → undoubled (doubled u) ≡ u → undoubled (cond q (b ∷ b ∷ doubled u) (b ∷ doubled u)) ≡ b ∷ u
+    go true e ih = rw e (ap (λ (x : List ℕ). b ∷ x) ih)
+    go false e ih = one (doubled u) e ∙ ap (λ (x : List ℕ). b ∷ x) ih
+
+pub content-written : (f : Entry) → Unmarked f → content (written f) ≡ textOf f
+unfolding content allText
+content-written (bare []) e = refl
+content-written (bare (b ∷ s)) e = rw (text-no-quote b (and-left (isText b) (allText s) e))
+content-written (quoted u) e =
+    let l : length (doubled u ++ (34 ∷ [])) - 1 ≡ length (doubled u) = rw length-append (omega arith) in
+    rw (l, take-append-seam (doubled u) (34 ∷ [])) (undoubled-doubled u)
+
+contents : (fs : List Entry) → AllWritable fs → map content (map written fs) ≡ map textOf fs
+contents [] w = refl
+contents (f ∷ fs) w = rw (content-written f (w .0 .unmarked), contents fs (w .1))
+
+-- THEOREM: the same of the texts of the fields, without quote marks.
+pub read-texts : (ls : List Line) (ended : Bool) → Allowed ls ended → map (λ (r : Record). map content (r .fields)) (records (write ls ended)) ≡ map (λ (l : Line). map textOf (l .first ∷ l .more)) ls
+unfolding recordsAs
+read-texts ls ended a = rw (read-back ls ended a) (go ls ended a)
+  where
+    go : (ls : List Line) (ended : Bool) → Allowed ls ended → map (λ (r : Record). map content (r .fields)) (recordsAs ls ended) ≡ map (λ (l : Line). map textOf (l .first ∷ l .more)) ls
+    go [] ended a = refl
+    go (l ∷ []) ended a = rw (contents (l .first ∷ l .more) (a .0))
+    go (l ∷ m ∷ ls) ended a = rw (contents (l .first ∷ l .more) (a .0), go (m ∷ ls) ended (a .1))
+
+-- A field that was read, as an entry: what it takes to write it again.
+pub record Again (n : ℕ) (s : List ℕ) : Type 0 where
+  pub entry : Entry
+  pub unmarked : Unmarked entry
+  pub same : written entry ≡ take n s
+  pub within : n ≤ length s
+
+all-plain : (s : List ℕ) → (allText (take (plain s) s) ≡ true) × (plain s ≤ length s)
+unfolding plain allText
+all-plain [] = (refl, omega arith)
+all-plain (b ∷ s) = go (isText b) refl (all-plain s)
+  where
+    go : (t : Bool) → isText b ≡ t → (allText (take (plain s) s) ≡ true) × (plain s ≤ length s) → (allText (take (cond t (suc (plain s)) 0) (b ∷ s)) ≡ true) × (cond t (suc (plain s)) 0 ≤ suc (length s))
+    go true e ih = (rw e (ih .0), omega arith)
+    go false e ih = (refl, omega arith)
+
+-- the bytes of a quoted field from behind its opening mark on, and from behind a further mark on
+abbrev Inside : List ℕ → Extent → Type 0
+Inside s (size n) = (u : List ℕ) × (doubled u ++ (34 ∷ []) ≡ take n s) × (n ≤ length s)
+Inside s unclosed = Unit {0}
+
+abbrev Behind : List ℕ → Extent → Type 0
+Behind s (size n) = (u : List ℕ) × (doubled u ++ (34 ∷ []) ≡ 34 ∷ take n s) × (n ≤ length s)
+Behind s unclosed = Unit {0}
+
+doubled-quote : (b : ℕ) (u : List ℕ) → isQuote b ≡ true → doubled (b ∷ u) ≡ b ∷ b ∷ doubled u
+unfolding doubled
+doubled-quote b u e = rw e
+
+doubled-other : (b : ℕ) (u : List ℕ) → isQuote b ≡ false → doubled (b ∷ u) ≡ b ∷ doubled u
+unfolding doubled
+doubled-other b u e = rw e
+
+inside-mark : (b : ℕ) (s : List ℕ) (x : Extent) → isQuote b ≡ true → Behind s x → Inside (b ∷ s) (longer x)
+inside-mark b s (size n) e h = (h .0, h .1 ∙ rw (eqb-true b 34 e), omega (arith, h .2))
+inside-mark b s unclosed e h = tt
+
+inside-other : (b : ℕ) (s : List ℕ) (x : Extent) → isQuote b ≡ false → Inside s x → Inside (b ∷ s) (longer x)
+inside-other b s (size n) e h = (b ∷ h .0, rw (doubled-other b (h .0) e) (ap (λ (x : List ℕ). b ∷ x) (h .1)), omega (arith, h .2))
+inside-other b s unclosed e h = tt
+
+behind-mark : (b : ℕ) (s : List ℕ) (x : Extent) → isQuote b ≡ true → Inside s x → Behind (b ∷ s) (longer x)
+behind-mark b s (size n) e h = let z : b ≡ 34 = eqb-true b 34 e in (b ∷ h .0, rw (doubled-quote b (h .0) e) (rw z (ap (λ (x : List ℕ). 34 ∷ 34 ∷ x) (h .1))), omega (arith, h .2))
+behind-mark b s unclosed e h = tt
+
+closing : doubled [] ++ (34 ∷ []) ≡ 34 ∷ []
+unfolding doubled
+closing = refl
+
+mutual
+  unfolding inside
+
+  inside-again : (s : List ℕ) → Inside s (inside s)
+  inside-again [] = tt
+  inside-again (b ∷ s) = go (isQuote b) refl (after-again s) (inside-again s)
+    where
+      go : (q : Bool) → isQuote b ≡ q → Behind s (after s) → Inside s (inside s) → Inside (b ∷ s) (longer (cond q (after s) (inside s)))
+      go true e g h = inside-mark b s (after s) e g
+      go false e g h = inside-other b s (inside s) e h
+
+  after-again : (s : List ℕ) → Behind s (after s)
+  after-again [] = ([], closing, omega arith)
+  after-again (b ∷ s) = go (isQuote b) refl (inside-again s)
+    where
+      go : (q : Bool) → isQuote b ≡ q → Inside s (inside s) → Behind (b ∷ s) (cond q (longer (inside s)) (size 0))
+      go true e h = behind-mark b s (inside s) e h
+      go false e h = ([], closing, omega arith)
+
+abbrev ExtentAgain : List ℕ → Extent → Type 0
+ExtentAgain s (size n) = Again n s
+ExtentAgain s unclosed = Unit {0}
+
+quoted-again : (b : ℕ) (s : List ℕ) (x : Extent) → isQuote b ≡ true → Inside s x → ExtentAgain (b ∷ s) (longer x)
+quoted-again b s (size n) e h = record { entry = quoted (h .0); unmarked = tt; same = rw (eqb-true b 34 e) (ap (λ (x : List ℕ). 34 ∷ x) (h .1)); within = omega (arith, h .2) }
+quoted-again b s unclosed e h = tt
+
+extent-again : (s : List ℕ) → ExtentAgain s (extent s)
+unfolding extent allText
+extent-again [] = record { entry = bare []; unmarked = refl; same = refl; within = omega arith }
+extent-again (b ∷ s) = go (isQuote b) refl
+  where
+    go : (q : Bool) → isQuote b ≡ q → ExtentAgain (b ∷ s) (cond q (longer (inside s)) (size (plain (b ∷ s))))
+    go true e = quoted-again b s (inside s) e (inside-again s)
+    go false e = record { entry = bare (take (plain (b ∷ s)) (b ∷ s)); unmarked = all-plain (b ∷ s) .0; same = refl; within = all-plain (b ∷ s) .1 }
+
+-- a text begins with an entry that may be written, and with what follows it
+pub record Begins (n : ℕ) (s t : List ℕ) : Type 0 where
+  pub entry : Entry
+  pub writable : Writable entry
+  pub text : s ≡ written entry ++ t
+
+abbrev FieldAgain : List ℕ → Field → Type 0
+FieldAgain s (comma n) = Begins n s (44 ∷ drop (n + 1) s)
+FieldAgain s (ends e n) = Begins n s (ending e (drop (n + width e) s))
+FieldAgain s broken = Unit {0}
+
+module _ (s : List ℕ) (n : ℕ) (a : Again n s) (l : n ≤ most) where
+  begins : (t : List ℕ) → drop n s ≡ t → Begins n s t
+  begins t e =
+      let m : length (written (a .entry)) ≤ most = rw (a .same, length-take-le n s (a .within)) l in
+      record { entry = a .entry; writable = record { unmarked = a .unmarked; size = m }; text = sym (take-append-drop n s) ∙ rw (← a .same, e) }
+
+  line-again : (b : ℕ) (t : List ℕ) → isCr b ≡ true → drop n s ≡ b ∷ t → FieldAgain s (lineFeed n t)
+  line-again b [] e d = tt
+  line-again b (c ∷ t) e d = feed (isLf c) refl
+    where
+      feed : (f : Bool) → isLf c ≡ f → FieldAgain s (cond f (ends CrLf n) broken)
+      feed true g = begins (13 ∷ 10 ∷ drop (n + 2) s) (d ∙ rw (eqb-true b 13 e, eqb-true c 10 g, ← drop-drop 2 n s, d))
+      feed false g = tt
+
+  following-again : (t : List ℕ) → drop n s ≡ t → FieldAgain s (following n t)
+  unfolding following
+  following-again [] d = begins [] d
+  following-again (b ∷ t) d = next (isComma b) (isCr b) refl refl
+    where
+      next : (f g : Bool) → isComma b ≡ f → isCr b ≡ g → FieldAgain s (cond f (comma n) (cond g (lineFeed n t) broken))
+      next true g e h = begins (44 ∷ drop (n + 1) s) (d ∙ rw (eqb-true b 44 e, ← drop-drop 1 n s, d))
+      next false true e h = line-again b t h d
+      next false false e h = tt
+
+field-again : (s : List ℕ) → FieldAgain s (field s)
+unfolding field
+field-again s = go (extent s) (extent-again s)
+  where
+    go : (x : Extent) → ExtentAgain s x → FieldAgain s (limited s x)
+    go unclosed a = tt
+    go (size n) a = short (leb n most) refl
+      where
+        short : (f : Bool) → leb n most ≡ f → FieldAgain s (cond f (following n (drop n s)) broken)
+        short true e = following-again s n a (leb-true n most e) (drop n s) refl
+        short false e = tt
+
+-- a sound record, as a line
+pub record LineAgain (s : List ℕ) (r : Record) : Type 0 where
+  pub line : Line
+  pub writable : AllWritable (line .first ∷ line .more)
+  pub text : s ≡ writeLine line ++ ending (r .ending) (drop (r .bytes) s)
+
+record-again : (k : ℕ) (s : List ℕ) → recordIn k s .sound ≡ true → LineAgain s (recordIn k s)
+unfolding recordIn writeFields
+record-again zero s e = absurd (false≢true e)
+record-again (suc k) s e = go (λ t. record-again k t) (field s) (field-again s) e
+  where
+    go : ((t : List ℕ) → recordIn k t .sound ≡ true → LineAgain t (recordIn k t)) → (f : Field) → FieldAgain s f → recordWith (recordIn k) s f .sound ≡ true → LineAgain s (recordWith (recordIn k) s f)
+    go ih (comma n) b e =
+        let t : List ℕ = drop (n + 1) s in
+        let a : LineAgain t (recordIn k t) = ih t e in
+        let m : Line = a .line in
+        let w : s ≡ written (b .entry) ++ 44 ∷ t = b .text in
+        let v : t ≡ writeLine m ++ ending (recordIn k t .ending) (drop (n + 1 + recordIn k t .bytes) s) = a .text ∙ rw drop-drop in
+        record { line = record { first = b .entry; more = m .first ∷ m .more }; writable = (b .writable, a .writable); text = w ∙ ap (λ (x : List ℕ). written (b .entry) ++ 44 ∷ x) v ∙ sym (append-assoc (written (b .entry)) (44 ∷ writeLine m) (ending (recordIn k t .ending) (drop (n + 1 + recordIn k t .bytes) s))) }
+    go ih (ends x n) b e = record { line = record { first = b .entry; more = [] }; writable = (b .writable, tt); text = b .text }
+    go ih broken b e = absurd (false≢true e)
+
+line-of : (s : List ℕ) → recordOf s .sound ≡ true → LineAgain s (recordOf s)
+unfolding recordOf
+line-of s e = record-again (suc (length s)) s e
+
+-- one line in front of a text that is written
+joined-lines : (l : Line) (x : Ending) (s t : List ℕ) → AllWritable (l .first ∷ l .more) → 0 < length s → s ≡ writeLine l ++ ending x t → Written t → Written s
+unfolding write
+joined-lines l EndOfText s t w h e rest = record { lines = l ∷ []; ended = false; allowed = (w, omega (arith, simp length-append at (ap length e))); text = sym e }
+joined-lines l CrLf s t w h e rest = go (rest .lines) (rest .allowed) (rest .text)
+  where
+    go : (ls : List Line) → Allowed ls (rest .ended) → write ls (rest .ended) ≡ t → Written s
+    go [] a q = record { lines = l ∷ []; ended = true; allowed = (w, tt); text = rw (← q) at (sym e) }
+    go (m ∷ ls) a q = record { lines = l ∷ m ∷ ls; ended = rest .ended; allowed = (w, a); text = ap (λ (x : List ℕ). writeLine l ++ 13 ∷ 10 ∷ x) q ∙ sym e }
+
+nothing-written : Written []
+unfolding write
+nothing-written = record { lines = []; ended = true; allowed = tt; text = refl }
+
+records-again : (k : ℕ) (s : List ℕ) → length s ≤ k → AllSound (recordsIn k s) → Written s
+unfolding recordsIn
+records-again zero [] l h = nothing-written
+records-again zero (b ∷ s) l h = absurd (omega arith)
+records-again (suc k) [] l h = nothing-written
+records-again (suc k) (b ∷ s) l h = go (λ t. records-again k t)
+  where
+    sound : recordOf (b ∷ s) .sound ≡ true
+    sound = h .0
+
+    go : ((t : List ℕ) → length t ≤ k → AllSound (recordsIn k t) → Written t) → Written (b ∷ s)
+    go ih =
+        let r : Record = recordOf (b ∷ s) in
+        let a : LineAgain (b ∷ s) r = line-of (b ∷ s) sound in
+        let p : Spans r (suc (length s)) = record-spans (b ∷ s) sound in
+        let m : 0 < r .bytes = p .some (omega arith) in
+        let rest : AllSound (recordsIn k (drop (r .bytes) (b ∷ s))) = rw sound at (h .1) in
+        joined-lines (a .line) (r .ending) (b ∷ s) (drop (r .bytes) (b ∷ s)) (a .writable) (omega arith) (a .text) (ih (drop (r .bytes) (b ∷ s)) (rw length-drop (omega arith)) rest)
+
+-- THEOREM: every text whose records are all sound is written so.
+pub write-again : (s : List ℕ) → AllSound (records s) → Written s
+unfolding records
+write-again s h = records-again (length s) s (omega arith) h

@@ -1,0 +1,7 @@
+-- What the proofs of several functions use.
+pub mod Fields
+pub mod Records
+pub mod Splits
+pub mod Numbers
+pub mod Inverse
+pub mod Cells

@@ -1,0 +1,111 @@
+use Rattle.csv.specs.Grammar.{recordOf}
+use Rattle.csv.specs.Place.{splitOf, noPlaces}
+use Rattle.csv.proofs.Splits.{comma-range, ends-range, scan-comma, scan-ends, scan-broken}
+use Prim.Native.Nat.{_≤_, _<_, _+_, _-_, max}
+use mathlib.Core.Path.{_≡_}
+use native.Mathlib.Omega.{arith}
+use lib.ListN.{length, drop}
+use borrow.Author.Needs.{needs}
+use Rattle.csv.proofs.scan_record.Statement.{statement}
+use Rattle.csv.proofs.scan_record.Tie as tie
+use Rattle.csv.proofs.scan_record.Reads as reads
+use Rattle.csv.proofs.scan_record.Lts as lts
+use Rattle.csv.proofs.find_field.Reads as find-field-reads
+use Rattle.csv.proofs.put.Reads as put-reads
+use Rattle.csv.proofs.width_of.Reads as width-of-reads
+
+abbrev Inv-loop : tie.InvT-loop
+Inv-loop text at starts₀ ends₀ count₀ p₀ starts ends count p = (count ≤ p) × (count ≤ length text) × (p ≤ max (length text) at) × (splitOf noPlaces noPlaces 0 at (recordOf (drop at text)) ≡ splitOf starts ends count p (recordOf (drop p text)))
+
+abbrev μ-loop : tie.MeasureT-loop
+μ-loop text at starts₀ ends₀ count₀ p₀ starts ends count p = length text - p
+
+-- the field lies in the text, with the comma behind it
+range : (c : tie.After-put2 Inv-loop μ-loop) → (c .before .before .before .before .before .before .before .before .loop .p ≤ c .before .before .before .before .before .e .given .0 .0) × (c .before .before .before .before .before .e .given .0 .0 < length (c .before .before .before .before .before .before .before .before .before .before .args .text .now))
+range c = comma-range (c .before .before .before .before .before .before .before .before .before .before .args .text .now) (c .before .before .before .before .before .before .before .before .loop .p) (c .before .before .before .before .before .before .before .find-field .ensures) (c .before .before .before .before .before .e .given .0 .0) (c .before .before .before .before .before .e .given .1)
+
+loop-holds : tie.Need-loop-holds Inv-loop μ-loop
+loop-holds c = search needs
+
+find-field-requires : tie.Need-find-field-requires Inv-loop μ-loop
+find-field-requires c κs = search needs
+
+enum-known-e : tie.Need-enum-known-e Inv-loop μ-loop
+enum-known-e c = search needs
+
+put-requires : tie.Need-put-requires Inv-loop μ-loop
+put-requires c κs = search needs
+
+put-requires-2 : tie.Need-put-requires-2 Inv-loop μ-loop
+put-requires-2 c κs = search needs
+
+add-count : tie.Need-add-count Inv-loop μ-loop
+add-count c = omega (arith, range c)
+
+add-p : tie.Need-add-p Inv-loop μ-loop
+add-p c = omega (arith, range c)
+
+loop-less : tie.Need-loop-less Inv-loop μ-loop
+loop-less c = omega (arith, range c)
+
+loop-again : tie.Need-loop-again Inv-loop μ-loop
+loop-again c = (
+  omega (arith, range c),
+  omega (arith, range c),
+  omega (arith, range c),
+  scan-comma (c .before .before .before .before .before .before .before .before .before .before .args .text .now) (c .before .before .before .before .before .before .before .before .loop .p) (c .before .before .before .before .before .before .before .find-field .ensures) (c .before .before .before .before .before .e .given .0 .0) (c .before .before .before .before .before .e .given .1) (c .before .before .before .before .before .before .before .before .loop .starts) (c .before .before .before .before .before .before .before .before .loop .ends) (c .before .before .before .before .before .before .before .before .loop .count) (c .before .before .put .ensures) (c .put2 .ensures) (c .before .before .before .before .before .before .before .before .loop .inv .3),
+)
+
+enum-known-x : tie.Need-enum-known-x Inv-loop μ-loop
+enum-known-x c = search needs
+
+put-requires-3 : tie.Need-put-requires-3 Inv-loop μ-loop
+put-requires-3 c κs = search needs
+
+put-requires-4 : tie.Need-put-requires-4 Inv-loop μ-loop
+put-requires-4 c κs = search needs
+
+add-t19 : tie.Need-add-t19 Inv-loop μ-loop
+add-t19 c = search needs
+
+width-of-requires : tie.Need-width-of-requires Inv-loop μ-loop
+width-of-requires c κs = search needs
+
+add-t21 : tie.Need-add-t21 Inv-loop μ-loop
+add-t21 c =
+    let ranged = ends-range (c .before .before .before .before .before .before .before .before .before .before .before .args .text .now) (c .before .before .before .before .before .before .before .before .before .loop .p) (c .before .before .before .before .before .before .before .before .find-field .ensures) (c .before .before .before .before .before .before .x .given .0 .0) (c .before .before .before .before .before .before .x .given .0 .1 .0) (c .before .before .before .before .before .before .x .given .1) (c .width-of .result) (c .width-of .ensures) in
+    omega (arith, ranged)
+
+returns : tie.Need-returns Inv-loop μ-loop
+returns c = scan-ends (c .before .before .before .before .before .before .before .before .before .before .before .args .text .now) (c .before .before .before .before .before .before .before .before .before .loop .p) (c .before .before .before .before .before .before .before .before .find-field .ensures) (c .before .before .before .before .before .before .x .given .0 .0) (c .before .before .before .before .before .before .x .given .0 .1 .0) (c .before .before .before .before .before .before .x .given .1) (c .before .before .before .before .before .before .before .before .before .loop .starts) (c .before .before .before .before .before .before .before .before .before .loop .ends) (c .before .before .before .before .before .before .before .before .before .loop .count) (c .width-of .result) (c .before .before .before .put3 .ensures) (c .before .put4 .ensures) (c .width-of .ensures) (c .before .before .before .before .before .before .before .before .before .loop .inv .3)
+
+enum-told : tie.Need-enum-told Inv-loop μ-loop
+enum-told c = search needs
+
+returns-2 : tie.Need-returns-2 Inv-loop μ-loop
+returns-2 c = search scan-broken
+
+pub scan-record-spec : {M : Type 1} → statement M
+scan-record-spec =
+    tie.close
+    (tie.spec
+    Inv-loop
+    μ-loop
+    loop-holds
+    find-field-requires
+    enum-known-e
+    put-requires
+    put-requires-2
+    add-count
+    add-p
+    loop-less
+    loop-again
+    enum-known-x
+    put-requires-3
+    put-requires-4
+    add-t19
+    width-of-requires
+    add-t21
+    returns
+    enum-told
+    returns-2)

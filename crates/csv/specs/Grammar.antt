@@ -1,0 +1,140 @@
+-- The grammar of RFC 4180, section 2, over a list of bytes: fields, what follows a field, records, and the text. It departs from
+-- the RFC where document 01 does: TEXTDATA is every byte that is no quote mark, comma, CR or LF; an empty text has no records;
+-- and a field has at most 64 bytes as written.
+-- Assumes nothing: these are definitions.
+use Prim.Native.Nat.{ℕ, zero, suc, _+_}
+use mathlib.Core.Bool.{Bool, true, false, cond, not, _||_}
+use mathlib.Core.List.{List, [], _∷_}
+use lib.ListN.{length, take, drop}
+use lib.Dec.{leb, eqb}
+use Rattle.csv.specs.declared.Ending.{Ending}
+use Rattle.csv.specs.declared.Ending.the-variants.{CrLf, EndOfText}
+
+-- DQUOTE = %x22, COMMA = %x2C, CR = %x0D, LF = %x0A
+abbrev pub isQuote : ℕ → Bool
+isQuote b = eqb b 34
+
+abbrev pub isComma : ℕ → Bool
+isComma b = eqb b 44
+
+abbrev pub isCr : ℕ → Bool
+isCr b = eqb b 13
+
+abbrev pub isLf : ℕ → Bool
+isLf b = eqb b 10
+
+-- TEXTDATA: "every byte other than a quote mark, comma, CR or LF may stand in a field"
+abbrev pub isText : ℕ → Bool
+isText b = not (isQuote b || isComma b || isCr b || isLf b)
+
+-- how many bytes a field has as written: `size n`, or `unclosed` where its closing quote mark never comes
+pub data Extent : Type 0 where
+  size : ℕ → Extent
+  unclosed : Extent
+
+-- one byte more
+abbrev pub longer : Extent → Extent
+longer (size n) = size (suc n)
+longer unclosed = unclosed
+
+-- non-escaped = *TEXTDATA: as many bytes as there are
+unfoldable pub plain : List ℕ → ℕ
+plain [] = 0
+plain (b ∷ s) = cond (isText b) (suc (plain s)) 0
+
+-- escaped = DQUOTE *(TEXTDATA / COMMA / CR / LF / 2DQUOTE) DQUOTE, from behind the opening mark on.
+-- `inside`: any byte but a quote mark is text. `after`, behind a further mark: a second mark hands back to `inside`, and anything
+-- else, or the end of the text, leaves the first one the closing mark.
+unfoldable mutual
+  pub inside : List ℕ → Extent
+  inside [] = unclosed
+  inside (b ∷ s) = longer (cond (isQuote b) (after s) (inside s))
+
+  pub after : List ℕ → Extent
+  after [] = size 0
+  after (b ∷ s) = cond (isQuote b) (longer (inside s)) (size 0)
+
+-- field = (escaped / non-escaped): an opening quote mark makes it escaped
+unfoldable pub extent : List ℕ → Extent
+extent [] = size 0
+extent (b ∷ s) = cond (isQuote b) (longer (inside s)) (size (plain (b ∷ s)))
+
+-- "A field as written, its quote marks included, has at most 64 bytes."
+abbrev pub most : ℕ
+most = 64
+
+-- "Records end in CR LF; the last one may end with the text": the bytes that an ending takes
+abbrev pub width : Ending → ℕ
+width CrLf = 2
+width EndOfText = 0
+
+-- The first field of a text: how many bytes it has as written, by what follows it: a comma, or the end of its record. `broken`: it
+-- is never closed, it has too many bytes, or something else follows it.
+pub data Field : Type 0 where
+  comma : ℕ → Field
+  ends : Ending → ℕ → Field
+  broken : Field
+
+-- CRLF = CR LF: an LF follows a CR
+abbrev pub lineFeed : ℕ → List ℕ → Field
+lineFeed n [] = broken
+lineFeed n (b ∷ s) = cond (isLf b) (ends CrLf n) broken
+
+-- what follows a field of n bytes
+unfoldable pub following : ℕ → List ℕ → Field
+following n [] = ends EndOfText n
+following n (b ∷ s) = cond (isComma b) (comma n) (cond (isCr b) (lineFeed n s) broken)
+
+abbrev pub limited : List ℕ → Extent → Field
+limited s (size n) = cond (leb n most) (following n (drop n s)) broken
+limited s unclosed = broken
+
+unfoldable pub field : List ℕ → Field
+field s = limited s (extent s)
+
+-- record = field *(COMMA field), with its end
+pub record Record : Type 0 where
+  -- the fields as written, up to the first that is broken
+  pub fields : List (List ℕ)
+  -- the bytes that they take, with the commas and the line end
+  pub bytes : ℕ
+  -- that no field is broken
+  pub sound : Bool
+  pub ending : Ending
+
+abbrev pub torn : Record
+torn = record { fields = []; bytes = 0; sound = false; ending = EndOfText }
+
+abbrev pub only : List ℕ → ℕ → Ending → Record
+only w n e = record { fields = w ∷ []; bytes = n + width e; sound = true; ending = e }
+
+abbrev pub joined : List ℕ → ℕ → Record → Record
+joined w n r = record { fields = w ∷ r .fields; bytes = n + r .bytes; sound = r .sound; ending = r .ending }
+
+-- the record of s whose first field is given, over what makes the record of the bytes behind a comma
+abbrev pub recordWith : (List ℕ → Record) → List ℕ → Field → Record
+recordWith rest s (comma n) = joined (take n s) (n + 1) (rest (drop (n + 1) s))
+recordWith rest s (ends e n) = only (take n s) n e
+recordWith rest s broken = torn
+
+-- Each field but the last has a comma behind it, so a text of n bytes has at most n + 1 fields: as many as k counts.
+unfoldable pub recordIn : ℕ → List ℕ → Record
+recordIn zero s = torn
+recordIn (suc k) s = recordWith (recordIn k) s (field s)
+
+unfoldable pub recordOf : List ℕ → Record
+recordOf s = recordIn (suc (length s)) s
+
+-- what comes behind the record r of s: nothing is read behind a record that is not sound
+abbrev pub onward : (List ℕ → List Record) → List ℕ → Record → List Record
+onward rest s r = cond (r .sound) (rest (drop (r .bytes) s)) []
+
+-- file = record *(CRLF record) [CRLF]: the records up to the first that is not sound. "An empty text has no records", so a final
+-- line end opens none. A record that another follows has two bytes or more, so a text of n bytes has at most n records.
+unfoldable pub recordsIn : ℕ → List ℕ → List Record
+recordsIn zero s = []
+recordsIn (suc k) [] = []
+recordsIn (suc k) (b ∷ s) = recordOf (b ∷ s) ∷ onward (recordsIn k) (b ∷ s) (recordOf (b ∷ s))
+
+unfoldable pub records : List ℕ → List Record
+records s = recordsIn (length s) s

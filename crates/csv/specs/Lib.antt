@@ -1,0 +1,4 @@
+pub mod Grammar
+pub mod Number
+pub mod Place
+pub mod Write

@@ -1,0 +1,94 @@
+-- The grammar the other way round: how RFC 4180 writes records. proofs/Inverse.antt shows that reading what is written here gives
+-- those records, and that every text whose records are all sound is written so.
+-- Assumes nothing: these are definitions.
+use Prim.Native.Nat.{ℕ, _+_, _≤_, _<_}
+use mathlib.Core.Path.{_≡_}
+use mathlib.Core.Bool.{Bool, true, false, cond, _&&_}
+use mathlib.Core.List.{List, [], _∷_, _++_, map}
+use lib.ListN.{length}
+use Rattle.csv.specs.Grammar.{isQuote, isText, most, width, Record}
+use Rattle.csv.specs.declared.Ending.{Ending}
+use Rattle.csv.specs.declared.Ending.the-variants.{CrLf, EndOfText}
+
+-- a field that is to be written: its text, between quote marks or without them
+pub data Entry : Type 0 where
+  bare : List ℕ → Entry
+  quoted : List ℕ → Entry
+
+abbrev pub textOf : Entry → List ℕ
+textOf (bare s) = s
+textOf (quoted s) = s
+
+-- "a double-quote appearing inside a field must be escaped by preceding it with another double quote"
+unfoldable pub doubled : List ℕ → List ℕ
+doubled [] = []
+doubled (b ∷ s) = cond (isQuote b) (b ∷ b ∷ doubled s) (b ∷ doubled s)
+
+abbrev pub written : Entry → List ℕ
+written (bare s) = s
+written (quoted s) = 34 ∷ doubled s ++ (34 ∷ [])
+
+-- what may be written: without quote marks only TEXTDATA, and at most 64 bytes
+unfoldable pub allText : List ℕ → Bool
+allText [] = true
+allText (b ∷ s) = isText b && allText s
+
+abbrev pub Unmarked : Entry → Type 0
+Unmarked (bare s) = allText s ≡ true
+Unmarked (quoted s) = Unit {0}
+
+pub record Writable (f : Entry) : Type 0 where
+  pub unmarked : Unmarked f
+  pub size : length (written f) ≤ most
+
+-- record = field *(COMMA field)
+pub record Line : Type 0 where
+  pub first : Entry
+  pub more : List Entry
+
+unfoldable pub writeFields : Entry → List Entry → List ℕ
+writeFields f [] = written f
+writeFields f (g ∷ gs) = written f ++ 44 ∷ writeFields g gs
+
+abbrev pub writeLine : Line → List ℕ
+writeLine l = writeFields (l .first) (l .more)
+
+-- file = record *(CRLF record) [CRLF]: `ended` says whether the last line end is there
+unfoldable pub write : List Line → Bool → List ℕ
+write [] ended = []
+write (l ∷ []) ended = writeLine l ++ cond ended (13 ∷ 10 ∷ []) []
+write (l ∷ m ∷ ls) ended = writeLine l ++ 13 ∷ 10 ∷ write (m ∷ ls) ended
+
+-- each field may be written; and a last record with no line end has a byte, since nothing at all is no record
+abbrev pub AllWritable : List Entry → Type 0
+AllWritable [] = Unit {0}
+AllWritable (f ∷ fs) = Writable f × AllWritable fs
+
+abbrev pub LastLine : Line → Bool → Type 0
+LastLine l true = Unit {0}
+LastLine l false = 0 < length (writeLine l)
+
+abbrev pub Allowed : List Line → Bool → Type 0
+Allowed [] ended = Unit {0}
+Allowed (l ∷ []) ended = AllWritable (l .first ∷ l .more) × LastLine l ended
+Allowed (l ∷ m ∷ ls) ended = AllWritable (l .first ∷ l .more) × Allowed (m ∷ ls) ended
+
+-- the records that lines are to be read as
+abbrev pub recordAs : Line → Ending → Record
+recordAs l e = record { fields = map written (l .first ∷ l .more); bytes = length (writeLine l) + width e; sound = true; ending = e }
+
+unfoldable pub recordsAs : List Line → Bool → List Record
+recordsAs [] ended = []
+recordsAs (l ∷ []) ended = recordAs l (cond ended CrLf EndOfText) ∷ []
+recordsAs (l ∷ m ∷ ls) ended = recordAs l CrLf ∷ recordsAs (m ∷ ls) ended
+
+-- that all records are sound; and that a text is written by lines that are allowed
+abbrev pub AllSound : List Record → Type 0
+AllSound [] = Unit {0}
+AllSound (r ∷ rs) = (r .sound ≡ true) × AllSound rs
+
+pub record Written (s : List ℕ) : Type 0 where
+  pub lines : List Line
+  pub ended : Bool
+  pub allowed : Allowed lines ended
+  pub text : write lines ended ≡ s

@@ -1,0 +1,529 @@
+// Comma-separated text by RFC 4180: where a field ends, how a record splits into fields, and what number a field says.
+ghost use mathlib.Core.Path.{_≡_};
+ghost use mathlib.Core.Bool.{true};
+ghost use Prim.Native.Nat.{_+_, _-_, _^_, _≤_, _<_};
+ghost use lib.ListN.{length, take, drop, getD};
+ghost use Rattle.csv.specs.Grammar.{isText, plain, inside, after, extent, field, recordOf, width};
+ghost use Rattle.csv.specs.Number.{natural, integer, unsigned, signed};
+ghost use Rattle.csv.specs.Place.{closeAt, foundAt, splitOf, noPlaces, note, fieldAt, inner, gathered, RunAt, CellAt, LineEnd, LastAt};
+
+// Where a field ends, if it is closed in time.
+pub enum Close {
+    At(usize),
+    Never,
+}
+
+// How a record ends.
+pub enum Ending {
+    CrLf,
+    EndOfText,
+}
+
+// The end of a field, by what follows it.
+pub enum Found {
+    Comma(usize),
+    Ends(Ending, usize),
+    Broken,
+}
+
+// A record: the bounds of its first eight fields, the count of all its fields, the place behind it, and how it ends.
+// A record with a broken field is not sound, and what is noted lies before that field.
+pub struct Split {
+    pub starts: [usize; 8],
+    pub ends: [usize; 8],
+    pub count: usize,
+    pub next: usize,
+    pub sound: bool,
+    pub ending: Ending,
+}
+
+// What a field says: a number, nothing, or something else.
+pub enum Value {
+    Number(u64),
+    Missing,
+    Bad,
+}
+
+// The same where a minus sign is allowed.
+pub enum SignedValue {
+    Number(i64),
+    Missing,
+    Bad,
+}
+
+// The digits at a place of the text: the number that they write, and where they end.
+pub struct Run {
+    pub value: u64,
+    pub end: usize,
+}
+
+// A plain field that a comma follows, and where it ends: a number, or nothing. Other: anything else, or nothing known of it.
+pub enum Cell {
+    Number(u64, usize),
+    Missing(usize),
+    Other,
+}
+
+// A plain number that CR LF follows, and where it ends.
+pub enum LastCell {
+    Number(i64, usize),
+    Other,
+}
+
+// Whether b may stand in a plain field.
+fn is_text(b: u8) -> bool
+    ensures { λ r. ⌜ r ≡ isText b ⌝ }
+{
+    match b {
+        b'"' | b',' | 13 | 10 => false,
+        _ => true,
+    }
+}
+
+// Inside quotes: the end of the field, if it comes within `room` bytes. Each byte takes one of them, so the calls are at most 64 deep.
+fn inside_quotes(text: &[u8], at: usize, room: usize) -> Close
+    ensures { λ r. ⌜ r ≡ closeAt at room (inside (drop at (now (text .entry)))) ⌝ }
+{
+    if at >= text.len() {
+        return Close::Never;
+    }
+    if room == 0 {
+        return Close::Never;
+    }
+    if text[at] == b'"' {
+        after_quote(text, at + 1, room - 1)
+    } else {
+        inside_quotes(text, at + 1, room - 1)
+    }
+}
+
+// Behind a quote mark of a quoted field: a second mark hands back to `inside_quotes`, and otherwise the first one closed the field.
+fn after_quote(text: &[u8], at: usize, room: usize) -> Close
+    ensures { λ r. ⌜ r ≡ closeAt at room (after (drop at (now (text .entry)))) ⌝ }
+{
+    if at >= text.len() {
+        return Close::At(at);
+    }
+    if text[at] == b'"' {
+        if room == 0 {
+            return Close::Never;
+        }
+        inside_quotes(text, at + 1, room - 1)
+    } else {
+        Close::At(at)
+    }
+}
+
+// The end of the run of text bytes that starts at `at`.
+fn plain_end(text: &[u8], at: usize) -> usize
+    ensures { λ r. ⌜ r ≡ at + plain (drop at (now (text .entry))) ⌝ }
+{
+    let mut i = at;
+    while i < text.len() {
+        if is_text(text[i]) {
+            i += 1;
+        } else {
+            return i;
+        }
+    }
+    i
+}
+
+// The end of the field that starts at `at`, if it has at most 64 bytes as written.
+fn field_close(text: &[u8], at: usize) -> Close
+    ensures { λ r. ⌜ r ≡ closeAt at 64 (extent (drop at (now (text .entry)))) ⌝ }
+{
+    if at >= text.len() {
+        return Close::At(at);
+    }
+    if text[at] == b'"' {
+        return inside_quotes(text, at + 1, 63);
+    }
+    let end = plain_end(text, at);
+    if end - at <= 64 {
+        Close::At(end)
+    } else {
+        Close::Never
+    }
+}
+
+// The end of the field that starts at `at`, by what follows it.
+pub fn find_field(text: &[u8], at: usize) -> Found
+    ensures { λ r. ⌜ r ≡ foundAt at (field (drop at (now (text .entry)))) ⌝ }
+{
+    let Close::At(end) = field_close(text, at) else {
+        return Found::Broken;
+    };
+    if end >= text.len() {
+        return Found::Ends(Ending::EndOfText, end);
+    }
+    let b = text[end];
+    if b == b',' {
+        return Found::Comma(end);
+    }
+    if b != 13 {
+        return Found::Broken;
+    }
+    if text.len() - end == 1 {
+        return Found::Broken;
+    }
+    if text[end + 1] == 10 {
+        Found::Ends(Ending::CrLf, end)
+    } else {
+        Found::Broken
+    }
+}
+
+// The bytes that an ending takes.
+fn width_of(x: Ending) -> usize
+    ensures { λ r. ⌜ r ≡ width x ⌝ }
+{
+    match x {
+        Ending::CrLf => 2,
+        Ending::EndOfText => 0,
+    }
+}
+
+// Notes x at place i of eight, if there is such a place.
+fn put(places: &mut [usize; 8], i: usize, x: usize)
+    ensures { λ _. ⌜ now (places .exit) ≡ note (now (places .entry)) i x ⌝ }
+{
+    if i < 8 {
+        places[i] = x;
+    }
+}
+
+// The record that starts at `at`, in one scan.
+pub fn scan_record(text: &[u8], at: usize) -> Split
+    ensures { λ r. ⌜ r ≡ splitOf noPlaces noPlaces 0 at (recordOf (drop at (now (text .entry)))) ⌝ }
+{
+    let mut starts = [0usize; 8];
+    let mut ends = [0usize; 8];
+    let mut count: usize = 0;
+    let mut p = at;
+    loop {
+        match find_field(text, p) {
+            Found::Comma(e) => {
+                put(&mut starts, count, p);
+                put(&mut ends, count, e);
+                count += 1;
+                p = e + 1;
+            }
+            Found::Ends(x, e) => {
+                put(&mut starts, count, p);
+                put(&mut ends, count, e);
+                return Split {
+                    starts,
+                    ends,
+                    count: count + 1,
+                    next: e + width_of(x),
+                    sound: true,
+                    ending: x,
+                };
+            }
+            Found::Broken => {
+                return Split {
+                    starts,
+                    ends,
+                    count,
+                    next: p,
+                    sound: false,
+                    ending: Ending::EndOfText,
+                };
+            }
+        }
+    }
+}
+
+// Field i of a record, as written: a part of the caller's text, by the bounds that `scan_record` noted. It is empty where they lie outside the text.
+pub fn field_part<'a>(text: &'a [u8], starts: &[usize; 8], ends: &[usize; 8], i: usize) -> &'a [u8]
+    ensures { λ r. ⌜ now r ≡ fieldAt (now (text .entry)) (now (starts .entry)) (now (ends .entry)) i ⌝ }
+{
+    if i >= 8 {
+        return &text[..0];
+    }
+    let from = starts[i];
+    let to = ends[i];
+    if from > to {
+        return &text[..0];
+    }
+    if to > text.len() {
+        return &text[..0];
+    }
+    &text[from..to]
+}
+
+// The number of at most `limit` that at most 19 digits write: it fits 64 bits, whatever they are.
+fn few_digits(s: &[u8], limit: u64) -> Value
+    requires { ⌜ length (now s) ≤ 19 ⌝ }
+    ensures { λ r. ⌜ r ≡ gathered limit 0 (now (s .entry)) ⌝ }
+{
+    let mut n: u64 = 0;
+    let mut i = 0;
+    while i < s.len() {
+        let b = s[i];
+        if b < b'0' {
+            return Value::Bad;
+        }
+        if b > b'9' {
+            return Value::Bad;
+        }
+        n = n * 10 + (b - b'0') as u64;
+        i += 1;
+    }
+    if n <= limit {
+        Value::Number(n)
+    } else {
+        Value::Bad
+    }
+}
+
+// The same of any count of digits, with the overflow tested before each digit.
+fn many_digits(s: &[u8], limit: u64) -> Value
+    ensures { λ r. ⌜ r ≡ gathered limit 0 (now (s .entry)) ⌝ }
+{
+    let mut n: u64 = 0;
+    let mut i = 0;
+    while i < s.len() {
+        let b = s[i];
+        if b < b'0' {
+            return Value::Bad;
+        }
+        if b > b'9' {
+            return Value::Bad;
+        }
+        if n > limit / 10 {
+            return Value::Bad;
+        }
+        let d = (b - b'0') as u64;
+        if d > limit - n * 10 {
+            return Value::Bad;
+        }
+        n = n * 10 + d;
+        i += 1;
+    }
+    Value::Number(n)
+}
+
+// The number of at most `limit` that s writes.
+fn natural_of(s: &[u8], limit: u64) -> Value
+    ensures { λ r. ⌜ r ≡ natural limit (now (s .entry)) ⌝ }
+{
+    if s.len() == 0 {
+        return Value::Missing;
+    }
+    if s[0] == b'0' {
+        if s.len() == 1 {
+            return Value::Number(0);
+        }
+        return Value::Bad;
+    }
+    if s.len() <= 19 {
+        few_digits(s, limit)
+    } else {
+        many_digits(s, limit)
+    }
+}
+
+// A field without its quote marks, as a part of the text. Doubled marks stay as they are.
+fn inner_part(w: &[u8]) -> &[u8]
+    ensures { λ r. ⌜ now r ≡ inner (now (w .entry)) ⌝ }
+{
+    if w.len() == 0 {
+        return w;
+    }
+    if w[0] != b'"' {
+        return w;
+    }
+    if w.len() == 1 {
+        return &w[..0];
+    }
+    let last = w.len() - 1;
+    &w[1..last]
+}
+
+// What a field says, up to 65,535.
+pub fn u16_of(w: &[u8]) -> Value
+    ensures { λ r. ⌜ r ≡ unsigned 65535 (now (w .entry)) ⌝ }
+{
+    natural_of(inner_part(w), 65535)
+}
+
+// What a successor's field says, up to 65,534.
+pub fn successor_of(w: &[u8]) -> Value
+    ensures { λ r. ⌜ r ≡ unsigned 65534 (now (w .entry)) ⌝ }
+{
+    natural_of(inner_part(w), 65534)
+}
+
+// What a field says, up to 2^32 - 1.
+pub fn u32_of(w: &[u8]) -> Value
+    ensures { λ r. ⌜ r ≡ unsigned (2 ^ 32 - 1) (now (w .entry)) ⌝ }
+{
+    natural_of(inner_part(w), 4294967295)
+}
+
+// What a field says, up to 2^64 - 1.
+pub fn u64_of(w: &[u8]) -> Value
+    ensures { λ r. ⌜ r ≡ unsigned (2 ^ 64 - 1) (now (w .entry)) ⌝ }
+{
+    natural_of(inner_part(w), 18446744073709551615)
+}
+
+// What the text of a field says, with a minus sign allowed.
+fn integer_of(s: &[u8]) -> SignedValue
+    ensures { λ r. ⌜ r ≡ integer (now (s .entry)) ⌝ }
+{
+    if s.len() == 0 {
+        return SignedValue::Missing;
+    }
+    if s[0] == b'-' {
+        let Value::Number(n) = natural_of(&s[1..], 9223372036854775808) else {
+            return SignedValue::Bad;
+        };
+        if n == 0 {
+            return SignedValue::Bad;
+        }
+        let m = (n - 1) as i64;
+        return SignedValue::Number(-1 - m);
+    }
+    match natural_of(s, 9223372036854775807) {
+        Value::Number(n) => SignedValue::Number(n as i64),
+        Value::Missing => SignedValue::Missing,
+        Value::Bad => SignedValue::Bad,
+    }
+}
+
+// What a field says, from -2^63 to 2^63 - 1.
+pub fn i64_of(w: &[u8]) -> SignedValue
+    ensures { λ r. ⌜ r ≡ signed (now (w .entry)) ⌝ }
+{
+    integer_of(inner_part(w))
+}
+
+// The digits that stand at `at`: no more than 19, so that their number fits.
+fn digit_run(text: &[u8], at: usize) -> Run
+    ensures { λ r. ⌜ RunAt (now (text .entry)) at r ⌝ }
+{
+    let mut n: u64 = 0;
+    let mut i = at;
+    while i < text.len() {
+        let b = text[i];
+        if b < b'0' {
+            return Run { value: n, end: i };
+        }
+        if b > b'9' {
+            return Run { value: n, end: i };
+        }
+        if i - at >= 19 {
+            return Run { value: n, end: i };
+        }
+        n = n * 10 + (b - b'0') as u64;
+        i += 1;
+    }
+    Run { value: n, end: i }
+}
+
+// The field that starts at `at`, where it is a plain number of at most `limit`, or empty, with a comma behind it: one scan for both.
+pub fn number_cell(text: &[u8], at: usize, limit: u64) -> Cell
+    ensures { λ r. ⌜ CellAt (now (text .entry)) at (unsigned limit) r ⌝ }
+{
+    let run = digit_run(text, at);
+    let n = run.value;
+    let end = run.end;
+    if end >= text.len() {
+        return Cell::Other;
+    }
+    if text[end] != b',' {
+        return Cell::Other;
+    }
+    if end == at {
+        return Cell::Missing(end);
+    }
+    if text[at] == b'0' {
+        if end - at == 1 {
+            return Cell::Number(0, end);
+        }
+        return Cell::Other;
+    }
+    if n > limit {
+        return Cell::Other;
+    }
+    Cell::Number(n, end)
+}
+
+// Whether CR LF stands at `at`.
+fn line_ends(text: &[u8], at: usize) -> bool
+    ensures { λ r. ⌜ (r ≡ true → LineEnd (now (text .entry)) at) ⌝ }
+{
+    if at >= text.len() {
+        return false;
+    }
+    if text.len() - at == 1 {
+        return false;
+    }
+    if text[at] == 13 {
+        return text[at + 1] == 10;
+    }
+    false
+}
+
+// The field that starts at `at`, where it is a plain number other than 0 with no minus sign and CR LF behind it.
+fn positive_cell(text: &[u8], at: usize) -> LastCell
+    ensures { λ r. ⌜ LastAt (now (text .entry)) at r ⌝ }
+{
+    let run = digit_run(text, at);
+    let n = run.value;
+    let end = run.end;
+    if line_ends(text, end) {
+        if n == 0 {
+            return LastCell::Other;
+        }
+        if text[at] == b'0' {
+            return LastCell::Other;
+        }
+        if n > 9223372036854775807 {
+            return LastCell::Other;
+        }
+        return LastCell::Number(n as i64, end);
+    }
+    LastCell::Other
+}
+
+// The same behind a minus sign at `at`.
+fn negative_cell(text: &[u8], at: usize) -> LastCell
+    requires { ⌜ (at < length (now text)) × (getD (now text) at 0 ≡ 45) ⌝ }
+    ensures { λ r. ⌜ LastAt (now (text .entry)) at r ⌝ }
+{
+    let run = digit_run(text, at + 1);
+    let n = run.value;
+    let end = run.end;
+    if line_ends(text, end) {
+        if n == 0 {
+            return LastCell::Other;
+        }
+        if text[at + 1] == b'0' {
+            return LastCell::Other;
+        }
+        if n > 9223372036854775808 {
+            return LastCell::Other;
+        }
+        let m = (n - 1) as i64;
+        return LastCell::Number(-1 - m, end);
+    }
+    LastCell::Other
+}
+
+// The field that starts at `at`, where it is a plain number other than 0 with CR LF behind it: one scan for both.
+pub fn integer_cell(text: &[u8], at: usize) -> LastCell
+    ensures { λ r. ⌜ LastAt (now (text .entry)) at r ⌝ }
+{
+    if at >= text.len() {
+        return LastCell::Other;
+    }
+    if text[at] == b'-' {
+        negative_cell(text, at)
+    } else {
+        positive_cell(text, at)
+    }
+}

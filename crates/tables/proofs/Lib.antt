@@ -1,0 +1,5 @@
+-- What the proofs of several functions use.
+pub mod Rows
+pub mod QuickRows
+pub mod Passes
+pub mod Whole

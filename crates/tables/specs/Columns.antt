@@ -1,0 +1,85 @@
+-- What a reader leaves: its reply, and the final contents of every lent column.
+-- Assumes nothing: these are definitions.
+use Prim.Native.Nat.{ℕ, min}
+use mathlib.Core.Path.{_≡_}
+use mathlib.Core.Bool.{Bool}
+use mathlib.Core.List.{List, [], _∷_, map}
+use lib.ListN.{length}
+use lib.IntN.{ℤ}
+use Rattle.tables.specs.Row.{costOf, innermostOf, firstOf, secondOf, figureOf, parentOf, headOf, limitOf, multiplierOf}
+use Rattle.tables.specs.Table.{End, all, refused, Reading, layoutOf, tableOf}
+use Rattle.tables.specs.declared.Shape.the-variants.{Blocks, Loops}
+use Rattle.tables.specs.declared.Row.{Row}
+use Rattle.tables.specs.declared.ReadReply.{ReadReply}
+use Rattle.tables.specs.declared.ReadReply.the-variants.{Rows, Refused}
+
+-- "On acceptance the reader gives the row count"; "Each refusal is a number and a place"
+abbrev pub replyBy : ℕ → End → ReadReply
+replyBy k all = Rows k
+replyBy k (refused n place) = Refused n place
+
+abbrev pub replyOf : Reading → ReadReply
+replyOf x = replyBy (length (x .rows)) (x .end)
+
+-- the rows of an accepted text; a refusal "changes no lent column"
+abbrev pub acceptedBy : List Row → End → List Row
+acceptedBy ws all = ws
+acceptedBy ws (refused n place) = []
+
+abbrev pub accepted : Reading → List Row
+accepted x = acceptedBy (x .rows) (x .end)
+
+-- a column that "fills the first k places .. later places keep their contents"
+unfoldable pub over : {A : Type 0} → List A → List A → List A
+over [] column = column
+over (v ∷ vs) [] = []
+over (v ∷ vs) (c ∷ column) = v ∷ over vs column
+
+-- the lent columns of each table, and the places of the shortest
+pub record BlockColumns : Type 0 where
+  pub cost : List ℕ
+  pub loops : List ℕ
+  pub first : List ℕ
+  pub second : List ℕ
+  pub figure : List ℤ
+
+abbrev pub blocks : List ℕ → List ℕ → List ℕ → List ℕ → List ℤ → BlockColumns
+blocks c l a b f = record { cost = c; loops = l; first = a; second = b; figure = f }
+
+abbrev pub shortestBlock : BlockColumns → ℕ
+shortestBlock c = min (length (c .cost)) (min (length (c .loops)) (min (length (c .first)) (min (length (c .second)) (length (c .figure)))))
+
+pub record LoopColumns : Type 0 where
+  pub parent : List ℕ
+  pub head : List ℕ
+  pub limit : List ℕ
+  pub multiplier : List ℕ
+
+abbrev pub loops : List ℕ → List ℕ → List ℕ → List ℕ → LoopColumns
+loops p h l m = record { parent = p; head = h; limit = l; multiplier = m }
+
+abbrev pub shortestLoop : LoopColumns → ℕ
+shortestLoop c = min (length (c .parent)) (min (length (c .head)) (min (length (c .limit)) (length (c .multiplier))))
+
+-- the reply and the columns after the reading x
+pub record BlocksDone (x : Reading) (old : BlockColumns) (r : ReadReply) (new : BlockColumns) : Type 0 where
+  pub reply : r ≡ replyOf x
+  pub cost : new .cost ≡ over (map costOf (accepted x)) (old .cost)
+  pub loops : new .loops ≡ over (map innermostOf (accepted x)) (old .loops)
+  pub first : new .first ≡ over (map firstOf (accepted x)) (old .first)
+  pub second : new .second ≡ over (map secondOf (accepted x)) (old .second)
+  pub figure : new .figure ≡ over (map figureOf (accepted x)) (old .figure)
+
+pub record LoopsDone (x : Reading) (old : LoopColumns) (r : ReadReply) (new : LoopColumns) : Type 0 where
+  pub reply : r ≡ replyOf x
+  pub parent : new .parent ≡ over (map parentOf (accepted x)) (old .parent)
+  pub head : new .head ≡ over (map headOf (accepted x)) (old .head)
+  pub limit : new .limit ≡ over (map limitOf (accepted x)) (old .limit)
+  pub multiplier : new .multiplier ≡ over (map multiplierOf (accepted x)) (old .multiplier)
+
+-- the promises of the two readers, of a text and the columns that were lent
+abbrev pub BlocksRead : List ℕ → Bool → BlockColumns → ReadReply → BlockColumns → Type 0
+BlocksRead s header old r new = BlocksDone (tableOf (layoutOf Blocks (shortestBlock old)) header s) old r new
+
+abbrev pub LoopsRead : List ℕ → Bool → LoopColumns → ReadReply → LoopColumns → Type 0
+LoopsRead s header old r new = LoopsDone (tableOf (layoutOf Loops (shortestLoop old)) header s) old r new
