@@ -1,28 +1,26 @@
 -- The reply of the whole walk from what is looked at in turn: the tables, the length, the first block, the others. Assumes nothing.
 use mathlib.Core.Path.{_≡_, sym, _∙_, ap}
 use mathlib.Core.Bool.{true, or-true}
-use mathlib.Core.List.{List, [], _∷_, _++_}
-use mathlib.Core.Option.{Option, none, some}
+use mathlib.Core.List.{List, [], _∷_}
 use Prim.Native.Nat.{ℕ, _≤_, _<_}
 use native.Mathlib.Omega.{arith}
 use lib.Dec.{ltb}
 use borrow.Author.Tests.{eq-eqb, ne-eqb, lt-ltb, le-ltb}
 use lib.ListN.{length, getD, drop}
 use lib.Seq.{drop-cons}
-use Rattle.lists.specs.Search.{firstBelow}
 use Rattle.lists.proofs.Tests.{neither}
 use Rattle.wcet.specs.Table.{Routine, blockCount}
-use Rattle.wcet.specs.Rules.{Reply, accepted, refused, Rule, refusedAt, check, structureRules}
+use Rattle.wcet.specs.Rules.{Reply, accepted, check, structureRules}
 use Rattle.wcet.specs.Run.{start}
 use Rattle.wcet.specs.Walk.{Walked, walked, longestWalk, lengthRule, walkFrom, walkBlocks, walkReply}
 use Rattle.wcet.specs.Claim.{AllHold}
 use Rattle.wcet.proofs.Replies.{decides, hands-on, behind-all, passes}
 use Rattle.wcet.proofs.Walks.{walks-exactly}
-use Rattle.nesting.specs.Answers.{refusal, structureReply, StructureChecked}
+use Rattle.nesting.specs.Answers.{refusal, StructureChecked}
 use Rattle.nesting.specs.declared.StructureFault.{StructureFault}
-use Rattle.nesting.specs.declared.StructureFault.the-variants.{Sizes, Loop, Block, Header, Depth, EntryOrExit, PastHeader}
 use Rattle.nesting.specs.declared.Structure.the-variants.{Sound, Broken}
 use Rattle.nesting.specs.declared.Structured.{Structured}
+use Rattle.nesting.proofs.Chain.{refusal-stands, sound-holds}
 use Rattle.walk.specs.declared.WalkReply.{WalkReply}
 use Rattle.walk.specs.declared.WalkReply.the-variants.{Structure, Length, NoBlock, NotEntry}
 use Rattle.walk.specs.Reply.{meaning, WalkAnswered}
@@ -34,38 +32,14 @@ answered t w r e = record { replied = e; accepts = λ h k x. rw e (walks-exactly
 
 -- ---- the tables
 
--- a refusal by the first rules is one by all of them
-refused-first : {A B : Type 0} (rs qs : List Rule) (a : A) (passed : Reply B) (n p : ℕ) → check rs (accepted a) ≡ refused n p → check (rs ++ qs) passed ≡ refused n p
-unfolding check
-refused-first [] qs a passed n p e = absurd (let z : _≡_ {A = ℕ} 0 1 = cc in omega arith)
-refused-first {A} {B} (r ∷ rs) qs a passed n p e = go (firstBelow (r .places) (r .broken)) e (refused-first rs qs a passed n p)
-  where
-    go : (o : Option ℕ) → refusedAt {A = A} (r .number) o (check rs (accepted a)) ≡ refused n p
-        → (check rs (accepted a) ≡ refused n p → check (rs ++ qs) passed ≡ refused n p)
-        → refusedAt {A = B} (r .number) o (check (rs ++ qs) passed) ≡ refused n p
-    go (some k) e rest = let number : r .number ≡ n = cc in let place : k ≡ p = cc in rw (number, place)
-    go none e rest = rest e
-
-fault-first : {B : Type 0} (rs qs : List Rule) (passed : Reply B) (f : StructureFault) → refusal {A = Unit {0}} f ≡ check rs (accepted tt)
-    → refusal f ≡ check (rs ++ qs) passed
-fault-first rs qs passed Sizes e = sym (refused-first rs qs tt passed 201 0 (sym e))
-fault-first rs qs passed (Loop l) e = sym (refused-first rs qs tt passed 202 l (sym e))
-fault-first rs qs passed (Block u) e = sym (refused-first rs qs tt passed 203 u (sym e))
-fault-first rs qs passed (Header l) e = sym (refused-first rs qs tt passed 204 l (sym e))
-fault-first rs qs passed (Depth l) e = sym (refused-first rs qs tt passed 205 l (sym e))
-fault-first rs qs passed (EntryOrExit u) e = sym (refused-first rs qs tt passed 206 u (sym e))
-fault-first rs qs passed (PastHeader u) e = sym (refused-first rs qs tt passed 207 u (sym e))
-
 module _ (t : Routine) (w : List ℕ) (s : Structured) (checked : StructureChecked t s) where
   pub reply-structure : (f : StructureFault) → s .answer ≡ Broken f → WalkAnswered t w (meaning (Structure f))
   unfolding walkReply
-  reply-structure f e =
-      answered t w (refusal f)
-      (fault-first (structureRules t) (lengthRule w ∷ []) (walkBlocks t w (accepted (walked t w))) f (ap structureReply (sym e) ∙ checked .replied))
+  reply-structure f e = answered t w (refusal f) (refusal-stands t s checked f e (lengthRule w ∷ []) (walkBlocks t w (accepted (walked t w))))
 
   module _ (sound : s .answer ≡ Sound) where
     rules : AllHold (structureRules t)
-    rules = passes (structureRules t) (accepted tt) tt (sym (checked .replied) ∙ ap structureReply sound) .0
+    rules = sound-holds t s checked sound
 
     pub keeps : Walkable t (s .around)
     keeps = walkable t (s .around) rules (checked .sets sound)
