@@ -64,33 +64,33 @@ module _ (t : Routine) (sets : List ℕ) (S : Walkable t sets) (u v : ℕ) (bloc
   unfolding nextCount
   other-next l c ne = rw (ne-eqb (header t l) v (other-header l ne))
 
-  module _ (left : LoopSet)
-      (left-is : (k : ℕ) → k < 64 → member left k ≡ (member (setAt sets (loopOf t u)) k && not (member (setAt sets (loopOf t v)) k))) where
+  module _ (here next left : LoopSet) (p : here ≡ setAt sets (loopOf t u)) (q : next ≡ setAt sets (loopOf t v))
+      (left-is : (k : ℕ) → k < 64 → member left k ≡ (member here k && not (member next k))) where
     left-leaves : (l : ℕ) → l < 64 → member left l ≡ leaves t u v l
     unfolding inside
-    left-leaves l h = left-is l h ∙ rw (S .sets-around .each (loopOf t u) l (nesting t sets S .innermost u block), S .sets-around .each (loopOf t v) l (nesting t sets S .innermost v (nesting t sets S .target u v block there)))
+    left-leaves l h =
+        left-is l h
+        ∙ rw (p, q, S .sets-around .each (loopOf t u) l (nesting t sets S .innermost u block), S .sets-around .each (loopOf t v) l (nesting t sets S .innermost v (nesting t sets S .target u v block there)))
 
-    pub counts-next : (counts : List ℕ) → length counts ≡ 64
-        → mapFrom (zeroIn left) 0 (set counts (loopOf t v) (nextCount t u v (loopOf t v) (getD counts (loopOf t v) 0))) ≡ mapFrom (nextCount t u v) 0 counts
-    counts-next counts size =
+    -- k are the visits to the header of the loop that the step ends in
+    pub counts-next : (counts : List ℕ) (k : ℕ) → length counts ≡ 64 → k ≡ nextCount t u v (loopOf t v) (getD counts (loopOf t v) 0)
+        → mapFrom (zeroIn left) 0 (set counts (loopOf t v) k) ≡ mapFrom (nextCount t u v) 0 counts
+    counts-next counts k size e =
         ext-getD 0 (mapFrom (zeroIn left) 0 after) (mapFrom (nextCount t u v) 0 counts)
-        (length-mapFrom (zeroIn left) 0 after ∙ length-set counts (loopOf t v) _ ∙ sym (length-mapFrom (nextCount t u v) 0 counts))
-        (λ j q.
-        let h : j < length after = omega (arith, length-mapFrom (zeroIn left) 0 after) in
-        let k : j < length counts = omega (arith, length-set counts (loopOf t v) here) in
-        mapped-at (zeroIn left) after j h ∙ at j k (ℕ-discrete j (loopOf t v)) ∙ sym (mapped-at (nextCount t u v) counts j k))
+        (length-mapFrom (zeroIn left) 0 after ∙ length-set counts (loopOf t v) k ∙ sym (length-mapFrom (nextCount t u v) 0 counts))
+        (λ j h.
+        let b : j < length after = omega (arith, length-mapFrom (zeroIn left) 0 after) in
+        let a : j < length counts = omega (arith, length-set counts (loopOf t v) k) in
+        mapped-at (zeroIn left) after j b ∙ at j a (ℕ-discrete j (loopOf t v)) ∙ sym (mapped-at (nextCount t u v) counts j a))
       where
-        here : ℕ
-        here = nextCount t u v (loopOf t v) (getD counts (loopOf t v) 0)
-
         after : List ℕ
-        after = set counts (loopOf t v) here
+        after = set counts (loopOf t v) k
 
         at : (j : ℕ) → j < length counts → Dec (j ≡ loopOf t v) → zeroIn left j (getD after j 0) ≡ nextCount t u v j (getD counts j 0)
-        at j k (yes e) =
-            rw (e, left-leaves (loopOf t v) (omega arith), inside-own t v, and-false (inside t u (loopOf t v)))
-            (getD-set-same counts (loopOf t v) here 0 (omega arith))
-        at j k (no ne) = rw (left-leaves j (omega arith), getD-set-other counts (loopOf t v) j here 0 ne) (other-next j (getD counts j 0) ne)
+        at j a (yes z) =
+            rw (z, left-leaves (loopOf t v) (omega arith), inside-own t v, and-false (inside t u (loopOf t v)))
+            (getD-set-same counts (loopOf t v) k 0 (omega arith) ∙ e)
+        at j a (no ne) = rw (left-leaves j (omega arith), getD-set-other counts (loopOf t v) j k 0 ne) (other-next j (getD counts j 0) ne)
 
 -- ---- the limit
 
@@ -169,10 +169,10 @@ module _ (t : Routine) (r : Run) (v : ℕ) where
     step-after-exit e = rw (lt-ltb v (blockCount t) block, eq-eqb (r .at) (exit t) e)
 
     module _ (on : r .at ≡ exit t → ⊥) where
-      pub step-no-edge : (b : Bool) → blockCount t ≤ missing → b ≡ (eqb (first t (r .at)) v || eqb (second t (r .at)) v) → not b ≡ true
+      pub step-no-edge : (sets : List ℕ) → Walkable t sets → (b : Bool) → b ≡ (eqb (first t (r .at)) v || eqb (second t (r .at)) v) → not b ≡ true
           → refusing r NoEdge ≡ stepped t r v
       unfolding stepped
-      step-no-edge b few found e = rw (lt-ltb v (blockCount t) block, ne-eqb (r .at) (exit t) on, edge-is t (r .at) v (omega arith), ← found, e)
+      step-no-edge sets S b found e = rw (lt-ltb v (blockCount t) block, ne-eqb (r .at) (exit t) on, edge-is t (r .at) v (omega (arith, S .ranged .sized .few-blocks)), ← found, e)
 
       module _ (there : edge t (r .at) v ≡ true) where
         pub step-over-limit : passesLimit t (next t (stateOf r) v) ≡ true → refusing r OverLimit ≡ stepped t r v

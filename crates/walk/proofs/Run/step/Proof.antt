@@ -1,10 +1,7 @@
 use native.Mathlib.Omega.{arith}
-use Prim.Native.Nat.{ℕ, _<_}
 use mathlib.Core.Path.{_≡_, _∙_}
-use mathlib.Core.Bool.{not, _&&_}
 use lib.ListN.{length, length-set}
-use Rattle.wcet.specs.Table.{Routine, loopOf}
-use Rattle.loopsets.specs.Sets.{member, setAt}
+use Rattle.wcet.specs.Table.{Routine, exit}
 use Rattle.nesting.specs.Columns.{routine}
 use Rattle.walk.proofs.Steps.{InStep, in-step, visitsAt, visits-found, counts-next, over-limit, within-limit, step-no-block, step-after-exit, step-no-edge, step-over-limit, step-moved}
 use borrow.Author.Needs.{needs}
@@ -19,6 +16,16 @@ use Rattle.walk.proofs.has_edge.Reads as has-edge-reads
 use Rattle.walk.proofs.reset.Reads as reset-reads
 use Rattle.walk.proofs.visits_after.Reads as visits-after-reads
 
+-- places on the way: where the edge is found, where the visits are, and where the counts are reset
+abbrev entry : tie.Else3 → tie.Start
+entry c = c .before .before .before .before .before .before .before .before .before .before .before .before
+
+abbrev found : tie.After-visits-after → tie.Else3
+found c = c .before .before .before .before .before .before .before
+
+abbrev counted : tie.After-reset → tie.After-visits-after
+counted c = c .before .before .before .before .before .before
+
 -- the routine of the nine columns
 abbrev table : tie.Start → Routine
 table s = let a = s .args in routine (a .cost .now) (a .loops .now) (a .first .now) (a .second .now) (a .figure .now) (a .parent .now) (a .header .now) (a .limit .now) (a .multiplier .now)
@@ -26,17 +33,20 @@ table s = let a = s .args in routine (a .cost .now) (a .loops .now) (a .first .n
 size : (s : tie.Start) → length (s .args .t1 .counts) ≡ 64
 size s = search needs
 
+on : (c : tie.Else3) → entry c .args .t1 .at ≡ exit (table (entry c)) → ⊥
+on c = c .before .before .if2 .left
+
 -- what is known once the edge is found
-passed : (c : tie.Else3) → InStep (table (c .before .before .before .before .before .before .before .before .before .before .before .before)) (c .before .before .before .before .before .before .before .before .before .before .before .before .args .t1) (c .before .before .before .before .before .before .before .before .before .before .before .before .args .v)
+passed : (c : tie.Else3) → InStep (table (entry c)) (entry c .args .t1) (entry c .args .v)
 passed c =
-    let s = c .before .before .before .before .before .before .before .before .before .before .before .before in
+    let s = entry c in
     in-step (table s) (s .args .around .now) (s .pre .0) (s .args .t1) (s .args .v) (s .pre .1) (omega arith) (c .before .has-edge .result) (c .before .has-edge .ensures) (c .if3 .left)
 
 -- the visits that the code finds are those of the definition
-visits : (c : tie.After-visits-after) → c .visits-after .result ≡ visitsAt (table (c .before .before .before .before .before .before .before .before .before .before .before .before .before .before .before .before .before .before .before)) (c .before .before .before .before .before .before .before .before .before .before .before .before .before .before .before .before .before .before .before .args .t1) (c .before .before .before .before .before .before .before .before .before .before .before .before .before .before .before .before .before .before .before .args .v)
+visits : (c : tie.After-visits-after) → c .visits-after .result ≡ visitsAt (table (entry (found c))) (entry (found c) .args .t1) (entry (found c) .args .v)
 visits c =
-    let s = c .before .before .before .before .before .before .before .before .before .before .before .before .before .before .before .before .before .before .before in
-    visits-found (table s) (s .args .around .now) (s .pre .0) (s .args .t1) (s .args .v) (s .pre .1) (passed (c .before .before .before .before .before .before .before) .there) (c .before .before .before .before .set-at .result) (c .before .contains .result) (c .visits-after .result)
+    let s = entry (found c) in
+    visits-found (table s) (s .args .around .now) (s .pre .0) (s .args .t1) (s .args .v) (s .pre .1) (passed (found c) .there) (c .before .before .before .before .set-at .result) (c .before .contains .result) (c .visits-after .result)
     (c .before .before .before .before .set-at .ensures) (c .before .contains .ensures) (c .visits-after .ensures)
 
 -- src/lib.rt:136:20
@@ -63,7 +73,7 @@ has-edge-requires c κs = search needs
 returns-3 : tie.Need-returns-3
 returns-3 c =
     let s = c .before .before .before .before .before .before .before .before .before .before .before .before in
-    step-no-edge (table s) (s .args .t1) (s .args .v) (omega arith) (c .before .before .if2 .left) (c .before .has-edge .result) (omega arith) (c .before .has-edge .ensures) (c .if3 .taken)
+    step-no-edge (table s) (s .args .t1) (s .args .v) (omega arith) (c .before .before .if2 .left) (s .args .around .now) (s .pre .0) (c .before .has-edge .result) (c .before .has-edge .ensures) (c .if3 .taken)
 
 -- src/lib.rt:150:17
 mul-l : tie.Need-mul-l
@@ -119,31 +129,32 @@ visits-after-requires c κs = omega (arith, passed (c .before .before .before .b
 
 -- src/lib.rt:153:12
 mul-if4 : tie.Need-mul-if4
-mul-if4 c = omega (arith, passed (c .before .before .before .before .before .before .before))
+mul-if4 c = omega (arith, passed (found c))
 
 -- src/lib.rt:153:12
 shared-slice-read-if4 : tie.Need-shared-slice-read-if4
-shared-slice-read-if4 c = omega (arith, passed (c .before .before .before .before .before .before .before .before))
+shared-slice-read-if4 c = omega (arith, passed (found (c .before)))
 
 -- src/lib.rt:155:13
 returns-4 : tie.Need-returns-4
 returns-4 c =
-    let s = c .before .before .before .before .before .before .before .before .before .before .before .before .before .before .before .before .before .before .before .before .before in
-    let in-range = passed (c .before .before .before .before .before .before .before .before .before) in
-    step-over-limit (table s) (s .args .t1) (s .args .v) (in-range .block) (c .before .before .before .before .before .before .before .before .before .before .before .if2 .left) (in-range .there)
-    (over-limit (table s) (s .args .around .now) (s .pre .0) (s .args .t1) (s .args .v) (s .pre .1) (in-range .there) (c .before .before .visits-after .result) (visits (c .before .before)) (c .if4 .taken))
+    let p = c .before .before in
+    let s = entry (found p) in
+    let in-range = passed (found p) in
+    step-over-limit (table s) (s .args .t1) (s .args .v) (in-range .block) (on (found p)) (in-range .there)
+    (over-limit (table s) (s .args .around .now) (s .pre .0) (s .args .t1) (s .args .v) (s .pre .1) (in-range .there) (p .visits-after .result) (visits p) (c .if4 .taken))
 
 -- src/lib.rt:157:9
 mul-self : tie.Need-mul-self
-mul-self c = omega (arith, passed (c .before .before .before .before .before .before .before .before .before))
+mul-self c = omega (arith, passed (found (c .before .before)))
 
 -- src/lib.rt:157:9
 element-write-self : tie.Need-element-write-self
-element-write-self c = omega (arith, passed (c .before .before .before .before .before .before .before .before .before))
+element-write-self c = omega (arith, passed (found (c .before .before)))
 
 -- src/lib.rt:158:46
 set-at-requires-2 : tie.Need-set-at-requires-2
-set-at-requires-2 c κs = omega (arith, passed (c .before .before .before .before .before .before .before .before .before .before))
+set-at-requires-2 c κs = omega (arith, passed (found (c .before .before .before)))
 
 -- src/lib.rt:158:33
 without-requires : tie.Need-without-requires
@@ -151,36 +162,34 @@ without-requires c κs = search needs
 
 -- src/lib.rt:158:9
 reset-requires : tie.Need-reset-requires
-reset-requires c κs = rw length-set (size (c .before .before .before .before .before .before .before .before .before .before .before .before .before .before .before .before .before .before .before .before .before .before .before .before))
+reset-requires c κs = rw length-set (size (entry (found (c .before .before .before .before .before))))
 
 -- src/lib.rt:160:22
 mul-self-2 : tie.Need-mul-self-2
-mul-self-2 c = omega (arith, passed (c .before .before .before .before .before .before .before .before .before .before .before .before .before))
+mul-self-2 c = omega (arith, passed (found (counted c)))
 
 -- src/lib.rt:160:22
 shared-slice-read-self : tie.Need-shared-slice-read-self
-shared-slice-read-self c = omega (arith, passed (c .before .before .before .before .before .before .before .before .before .before .before .before .before .before))
+shared-slice-read-self c = omega (arith, passed (found (counted (c .before))))
 
 -- src/lib.rt:160:22
 cast-self : tie.Need-cast-self
-cast-self c = omega (arith, passed (c .before .before .before .before .before .before .before .before .before .before .before .before .before .before))
+cast-self c = omega (arith, passed (found (counted (c .before))))
 
 -- src/lib.rt:160:9
 add-self : tie.Need-add-self
-add-self c = omega (arith, passed (c .before .before .before .before .before .before .before .before .before .before .before .before .before .before))
+add-self c = omega (arith, passed (found (counted (c .before))))
 
 -- src/lib.rt:119:5
 returns-5 : tie.Need-returns-5
 returns-5 c =
-    let s = c .before .before .before .before .before .before .before .before .before .before .before .before .before .before .before .before .before .before .before .before .before .before .before .before .before .before in
-    let in-range = passed (c .before .before .before .before .before .before .before .before .before .before .before .before .before .before) in
-    let k = c .before .before .before .before .before .before .before .visits-after .result in
-    let left : (j : ℕ) → j < 64 → member (c .before .before .without .result) j ≡ (member (setAt (s .args .around .now) (loopOf (table s) (s .args .t1 .at))) j && not (member (setAt (s .args .around .now) (loopOf (table s) (s .args .v))) j))
-    = λ j h. c .before .before .without .ensures j h ∙ rw (c .before .before .before .before .before .before .before .before .before .before .before .set-at .ensures, c .before .before .before .set-at2 .ensures) in
-    step-moved (table s) (s .args .t1) (s .args .v) (in-range .block) (c .before .before .before .before .before .before .before .before .before .before .before .before .before .before .before .before .if2 .left) (in-range .there)
-    (within-limit (table s) (s .args .around .now) (s .pre .0) (s .args .t1) (s .args .v) (s .pre .1) (in-range .there) k (visits (c .before .before .before .before .before .before .before)) (c .before .before .before .before .before .if4 .left))
+    let p = counted (c .before) in
+    let s = entry (found p) in
+    let in-range = passed (found p) in
+    step-moved (table s) (s .args .t1) (s .args .v) (in-range .block) (on (found p)) (in-range .there)
+    (within-limit (table s) (s .args .around .now) (s .pre .0) (s .args .t1) (s .args .v) (s .pre .1) (in-range .there) (p .visits-after .result) (visits p) (c .before .before .before .before .before .if4 .left))
     _
-    (c .before .reset .ensures ∙ rw (visits (c .before .before .before .before .before .before .before)) (counts-next (table s) (s .args .around .now) (s .pre .0) (s .args .t1 .at) (s .args .v) (s .pre .1 .at-block) (in-range .there) (c .before .before .without .result) left (s .args .t1 .counts) (size s)))
+    (c .before .reset .ensures ∙ counts-next (table s) (s .args .around .now) (s .pre .0) (s .args .t1 .at) (s .args .v) (s .pre .1 .at-block) (in-range .there) (c .before .before .before .before .before .before .before .before .before .before .before .set-at .result) (c .before .before .before .set-at2 .result) (c .before .before .without .result) (c .before .before .before .before .before .before .before .before .before .before .before .set-at .ensures) (c .before .before .before .set-at2 .ensures) (c .before .before .without .ensures) (s .args .t1 .counts) (p .visits-after .result) (size s) (visits p))
 
 pub step-spec : {M : Type 1} → statement M
 step-spec =
