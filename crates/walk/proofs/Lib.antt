@@ -3,3 +3,4 @@ pub mod Resets
 pub mod Steps
 pub mod Walks
 pub mod Replies
+pub mod Ranges
