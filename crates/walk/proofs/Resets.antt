@@ -1,38 +1,29 @@
 -- Resetting the counts of a set of loops, lowest loop first: resetting the rest gives the same counts as resetting the whole. Assumes nothing.
-use mathlib.Core.Path.{_≡_, refl, sym, _∙_, ap}
+use mathlib.Core.Path.{_≡_, refl, sym, _∙_}
 use mathlib.Core.Bool.{Bool, true, false, not, _&&_, and-true, true≢false}
 use mathlib.Core.List.{List}
 use Prim.Native.Nat.{ℕ, _≤_, _<_}
-use native.Mathlib.Nat.{zero-add}
 use native.Mathlib.Decide.{ℕ-discrete}
 use native.Mathlib.Omega.{arith}
 use borrow.Author.Tests.{eqb-false, ltb-true, ltb-false, ne-eqb, not-true}
 use lib.Dec.{eqb, ltb}
 use lib.ListN.{length, getD, set, length-set}
-use lib.Seq.{ext-getD, getD-set-same, getD-set-other}
+use lib.Seq.{getD-set-same, getD-set-other}
 use Rattle.lists.specs.Search.{if_then_else_}
 use Rattle.lists.specs.InPlace.{mapFrom}
 use Rattle.lists.proofs.Tests.{and-true as both-true}
-use Rattle.lists.proofs.InPlace.{length-mapFrom, getD-mapFrom}
+use Rattle.lists.proofs.InPlace.{mapped-alike, mapped-same}
 use Rattle.loopsets.specs.Sets.{member, LowestOf}
 use Rattle.loopsets.specs.declared.LoopSet.{LoopSet}
 use Rattle.walk.specs.Step.{zeroIn}
 
-pub mapped-at : (f : ℕ → ℕ → ℕ) (xs : List ℕ) (j : ℕ) → j < length xs → getD (mapFrom f 0 xs) j 0 ≡ f j (getD xs j 0)
-mapped-at f xs j h = getD-mapFrom f 0 xs j h ∙ ap (λ (n : ℕ). f n (getD xs j 0)) (zero-add j)
-
 module _ (counts : List ℕ) (rest : LoopSet) (l : ℕ) (size : length counts ≡ 64) (low : LowestOf rest l) where
   pub reset-done : 64 ≤ l → counts ≡ mapFrom (zeroIn rest) 0 counts
-  reset-done h = ext-getD 0 counts (mapFrom (zeroIn rest) 0 counts) (sym (length-mapFrom (zeroIn rest) 0 counts))
-      (λ j q. sym (mapped-at (zeroIn rest) counts j q ∙ rw (low .lower j (omega arith))))
+  reset-done h = mapped-same (zeroIn rest) counts (λ j q. rw (low .lower j (omega arith)))
 
   module _ (next : LoopSet) (below : l < 64) (less : (k : ℕ) → k < 64 → member next k ≡ (member rest k && not (eqb l k))) where
     pub reset-next : mapFrom (zeroIn rest) 0 counts ≡ mapFrom (zeroIn next) 0 (set counts l 0)
-    reset-next = ext-getD 0 (mapFrom (zeroIn rest) 0 counts) (mapFrom (zeroIn next) 0 (set counts l 0))
-        (length-mapFrom (zeroIn rest) 0 counts ∙ sym (length-mapFrom (zeroIn next) 0 (set counts l 0) ∙ length-set counts l 0))
-        (λ j q.
-        let h : j < length counts = omega (arith, length-mapFrom (zeroIn rest) 0 counts) in
-        mapped-at (zeroIn rest) counts j h ∙ at j (omega arith) (ℕ-discrete j l) ∙ sym (mapped-at (zeroIn next) (set counts l 0) j (omega (arith, length-set counts l 0))))
+    reset-next = mapped-alike (zeroIn rest) (zeroIn next) counts (set counts l 0) (sym (length-set counts l 0)) (λ j h. at j (omega arith) (ℕ-discrete j l))
       where
         at : (j : ℕ) → j < 64 → Dec (j ≡ l) → zeroIn rest j (getD counts j 0) ≡ zeroIn next j (getD (set counts l 0) j 0)
         at j h (yes e) = rw (e, getD-set-same counts l 0 0 (omega arith)) (both (member rest l) (member next l) (low .present below))

@@ -8,10 +8,10 @@ use native.Mathlib.Omega.{arith}
 use lib.Dec.{eqb, ltb, eqb·suc-zero}
 use borrow.Author.Tests.{eq-eqb, ne-eqb, lt-ltb, le-ltb, ltb-true, ltb-false, not-false}
 use lib.ListN.{length, getD, set, replicate, length-set, List·getD-eq-default}
-use lib.Seq.{ext-getD, getD-set-same, getD-set-other}
+use lib.Seq.{getD-set-same, getD-set-other}
 use Rattle.lists.specs.Search.{if_then_else_}
 use Rattle.lists.specs.InPlace.{mapFrom}
-use Rattle.lists.proofs.InPlace.{length-mapFrom}
+use Rattle.lists.proofs.InPlace.{mapped-alike}
 use Rattle.wcet.specs.Table.{Routine, blockCount, loopCount, exit, missing, cost, loopOf, first, second, header, limit, someEdge, edge, inside}
 use Rattle.wcet.specs.Rules.{isHeader}
 use Rattle.wcet.specs.Run.{start, leaves, nextCount, next, passesLimit}
@@ -26,7 +26,6 @@ use Rattle.walk.specs.declared.Run.{Run}
 use Rattle.walk.specs.declared.Answer.the-variants.{Moved, NoBlock, AfterExit, NoEdge, OverLimit}
 use Rattle.walk.specs.Step.{stateOf, refusing, stepped, visitsAfter, zeroIn, Walkable, Standing}
 use Rattle.walk.proofs.Facts.{nesting, not-entry}
-use Rattle.walk.proofs.Resets.{mapped-at}
 
 -- ---- the edge
 
@@ -75,13 +74,8 @@ module _ (t : Routine) (sets : List ℕ) (S : Walkable t sets) (u v : ℕ) (bloc
     -- k are the visits to the header of the loop that the step ends in
     pub counts-next : (counts : List ℕ) (k : ℕ) → length counts ≡ 64 → k ≡ nextCount t u v (loopOf t v) (getD counts (loopOf t v) 0)
         → mapFrom (zeroIn left) 0 (set counts (loopOf t v) k) ≡ mapFrom (nextCount t u v) 0 counts
-    counts-next counts k size e =
-        ext-getD 0 (mapFrom (zeroIn left) 0 after) (mapFrom (nextCount t u v) 0 counts)
-        (length-mapFrom (zeroIn left) 0 after ∙ length-set counts (loopOf t v) k ∙ sym (length-mapFrom (nextCount t u v) 0 counts))
-        (λ j h.
-        let b : j < length after = omega (arith, length-mapFrom (zeroIn left) 0 after) in
-        let a : j < length counts = omega (arith, length-set counts (loopOf t v) k) in
-        mapped-at (zeroIn left) after j b ∙ at j a (ℕ-discrete j (loopOf t v)) ∙ sym (mapped-at (nextCount t u v) counts j a))
+    counts-next counts k size e = mapped-alike (zeroIn left) (nextCount t u v) after counts (length-set counts (loopOf t v) k)
+        (λ j h. at j (omega (arith, length-set counts (loopOf t v) k)) (ℕ-discrete j (loopOf t v)))
       where
         after : List ℕ
         after = set counts (loopOf t v) k

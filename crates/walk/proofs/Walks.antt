@@ -11,7 +11,7 @@ use lib.ListN.{length, getD, drop, drop-of-length-le, List·getD-eq-default}
 use lib.Seq.{drop-cons}
 use Rattle.lists.specs.Search.{if_then_else_}
 use Rattle.lists.specs.InPlace.{mapFrom}
-use Rattle.lists.proofs.InPlace.{length-mapFrom}
+use Rattle.lists.proofs.InPlace.{length-mapFrom, mapped-at}
 use Rattle.wcet.specs.Table.{Routine, blockCount, loopCount, exit, cost, loopOf, edge}
 use Rattle.wcet.specs.Rules.{Reply, accepted, refused}
 use Rattle.wcet.specs.Run.{State, start, leaves, nextCount, next, passesLimit, runCost}
@@ -27,7 +27,6 @@ use Rattle.walk.specs.declared.WalkReply.the-variants as reply
 use Rattle.walk.specs.Step.{stateOf, moved, refusing, stepped, Walkable, Standing}
 use Rattle.walk.specs.Reply.{meaning, endOf}
 use Rattle.walk.proofs.Facts.{nesting}
-use Rattle.walk.proofs.Resets.{mapped-at}
 use Rattle.walk.proofs.Steps.{other-next, step-moved}
 
 -- ---- one step
