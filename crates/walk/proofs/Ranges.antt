@@ -1,5 +1,5 @@
 -- How large the numbers of a reply to a walk can be: the place of a refusal, and the cost of an accepted walk. Assumes nothing.
-use mathlib.Core.Path.{_≡_, refl, sym, _∙_, ap}
+use mathlib.Core.Path.{_≡_, refl, ap}
 use mathlib.Core.Bool.{Bool, true, false, not}
 use mathlib.Core.List.{List, [], _∷_, _++_}
 use mathlib.Core.Logic.{_⊎_, inl, inr}
@@ -12,7 +12,7 @@ use lib.ListN.{length, drop}
 use Rattle.lists.specs.Search.{if_then_else_, firstBelow}
 use Rattle.lists.proofs.Tests.{or-false, and-true}
 use Rattle.lists.proofs.Search.{not-found, found-lowest}
-use Rattle.wcet.specs.Table.{Routine, blockCount, loopCount, exit, cost, edge}
+use Rattle.wcet.specs.Table.{Routine, blockCount, loopCount, exit, edge}
 use Rattle.wcet.specs.Rules.{Reply, accepted, refused, Rule, refusedAt, check, sizesWrong, structureRules}
 use Rattle.wcet.specs.Run.{path, run, State, start, next, passesLimit, countedRun, runCost}
 use Rattle.wcet.specs.Walk.{Walked, walked, longestWalk, lengthRule, walkFrom, walkBlocks, walkReply}
