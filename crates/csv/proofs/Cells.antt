@@ -1,25 +1,24 @@
 -- A plain number with a comma behind it, found and read in one scan: it is the field that the grammar finds, and says what it says.
 -- Assumes nothing.
 use mathlib.Core.Path.{_≡_, refl, sym, ap, subst, _∙_}
-use mathlib.Core.Bool.{Bool, true, false, cond, not, _&&_, _||_, false≢true}
+use mathlib.Core.Bool.{Bool, true, false, false≢true}
 use mathlib.Core.List.{List, [], _∷_, _++_}
 use Prim.Native.Nat.{ℕ, zero, suc, _+_, _-_, _*_, _^_, _<_, _≤_}
-use native.Mathlib.Numerals.{add-one}
 use native.Mathlib.Omega.{arith}
-use borrow.Author.Tests.{eqb-true, leb-true, ne-eqb, le-leb, lt-leb}
+use borrow.Author.Tests.{eqb-true, leb-true, ne-eqb, le-leb}
 use lib.ListN.{length, take, drop, getD, length-drop, take-append-drop}
 use lib.IntN.{ℤ, pos, negsuc, _-ℤ_}
 use mir.Syntax.{w64}
 use mir.Val.{SFits, toZ, ofZ}
 use lib.Seq.{take-all, take-append-seam, length-take-le, take-suc, getD-drop, getD-take, drop-drop}
 use lib.Dec.{leb, eqb}
-use Rattle.csv.specs.Grammar.{isQuote, isComma, isCr, isLf, isText, most, width, comma, ends, field, following, recordOf, only, joined}
-use Rattle.csv.specs.Number.{digit, digits, decimal, natural, content, unsigned, integer, signed}
-use Rattle.csv.specs.Place.{gathered, RunAt, CommaAt, CellAt, LineEnd, EndAt}
+use Rattle.csv.specs.Grammar.{isText, most, width, comma, ends, field, recordOf, only, joined}
+use Rattle.csv.specs.Number.{digit, digits, decimal, natural, unsigned, integer, signed}
+use Rattle.csv.specs.Place.{RunAt, CommaAt, LineEnd, EndAt}
 use Rattle.csv.specs.Write.{bare, allText}
 use Rattle.csv.specs.declared.Run.{Run}
 use Rattle.csv.specs.declared.Value.{Value}
-use Rattle.csv.specs.declared.Value.the-variants.{Number, Missing, Bad}
+use Rattle.csv.specs.declared.Value.the-variants.{Number, Missing}
 use Rattle.csv.specs.declared.Ending.{Ending}
 use Rattle.csv.specs.declared.Ending.the-variants.{CrLf}
 use Rattle.csv.specs.declared.SignedValue.the-variants.{Number as Signed}

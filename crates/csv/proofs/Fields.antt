@@ -1,24 +1,22 @@
--- The end of a field, at a position of a text: what one byte more says, and each way through the functions up to `find_field`.
+-- The end of a field, at a position of a text: what one byte more says, and each way through the functions up to `field_end`.
 -- Assumes nothing.
-use mathlib.Core.Path.{_≡_, refl, sym, ap, subst, _∙_}
-use mathlib.Core.Bool.{Bool, true, false, cond, not, _||_}
+use mathlib.Core.Path.{_≡_, refl, sym, ap, _∙_}
+use mathlib.Core.Bool.{Bool, true, false, cond}
 use mathlib.Core.Logic.{_⊎_, inl, inr}
-use mathlib.Core.List.{List, [], _∷_}
+use mathlib.Core.List.{List, _∷_}
 use Prim.Native.Nat.{ℕ, zero, suc, _+_, _-_, _<_, _≤_}
 use native.Mathlib.Nat.{add-suc, add-zero}
 use native.Mathlib.Numerals.{add-one, sub-one}
 use native.Mathlib.Omega.{arith}
-use borrow.Author.Tests.{eq-eqb, ne-eqb, le-leb, lt-leb, lt-ltb, le-ltb}
-use lib.ListN.{length, take, drop, getD, drop-of-length-le}
+use borrow.Author.Tests.{eq-eqb, ne-eqb, le-leb, lt-leb}
+use lib.ListN.{length, drop, getD, drop-of-length-le}
 use lib.Seq.{drop-cons, drop-drop}
-use lib.Dec.{leb, eqb, leb·zero, leb·suc-suc, leb·suc-zero}
-use Rattle.csv.specs.Grammar.{Extent, size, unclosed, longer, plain, inside, after, extent, isQuote, isComma, isCr, isLf, isText, Field, comma, ends, broken, following, lineFeed, limited, field}
+use lib.Dec.{leb, leb·zero, leb·suc-suc, leb·suc-zero}
+use Rattle.csv.specs.Grammar.{Extent, size, unclosed, longer, plain, inside, after, extent, isQuote, isText, broken, following, lineFeed, limited, field}
 use Rattle.csv.specs.Place.{closeAt, foundAt}
 use Rattle.csv.specs.declared.Close.{Close}
 use Rattle.csv.specs.declared.Close.the-variants.{At, Never}
-use Rattle.csv.specs.declared.Found.{Found}
 use Rattle.csv.specs.declared.Found.the-variants.{Comma, Ends, Broken}
-use Rattle.csv.specs.declared.Ending.{Ending}
 use Rattle.csv.specs.declared.Ending.the-variants.{CrLf, EndOfText}
 
 -- one byte more: one place on, and one byte less of room
@@ -156,7 +154,7 @@ never (size n) t at q = go (leb n 64) refl q
     go false p q = rw p
 never unclosed t at q = refl
 
--- Each way through `find_field`; r is what `field_close` gave.
+-- Each way through `field_end`; r is what `field_close` gave.
 module _ (s : List ℕ) (at : ℕ) {r : Close} (q : r ≡ closeAt at 64 (extent (drop at s))) where
   pub find-never : r ≡ Never → Broken ≡ foundAt at (field (drop at s))
   unfolding field

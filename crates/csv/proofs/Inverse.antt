@@ -1,17 +1,16 @@
 -- Reading what RFC 4180 writes gives what was written, and every text whose records are all sound is written so.
 -- Assumes nothing.
-use mathlib.Core.Path.{_≡_, refl, sym, ap, subst, _∙_}
-use mathlib.Core.Bool.{Bool, true, false, cond, not, _&&_, _||_, true≢false, false≢true}
-use mathlib.Core.List.{List, [], _∷_, _++_, map, append-assoc, append-nil}
+use mathlib.Core.Path.{_≡_, refl, sym, ap, _∙_}
+use mathlib.Core.Bool.{Bool, true, false, cond, not, _&&_, _||_, false≢true}
+use mathlib.Core.List.{List, [], _∷_, _++_, map, append-assoc}
 use Prim.Native.Nat.{ℕ, zero, suc, _+_, _-_, _<_, _≤_}
-use native.Mathlib.Nat.{add-zero}
 use native.Mathlib.Numerals.{add-one}
 use native.Mathlib.Omega.{arith}
-use borrow.Author.Tests.{eqb-true, leb-true, eq-eqb, ne-eqb, le-leb}
+use borrow.Author.Tests.{eqb-true, leb-true, le-leb}
 use lib.ListN.{length, take, drop, length-append, length-drop, take-append-drop}
-use lib.Seq.{length-take-le, take-append-seam, drop-append-seam, drop-append-add, take-append-add, take-all, take-length, drop-drop, drop-length, drop-nil}
-use lib.Dec.{leb, eqb}
-use Rattle.csv.specs.Grammar.{isQuote, isComma, isCr, isLf, isText, Extent, size, unclosed, longer, plain, inside, after, extent, most, width, Field, comma, ends, broken, lineFeed, following, limited, field, Record, torn, only, joined, recordWith, recordIn, recordOf, onward, recordsIn, records}
+use lib.Seq.{length-take-le, take-append-seam, drop-append-seam, drop-append-add, drop-drop}
+use lib.Dec.{leb}
+use Rattle.csv.specs.Grammar.{isQuote, isComma, isCr, isLf, isText, Extent, size, unclosed, longer, plain, inside, after, extent, most, width, Field, comma, ends, broken, lineFeed, following, limited, field, Record, recordWith, recordIn, recordOf, recordsIn, records}
 use Rattle.csv.specs.Number.{undoubled, content}
 use Rattle.csv.specs.Write.{Entry, bare, quoted, textOf, doubled, written, allText, Unmarked, Writable, Line, writeFields, writeLine, write, AllWritable, LastLine, Allowed, recordAs, recordsAs, AllSound, Written}
 use Rattle.csv.specs.declared.Ending.{Ending}

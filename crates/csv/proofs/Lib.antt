@@ -5,3 +5,4 @@ pub mod Splits
 pub mod Numbers
 pub mod Inverse
 pub mod Cells
+pub mod Numerals

@@ -1,17 +1,14 @@
 -- A field lies within its text, and a record is its first field and the record following the comma, however much is counted.
 -- Assumes nothing.
-use mathlib.Core.Path.{_≡_, refl, sym, ap, ap₂, subst, _∙_}
+use mathlib.Core.Path.{_≡_, refl, ap}
 use mathlib.Core.Bool.{Bool, true, false, cond, false≢true}
 use mathlib.Core.List.{List, [], _∷_}
-use Prim.Native.Nat.{ℕ, zero, suc, _+_, _-_, _<_, _≤_}
-use native.Mathlib.Numerals.{sub-one}
+use Prim.Native.Nat.{ℕ, zero, suc, _+_, _<_, _≤_}
 use native.Mathlib.Omega.{arith}
-use lib.ListN.{length, take, drop, getD, length-drop, drop-of-length-le}
+use lib.ListN.{length, take, drop, length-drop}
 use lib.Dec.{leb}
-use lib.Seq.{drop-drop}
-use Rattle.csv.specs.declared.Ending.{Ending}
 use Rattle.csv.specs.declared.Ending.the-variants.{CrLf, EndOfText}
-use Rattle.csv.specs.Grammar.{Extent, size, unclosed, longer, plain, inside, after, extent, isQuote, isComma, isCr, isLf, isText, Field, comma, ends, width, broken, following, lineFeed, limited, field, Record, recordWith, recordIn, recordOf, joined, only, torn, onward, recordsIn, records}
+use Rattle.csv.specs.Grammar.{Extent, size, unclosed, longer, plain, inside, after, extent, isQuote, isComma, isCr, isLf, isText, Field, comma, ends, width, broken, following, lineFeed, limited, field, Record, recordWith, recordIn, recordOf, joined, onward, recordsIn, records}
 
 -- at most l bytes
 abbrev Bounded : ℕ → Extent → Type 0

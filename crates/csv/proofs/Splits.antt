@@ -1,21 +1,21 @@
 -- One turn of `scan_record`, and what the bounds that it notes say of the fields.
 -- Assumes nothing.
 use mathlib.Core.Path.{_≡_, refl, sym, ap, subst, _∙_}
-use mathlib.Core.Bool.{Bool, true, false, cond, _&&_, false≢true}
+use mathlib.Core.Bool.{Bool, true, false, cond, _&&_}
 use mathlib.Core.List.{List, [], _∷_}
 use Prim.Native.Nat.{ℕ, zero, suc, _+_, _-_, _<_, _≤_, max}
 use native.Mathlib.Nat.{add-zero}
 use native.Mathlib.Numerals.{add-one}
 use native.Mathlib.Omega.{arith}
 use borrow.Author.Tests.{lt-ltb, le-ltb, le-leb, lt-leb}
-use lib.ListN.{length, take, drop, getD, set, replicate, length-drop, length-take, length-set, getD-replicate}
+use lib.ListN.{length, take, drop, getD, set, length-drop, length-take, length-set, getD-replicate}
 use lib.Seq.{drop-drop, getD-set-same, getD-set-other, length-take-le}
 use native.Mathlib.Decide.{decLe}
 use lib.Dec.{leb, ltb, leb·zero}
 use Rattle.csv.specs.Grammar.{Field, comma, ends, broken, width, field, Record, recordOf, recordIn, recordWith, joined, only, torn}
 use Rattle.csv.specs.Place.{foundAt, noPlaces, note, noted, startsOf, stopsOf, splitOf, fieldAt}
 use Rattle.csv.specs.declared.Ending.{Ending}
-use Rattle.csv.specs.declared.Ending.the-variants.{CrLf, EndOfText}
+use Rattle.csv.specs.declared.Ending.the-variants.{EndOfText}
 use Rattle.csv.specs.declared.Found.{Found}
 use Rattle.csv.specs.declared.Found.the-variants.{Comma, Ends, Broken}
 use Rattle.csv.specs.declared.Split.{Split}
@@ -28,7 +28,7 @@ put-in places i x h = rw (lt-ltb i 8 h)
 pub put-out : (places : List ℕ) (i x : ℕ) → 8 ≤ i → places ≡ note places i x
 put-out places i x h = rw (le-ltb i 8 h)
 
--- Each way through `field_part`.
+-- Each way through `find_field`.
 module _ (s starts stops : List ℕ) (i : ℕ) where
   pub part-none : 8 ≤ i → [] ≡ fieldAt s starts stops i
   part-none h = rw (le-ltb i 8 h)
@@ -47,7 +47,7 @@ module _ (s starts stops : List ℕ) (i : ℕ) where
     pub part-is : getD stops i 0 ≤ length s → take (getD stops i 0 - getD starts i 0) (drop (getD starts i 0) s) ≡ fieldAt s starts stops i
     part-is l = rw (lt-ltb i 8 h, le-leb (getD stops i 0) (length s) l)
 
--- What an answer of `find_field` says of the field.
+-- What an answer of `field_end` says of the field.
 comma-of : (p e : ℕ) (f : Field) → Comma e ≡ foundAt p f → (n : ℕ) × (f ≡ comma n) × (e ≡ p + n)
 comma-of p e (comma n) q = (n, refl, cc)
 comma-of p e (ends x n) q = absurd (let z : _≡_ {A = ℕ} 0 1 = cc in omega arith)
@@ -76,7 +76,7 @@ module _ (starts stops : List ℕ) (count p e : ℕ) (w : List ℕ) (d : p + len
   unfolding noted startsOf stopsOf
   split-only n v x m = λ i. record { starts = note starts count p; ends = note stops count (d i); count = count + 1; next = m i; sound = true; ending = x }
 
--- Each way through a turn of `scan_record` at the field that starts at p; r is what `find_field` gave, and x is the split of the whole record.
+-- Each way through a turn of `scan_record` at the field that starts at p; r is what `field_end` gave, and x is the split of the whole record.
 module _ (s : List ℕ) (p : ℕ) {r : Found} (q : r ≡ foundAt p (field (drop p s))) where
   module _ (e : ℕ) (w : r ≡ Comma e) where
     at-comma : (n : ℕ) × (field (drop p s) ≡ comma n) × (e ≡ p + n)
@@ -195,7 +195,7 @@ laid-field s p [] h (suc j) = rw leb·zero
 laid-field s p (w ∷ ws) h zero = let e : p + length w - p ≡ length w = omega arith in rw e (h .0)
 laid-field s p (w ∷ ws) h (suc j) = laid-field s (p + length w + 1) ws (h .1) j
 
--- what `field_part` gives of the bounds that `scan_record` noted is the field
+-- what `find_field` gives of the bounds that `scan_record` noted is the field
 pub split-field : (s : List ℕ) (p i : ℕ) → i < 8 → fieldAt s (noted noPlaces 0 (startsOf p (recordOf (drop p s) .fields))) (noted noPlaces 0 (stopsOf p (recordOf (drop p s) .fields))) i ≡ getD (recordOf (drop p s) .fields) i []
 split-field s p i h =
     let ws : List (List ℕ) = recordOf (drop p s) .fields in

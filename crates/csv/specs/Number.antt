@@ -5,7 +5,7 @@ use mathlib.Core.Bool.{Bool, true, false, cond, not, _&&_}
 use mathlib.Core.List.{List, [], _∷_}
 use lib.ListN.{length, take}
 use lib.Dec.{leb, eqb}
-use lib.IntN.{ℤ, pos, negsuc}
+use lib.IntN.{pos, negsuc}
 use Rattle.csv.specs.declared.Value.{Value}
 use Rattle.csv.specs.declared.Value.the-variants.{Number, Missing, Bad}
 use Rattle.csv.specs.declared.SignedValue.{SignedValue}

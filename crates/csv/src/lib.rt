@@ -2,7 +2,7 @@
 ghost use mathlib.Core.Path.{_≡_};
 ghost use mathlib.Core.Bool.{true};
 ghost use Prim.Native.Nat.{_+_, _-_, _^_, _≤_, _<_};
-ghost use lib.ListN.{length, take, drop, getD};
+ghost use lib.ListN.{length, drop, getD};
 ghost use Rattle.csv.specs.Grammar.{isText, plain, inside, after, extent, field, recordOf, width};
 ghost use Rattle.csv.specs.Number.{natural, integer, unsigned, signed};
 ghost use Rattle.csv.specs.Place.{closeAt, foundAt, splitOf, noPlaces, note, fieldAt, inner, gathered, RunAt, CellAt, LineEnd, LastAt};
@@ -148,7 +148,7 @@ fn field_close(text: &[u8], at: usize) -> Close
 }
 
 // The end of the field that starts at `at`, by what follows it.
-pub fn find_field(text: &[u8], at: usize) -> Found
+fn field_end(text: &[u8], at: usize) -> Found
     ensures { λ r. ⌜ r ≡ foundAt at (field (drop at (now (text .entry)))) ⌝ }
 {
     let Close::At(end) = field_close(text, at) else {
@@ -202,7 +202,7 @@ pub fn scan_record(text: &[u8], at: usize) -> Split
     let mut count: usize = 0;
     let mut p = at;
     loop {
-        match find_field(text, p) {
+        match field_end(text, p) {
             Found::Comma(e) => {
                 put(&mut starts, count, p);
                 put(&mut ends, count, e);
@@ -235,8 +235,9 @@ pub fn scan_record(text: &[u8], at: usize) -> Split
     }
 }
 
-// Field i of a record, as written: a part of the caller's text, by the bounds that `scan_record` noted. It is empty where they lie outside the text.
-pub fn field_part<'a>(text: &'a [u8], starts: &[usize; 8], ends: &[usize; 8], i: usize) -> &'a [u8]
+// The field finder: field i of a record as written, a part of the caller's text and no copy, by the bounds that `scan_record` noted. It is
+// empty where they lie outside the text.
+pub fn find_field<'a>(text: &'a [u8], starts: &[usize; 8], ends: &[usize; 8], i: usize) -> &'a [u8]
     ensures { λ r. ⌜ now r ≡ fieldAt (now (text .entry)) (now (starts .entry)) (now (ends .entry)) i ⌝ }
 {
     if i >= 8 {

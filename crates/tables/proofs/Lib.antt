@@ -3,3 +3,4 @@ pub mod Rows
 pub mod QuickRows
 pub mod Passes
 pub mod Whole
+pub mod Texts

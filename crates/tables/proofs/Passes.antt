@@ -4,12 +4,12 @@ use mathlib.Core.Path.{_≡_, refl, sym, ap, subst, _∙_}
 use mathlib.Core.Bool.{Bool, true, false, cond}
 use mathlib.Core.Logic.{_⊎_, inl, inr}
 use mathlib.Core.List.{List, [], _∷_, map}
-use Prim.Native.Nat.{ℕ, zero, suc, _+_, _-_, _<_, _≤_, _^_}
+use Prim.Native.Nat.{ℕ, suc, _+_, _-_, _<_, _≤_, _^_}
 use native.Mathlib.Nat.{add-zero}
 use native.Mathlib.Numerals.{add-one}
 use native.Mathlib.Omega.{arith}
 use borrow.Author.Tests.{ltb-true}
-use lib.ListN.{length, getD, drop, set, length-drop}
+use lib.ListN.{length, drop, set, length-drop}
 use lib.Seq.{sets, drop-drop}
 use lib.Dec.{eqb, ltb}
 use lib.IntN.{ℤ}
@@ -28,14 +28,12 @@ use Rattle.csv.proofs.Numbers.{signed-fits}
 use Rattle.csv.proofs.Records.{Spans, record-spans, records-none, records-step}
 use Rattle.tables.proofs.Row.{the-type}
 use Rattle.tables.specs.Row.{needed, neededSigned, orMissing, blockOf, loopOf, rowOf, costOf, innermostOf, firstOf, secondOf, figureOf, parentOf, headOf, limitOf, multiplierOf}
-use Rattle.tables.specs.Table.{inTurn, placed, fieldOf, judge, End, all, refused, Reading, stopped, onward, reading}
+use Rattle.tables.specs.Table.{inTurn, placed, fieldOf, judge, End, all, stopped, onward, reading}
 use Rattle.tables.specs.Place.{stepOf, checkedOf, checkedBy}
-use Rattle.tables.specs.declared.Shape.{Shape}
 use Rattle.tables.specs.declared.Shape.the-variants.{Blocks, Loops}
 use Rattle.tables.specs.declared.Row.{Row}
 use Rattle.tables.specs.declared.Row.the-variants.{Block, Loop, Bad}
 use Rattle.tables.specs.declared.Layout.{Layout}
-use Rattle.tables.specs.declared.Verdict.{Verdict}
 use Rattle.tables.specs.declared.Verdict.the-variants.{Taken, Fault}
 use Rattle.tables.specs.declared.Step.{Step}
 use Rattle.tables.specs.declared.Checked.{Checked}

@@ -1,24 +1,23 @@
 -- A block that is read in one scan is the block that its record says.
 -- Assumes nothing.
 use mathlib.Core.Path.{_≡_, refl, sym, ap, subst, _∙_}
-use mathlib.Core.Bool.{true}
 use mathlib.Core.List.{List, [], _∷_}
 use Prim.Native.Nat.{ℕ, _+_, _-_, _<_, _≤_, _^_}
 use native.Mathlib.Omega.{arith}
 use borrow.Author.Tests.{eq-eqb}
-use lib.ListN.{length, getD, take, drop, length-drop}
+use lib.ListN.{length, take, drop, length-drop}
 use lib.IntN.{ℤ}
 use mir.Syntax.{w16, w32, w64}
 use mir.Val.{Fits, toZ, ofZ}
 use mir.Facts.{toZ-ofZ}
-use Rattle.csv.specs.Grammar.{Record, recordOf, comma, ends, broken, Field, field, width}
+use Rattle.csv.specs.Grammar.{recordOf, field}
 use Rattle.csv.specs.Number.{unsigned, signed}
 use Rattle.csv.specs.Place.{CommaAt, CellAt, EndAt, LastAt}
 use Rattle.csv.specs.declared.Value.{Value}
 use Rattle.csv.specs.declared.Value.the-variants.{Number, Missing}
 use Rattle.csv.specs.declared.SignedValue.the-variants.{Number as Signed}
 use Rattle.csv.specs.declared.Cell.{Cell}
-use Rattle.csv.specs.declared.Cell.the-variants.{Number as CellNumber, Missing as CellMissing, Other}
+use Rattle.csv.specs.declared.Cell.the-variants.{Number as CellNumber, Missing as CellMissing}
 use Rattle.csv.specs.declared.LastCell.{LastCell}
 use Rattle.csv.specs.declared.LastCell.the-variants.{Number as LastNumber}
 use Rattle.csv.proofs.Numbers.{signed-fits}

@@ -1,21 +1,20 @@
 -- Each way through the functions up to `row_at`: what the fields of a record say of its verdict.
 -- Assumes nothing.
-use mathlib.Core.Path.{_≡_, refl, sym, ap, subst, _∙_}
-use mathlib.Core.Bool.{Bool, true, false, cond}
+use mathlib.Core.Path.{_≡_, refl, sym, ap, _∙_}
+use mathlib.Core.Bool.{true, false}
 use mathlib.Core.Logic.{_⊎_, inl, inr}
-use mathlib.Core.List.{List, [], _∷_}
-use Prim.Native.Nat.{ℕ, zero, suc, _+_, _-_, _<_, _≤_, _^_}
+use mathlib.Core.List.{List}
+use Prim.Native.Nat.{ℕ, _+_, _-_, _<_, _≤_, _^_}
 use native.Mathlib.Nat.{zero-add}
 use native.Mathlib.Omega.{arith}
 use borrow.Author.Tests.{eq-eqb, ne-eqb, lt-ltb, le-ltb}
-use lib.ListN.{length, getD, drop}
-use lib.Dec.{eqb, ltb}
+use lib.ListN.{length, drop}
 use lib.IntN.{ℤ}
 use mir.Syntax.{w16, w32, w64}
-use mir.Val.{Fits, SFits, toZ, ofZ}
+use mir.Val.{Fits, toZ, ofZ}
 use mir.Facts.{toZ-ofZ}
 use denote.Enum.Declared.{tagOf}
-use Rattle.csv.specs.Grammar.{Record, recordOf}
+use Rattle.csv.specs.Grammar.{recordOf}
 use Rattle.csv.specs.Number.{unsigned, signed}
 use Rattle.csv.specs.Place.{splitOf, noPlaces, noted, startsOf, stopsOf, fieldAt}
 use Rattle.csv.specs.declared.Split.{Split}
@@ -27,7 +26,7 @@ use Rattle.csv.proofs.Value.{the-type}
 use Rattle.csv.proofs.SignedValue as signed-enum
 use Rattle.csv.proofs.Numbers.{unsigned-fits, signed-fits}
 use Rattle.csv.proofs.Splits.{split-field}
-use Rattle.tables.specs.Row.{needed, neededSigned, orMissing, blockOf, loopOf, rowOf}
+use Rattle.tables.specs.Row.{needed, neededSigned, orMissing, rowOf}
 use Rattle.tables.specs.Table.{inTurn, placed, fieldOf, judge}
 use Rattle.tables.specs.Place.{stepOf}
 use Rattle.tables.specs.declared.Shape.{Shape}
@@ -37,7 +36,6 @@ use Rattle.tables.specs.declared.Row.the-variants.{Block, Loop, Bad}
 use Rattle.tables.specs.declared.Layout.{Layout}
 use Rattle.tables.specs.declared.Verdict.{Verdict}
 use Rattle.tables.specs.declared.Verdict.the-variants.{Taken, Fault}
-use Rattle.tables.specs.declared.Step.{Step}
 
 -- One field, by width.
 pub unsigned-in : {u w : List ℕ} {v : Value} (limit : ℕ) → u ≡ w → v ≡ unsigned limit u → v ≡ unsigned limit w

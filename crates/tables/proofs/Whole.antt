@@ -1,14 +1,14 @@
 -- What the two passes leave together, and which reading a whole text has.
 -- Assumes nothing.
-use mathlib.Core.Path.{_≡_, refl, sym, ap, subst, _∙_}
+use mathlib.Core.Path.{_≡_, refl, sym, ap, _∙_}
 use mathlib.Core.Bool.{Bool, true, false, cond}
 use mathlib.Core.List.{List, [], _∷_, map}
-use Prim.Native.Nat.{ℕ, zero, suc, _+_, _-_, _<_, _≤_, min}
+use Prim.Native.Nat.{ℕ, suc, _+_, _<_, _≤_}
 use native.Mathlib.Nat.{zero-add}
 use native.Mathlib.Decide.{ℕ-discrete}
 use native.Mathlib.Omega.{arith}
 use borrow.Author.Tests.{eq-eqb, ne-eqb, le-leb, lt-leb}
-use lib.ListN.{length, drop, set, length-drop}
+use lib.ListN.{length, drop, set}
 use lib.Seq.{sets}
 use lib.Dec.{eqb, leb}
 use Rattle.csv.specs.Grammar as grammar
@@ -16,11 +16,10 @@ use Rattle.csv.specs.Grammar.{Record, recordOf, records}
 use Rattle.csv.specs.Place.{splitOf, noPlaces}
 use Rattle.csv.specs.declared.Split.{Split}
 use Rattle.csv.proofs.Records.{Spans, record-spans, records-none, records-step}
-use Rattle.tables.specs.Row.{columnsOf, mostRows, costOf, innermostOf, firstOf, secondOf, figureOf, parentOf, headOf, limitOf, multiplierOf}
-use Rattle.tables.specs.Table.{layoutOf, judge, End, all, refused, Reading, stopped, onward, reading, headed, tableOf}
-use Rattle.tables.specs.Columns.{replyBy, replyOf, acceptedBy, accepted, over, BlockColumns, LoopColumns, shortestBlock, shortestLoop, BlocksDone, LoopsDone}
+use Rattle.tables.specs.Row.{costOf, innermostOf, firstOf, secondOf, figureOf, parentOf, headOf, limitOf, multiplierOf}
+use Rattle.tables.specs.Table.{layoutOf, judge, End, all, refused, stopped, onward, reading, headed, tableOf}
+use Rattle.tables.specs.Columns.{replyOf, accepted, over, BlockColumns, LoopColumns, shortestBlock, shortestLoop, BlocksDone, LoopsDone}
 use Rattle.tables.specs.Place.{checkedBy, checkedOf, rowsAt, BlocksRoom, BlocksFilled, LoopsRoom, LoopsFilled}
-use Rattle.tables.specs.declared.Shape.{Shape}
 use Rattle.tables.specs.declared.Shape.the-variants.{Blocks, Loops}
 use Rattle.tables.specs.declared.Layout.{Layout}
 use Rattle.tables.specs.declared.Row.{Row}
@@ -28,7 +27,6 @@ use Rattle.tables.specs.declared.Verdict.{Verdict}
 use Rattle.tables.specs.declared.Verdict.the-variants.{Taken, Fault}
 use Rattle.tables.specs.declared.Checked.{Checked}
 use Rattle.tables.specs.declared.Checked.the-variants.{Rows as Found, Refused as Stopped}
-use Rattle.tables.specs.declared.ReadReply.{ReadReply}
 use Rattle.tables.specs.declared.ReadReply.the-variants.{Rows, Refused}
 
 -- Each way through `check_table`.

@@ -81,32 +81,32 @@ pub enum ReadReply {
 fn u16_in(text: &[u8], starts: &[usize; 8], ends: &[usize; 8], i: usize) -> Value
     ensures { λ r. ⌜ r ≡ unsigned 65535 (fieldAt (now (text .entry)) (now (starts .entry)) (now (ends .entry)) i) ⌝ }
 {
-    csv::u16_of(csv::field_part(text, starts, ends, i))
+    csv::u16_of(csv::find_field(text, starts, ends, i))
 }
 
 fn u32_in(text: &[u8], starts: &[usize; 8], ends: &[usize; 8], i: usize) -> Value
     ensures { λ r. ⌜ r ≡ unsigned 4294967295 (fieldAt (now (text .entry)) (now (starts .entry)) (now (ends .entry)) i) ⌝ }
 {
-    csv::u32_of(csv::field_part(text, starts, ends, i))
+    csv::u32_of(csv::find_field(text, starts, ends, i))
 }
 
 fn u64_in(text: &[u8], starts: &[usize; 8], ends: &[usize; 8], i: usize) -> Value
     ensures { λ r. ⌜ r ≡ unsigned 18446744073709551615 (fieldAt (now (text .entry)) (now (starts .entry)) (now (ends .entry)) i) ⌝ }
 {
-    csv::u64_of(csv::field_part(text, starts, ends, i))
+    csv::u64_of(csv::find_field(text, starts, ends, i))
 }
 
 fn i64_in(text: &[u8], starts: &[usize; 8], ends: &[usize; 8], i: usize) -> SignedValue
     ensures { λ r. ⌜ r ≡ signed (fieldAt (now (text .entry)) (now (starts .entry)) (now (ends .entry)) i) ⌝ }
 {
-    csv::i64_of(csv::field_part(text, starts, ends, i))
+    csv::i64_of(csv::find_field(text, starts, ends, i))
 }
 
 // A successor that is missing is 65,535.
 fn successor_in(text: &[u8], starts: &[usize; 8], ends: &[usize; 8], i: usize) -> Value
     ensures { λ r. ⌜ r ≡ orMissing (unsigned 65534 (fieldAt (now (text .entry)) (now (starts .entry)) (now (ends .entry)) i)) ⌝ }
 {
-    match csv::successor_of(csv::field_part(text, starts, ends, i)) {
+    match csv::successor_of(csv::find_field(text, starts, ends, i)) {
         Value::Number(n) => Value::Number(n),
         Value::Missing => Value::Number(65535),
         Value::Bad => Value::Bad,

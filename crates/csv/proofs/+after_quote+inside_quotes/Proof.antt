@@ -1,5 +1,4 @@
 use Prim.Native.Nat.{ℕ, _<_}
-use borrow.Author.Needs.{needs}
 use native.Mathlib.Omega.{arith}
 use Rattle.csv.proofs.Fields.{inside-full, after-full, inside-stops, after-stops, after-closes, inside-to-after, inside-on, after-to-inside}
 use borrow.Fn.Kinds.{In}

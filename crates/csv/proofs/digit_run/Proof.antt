@@ -1,8 +1,7 @@
 use Rattle.csv.specs.Place.{RunAt}
 use Rattle.csv.proofs.Numbers.{short-digits}
 use Rattle.csv.proofs.Cells.{run-start, run-on, short-start, short-next}
-use Prim.Native.Nat.{_≤_, _<_, _+_, _-_, _^_, max}
-use mathlib.Core.Path.{_≡_}
+use Prim.Native.Nat.{_≤_, _<_, _-_, _^_, max}
 use native.Mathlib.Omega.{arith}
 use lib.ListN.{length}
 use borrow.Author.Needs.{needs}

@@ -1,4 +1,3 @@
-use native.Mathlib.Omega.{arith}
 use Rattle.csv.proofs.Fields.{close-over, close-quoted, close-plain, close-long}
 use borrow.Author.Needs.{needs}
 use Rattle.csv.proofs.field_close.Statement.{statement}

@@ -1,82 +1,63 @@
-use native.Mathlib.Omega.{arith}
-use Rattle.csv.proofs.Fields.{find-never, find-last, find-comma, find-other, find-cr-last, find-line, find-cr-other}
+use Rattle.csv.proofs.Splits.{part-none, part-turned, part-beyond, part-is}
 use borrow.Author.Needs.{needs}
 use Rattle.csv.proofs.find_field.Statement.{statement}
 use Rattle.csv.proofs.find_field.Tie as tie
 use Rattle.csv.proofs.find_field.Reads as reads
 use Rattle.csv.proofs.find_field.Lts as lts
-use Rattle.csv.proofs.field_close.Reads as field-close-reads
 
--- src/lib.rt:121:26
-field-close-requires : tie.Need-field-close-requires
-field-close-requires c κs = search needs
+slice-aggregate-result : tie.Need-slice-aggregate-result
+slice-aggregate-result c = search needs
 
--- src/lib.rt:121:19
-enum-known-end : tie.Need-enum-known-end
-enum-known-end c = search needs
-
--- src/lib.rt:122:9
-enum-told : tie.Need-enum-told
-enum-told c = search needs
-
--- src/lib.rt:122:9
 returns : tie.Need-returns
-returns c = search find-never
+returns c = search part-none
 
--- src/lib.rt:125:9
+mul-from : tie.Need-mul-from
+mul-from c = search needs
+
+element-copy-out-from : tie.Need-element-copy-out-from
+element-copy-out-from c = search needs
+
+mul-to : tie.Need-mul-to
+mul-to c = search needs
+
+element-copy-out-to : tie.Need-element-copy-out-to
+element-copy-out-to c = search needs
+
+slice-aggregate-result-2 : tie.Need-slice-aggregate-result-2
+slice-aggregate-result-2 c = search needs
+
 returns-2 : tie.Need-returns-2
-returns-2 c = search find-last
+returns-2 c = search part-turned
 
--- src/lib.rt:127:13
-shared-slice-read-b : tie.Need-shared-slice-read-b
-shared-slice-read-b c = search needs
+slice-aggregate-result-3 : tie.Need-slice-aggregate-result-3
+slice-aggregate-result-3 c = search needs
 
--- src/lib.rt:129:9
 returns-3 : tie.Need-returns-3
-returns-3 c = search find-comma
+returns-3 c = search part-beyond
+
+part-result-start : tie.Need-part-result-start
+part-result-start c = search needs
+
+part-result-end : tie.Need-part-result-end
+part-result-end c = search needs
 
 returns-4 : tie.Need-returns-4
-returns-4 c = search find-other
-
--- src/lib.rt:137:8
-sub-if4 : tie.Need-sub-if4
-sub-if4 c = search needs
-
--- src/lib.rt:138:9
-returns-5 : tie.Need-returns-5
-returns-5 c = search find-cr-last
-
--- src/lib.rt:140:13
-add-if5 : tie.Need-add-if5
-add-if5 c = search needs
-
--- src/lib.rt:140:8
-shared-slice-read-if5 : tie.Need-shared-slice-read-if5
-shared-slice-read-if5 c = search needs
-
--- src/lib.rt:118:1
-returns-6 : tie.Need-returns-6
-returns-6 c = search find-line
-
--- src/lib.rt:118:1
-returns-7 : tie.Need-returns-7
-returns-7 c = search find-cr-other
+returns-4 c = search part-is
 
 pub find-field-spec : {M : Type 1} → statement M
 find-field-spec =
     tie.close
     (tie.spec
-    field-close-requires
-    enum-known-end
-    enum-told
+    slice-aggregate-result
     returns
+    mul-from
+    element-copy-out-from
+    mul-to
+    element-copy-out-to
+    slice-aggregate-result-2
     returns-2
-    shared-slice-read-b
+    slice-aggregate-result-3
     returns-3
-    returns-4
-    sub-if4
-    returns-5
-    add-if5
-    shared-slice-read-if5
-    returns-6
-    returns-7)
+    part-result-start
+    part-result-end
+    returns-4)

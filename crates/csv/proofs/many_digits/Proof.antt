@@ -1,5 +1,5 @@
 use Rattle.csv.proofs.Numbers.{gather-done, gather-low, gather-high, gather-on, gather-many, gather-large}
-use Prim.Native.Nat.{_≤_, _<_, _+_, _-_, _^_}
+use Prim.Native.Nat.{_≤_, _-_}
 use mathlib.Core.Path.{_≡_}
 use native.Mathlib.Omega.{arith}
 use lib.ListN.{length, drop}

@@ -1,7 +1,7 @@
 use Rattle.csv.specs.Grammar.{recordOf}
 use Rattle.csv.specs.Place.{splitOf, noPlaces}
 use Rattle.csv.proofs.Splits.{comma-range, ends-range, scan-comma, scan-ends, scan-broken}
-use Prim.Native.Nat.{_≤_, _<_, _+_, _-_, max}
+use Prim.Native.Nat.{_≤_, _<_, _-_, max}
 use mathlib.Core.Path.{_≡_}
 use native.Mathlib.Omega.{arith}
 use lib.ListN.{length, drop}
@@ -10,7 +10,7 @@ use Rattle.csv.proofs.scan_record.Statement.{statement}
 use Rattle.csv.proofs.scan_record.Tie as tie
 use Rattle.csv.proofs.scan_record.Reads as reads
 use Rattle.csv.proofs.scan_record.Lts as lts
-use Rattle.csv.proofs.find_field.Reads as find-field-reads
+use Rattle.csv.proofs.field_end.Reads as field-end-reads
 use Rattle.csv.proofs.put.Reads as put-reads
 use Rattle.csv.proofs.width_of.Reads as width-of-reads
 
@@ -22,13 +22,13 @@ abbrev μ-loop : tie.MeasureT-loop
 
 -- the field lies in the text, with the comma behind it
 range : (c : tie.After-put2 Inv-loop μ-loop) → (c .before .before .before .before .before .before .before .before .loop .p ≤ c .before .before .before .before .before .e .given .0 .0) × (c .before .before .before .before .before .e .given .0 .0 < length (c .before .before .before .before .before .before .before .before .before .before .args .text .now))
-range c = comma-range (c .before .before .before .before .before .before .before .before .before .before .args .text .now) (c .before .before .before .before .before .before .before .before .loop .p) (c .before .before .before .before .before .before .before .find-field .ensures) (c .before .before .before .before .before .e .given .0 .0) (c .before .before .before .before .before .e .given .1)
+range c = comma-range (c .before .before .before .before .before .before .before .before .before .before .args .text .now) (c .before .before .before .before .before .before .before .before .loop .p) (c .before .before .before .before .before .before .before .field-end .ensures) (c .before .before .before .before .before .e .given .0 .0) (c .before .before .before .before .before .e .given .1)
 
 loop-holds : tie.Need-loop-holds Inv-loop μ-loop
 loop-holds c = search needs
 
-find-field-requires : tie.Need-find-field-requires Inv-loop μ-loop
-find-field-requires c κs = search needs
+field-end-requires : tie.Need-field-end-requires Inv-loop μ-loop
+field-end-requires c κs = search needs
 
 enum-known-e : tie.Need-enum-known-e Inv-loop μ-loop
 enum-known-e c = search needs
@@ -53,7 +53,7 @@ loop-again c = (
   omega (arith, range c),
   omega (arith, range c),
   omega (arith, range c),
-  scan-comma (c .before .before .before .before .before .before .before .before .before .before .args .text .now) (c .before .before .before .before .before .before .before .before .loop .p) (c .before .before .before .before .before .before .before .find-field .ensures) (c .before .before .before .before .before .e .given .0 .0) (c .before .before .before .before .before .e .given .1) (c .before .before .before .before .before .before .before .before .loop .starts) (c .before .before .before .before .before .before .before .before .loop .ends) (c .before .before .before .before .before .before .before .before .loop .count) (c .before .before .put .ensures) (c .put2 .ensures) (c .before .before .before .before .before .before .before .before .loop .inv .3),
+  scan-comma (c .before .before .before .before .before .before .before .before .before .before .args .text .now) (c .before .before .before .before .before .before .before .before .loop .p) (c .before .before .before .before .before .before .before .field-end .ensures) (c .before .before .before .before .before .e .given .0 .0) (c .before .before .before .before .before .e .given .1) (c .before .before .before .before .before .before .before .before .loop .starts) (c .before .before .before .before .before .before .before .before .loop .ends) (c .before .before .before .before .before .before .before .before .loop .count) (c .before .before .put .ensures) (c .put2 .ensures) (c .before .before .before .before .before .before .before .before .loop .inv .3),
 )
 
 enum-known-x : tie.Need-enum-known-x Inv-loop μ-loop
@@ -73,11 +73,11 @@ width-of-requires c κs = search needs
 
 add-t21 : tie.Need-add-t21 Inv-loop μ-loop
 add-t21 c =
-    let ranged = ends-range (c .before .before .before .before .before .before .before .before .before .before .before .args .text .now) (c .before .before .before .before .before .before .before .before .before .loop .p) (c .before .before .before .before .before .before .before .before .find-field .ensures) (c .before .before .before .before .before .before .x .given .0 .0) (c .before .before .before .before .before .before .x .given .0 .1 .0) (c .before .before .before .before .before .before .x .given .1) (c .width-of .result) (c .width-of .ensures) in
+    let ranged = ends-range (c .before .before .before .before .before .before .before .before .before .before .before .args .text .now) (c .before .before .before .before .before .before .before .before .before .loop .p) (c .before .before .before .before .before .before .before .before .field-end .ensures) (c .before .before .before .before .before .before .x .given .0 .0) (c .before .before .before .before .before .before .x .given .0 .1 .0) (c .before .before .before .before .before .before .x .given .1) (c .width-of .result) (c .width-of .ensures) in
     omega (arith, ranged)
 
 returns : tie.Need-returns Inv-loop μ-loop
-returns c = scan-ends (c .before .before .before .before .before .before .before .before .before .before .before .args .text .now) (c .before .before .before .before .before .before .before .before .before .loop .p) (c .before .before .before .before .before .before .before .before .find-field .ensures) (c .before .before .before .before .before .before .x .given .0 .0) (c .before .before .before .before .before .before .x .given .0 .1 .0) (c .before .before .before .before .before .before .x .given .1) (c .before .before .before .before .before .before .before .before .before .loop .starts) (c .before .before .before .before .before .before .before .before .before .loop .ends) (c .before .before .before .before .before .before .before .before .before .loop .count) (c .width-of .result) (c .before .before .before .put3 .ensures) (c .before .put4 .ensures) (c .width-of .ensures) (c .before .before .before .before .before .before .before .before .before .loop .inv .3)
+returns c = scan-ends (c .before .before .before .before .before .before .before .before .before .before .before .args .text .now) (c .before .before .before .before .before .before .before .before .before .loop .p) (c .before .before .before .before .before .before .before .before .field-end .ensures) (c .before .before .before .before .before .before .x .given .0 .0) (c .before .before .before .before .before .before .x .given .0 .1 .0) (c .before .before .before .before .before .before .x .given .1) (c .before .before .before .before .before .before .before .before .before .loop .starts) (c .before .before .before .before .before .before .before .before .before .loop .ends) (c .before .before .before .before .before .before .before .before .before .loop .count) (c .width-of .result) (c .before .before .before .put3 .ensures) (c .before .put4 .ensures) (c .width-of .ensures) (c .before .before .before .before .before .before .before .before .before .loop .inv .3)
 
 enum-told : tie.Need-enum-told Inv-loop μ-loop
 enum-told c = search needs
@@ -92,7 +92,7 @@ scan-record-spec =
     Inv-loop
     μ-loop
     loop-holds
-    find-field-requires
+    field-end-requires
     enum-known-e
     put-requires
     put-requires-2

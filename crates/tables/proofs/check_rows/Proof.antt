@@ -1,6 +1,6 @@
 use Rattle.tables.specs.Place.{checkedOf}
 use Rattle.tables.proofs.Passes.{turn-range, check-on, check-fault, check-done}
-use Prim.Native.Nat.{_≤_, _<_, _+_, _-_}
+use Prim.Native.Nat.{_≤_, _<_, _-_}
 use mathlib.Core.Path.{_≡_}
 use native.Mathlib.Omega.{arith}
 use lib.ListN.{length, drop}

@@ -1,6 +1,6 @@
 use Rattle.tables.specs.Row.{costOf, innermostOf, firstOf, secondOf, figureOf}
 use Rattle.tables.proofs.Passes.{turn-range, cost-on, loops-on, first-on, second-on, figure-on, column-fault, column-done, only-blocks}
-use Prim.Native.Nat.{_≤_, _<_, _+_, _-_}
+use Prim.Native.Nat.{_≤_, _<_, _-_}
 use mathlib.Core.Path.{_≡_}
 use mathlib.Core.List.{map}
 use native.Mathlib.Omega.{arith}

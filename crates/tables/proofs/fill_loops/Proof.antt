@@ -1,6 +1,6 @@
 use Rattle.tables.specs.Row.{parentOf, headOf, limitOf, multiplierOf}
 use Rattle.tables.proofs.Passes.{turn-range, parent-on, head-on, limit-on, multiplier-on, column-fault, column-done, only-loops}
-use Prim.Native.Nat.{_≤_, _<_, _+_, _-_}
+use Prim.Native.Nat.{_≤_, _<_, _-_}
 use mathlib.Core.Path.{_≡_}
 use mathlib.Core.List.{map}
 use native.Mathlib.Omega.{arith}

@@ -4,11 +4,11 @@ use Rattle.tables.proofs.i64_in.Statement.{statement}
 use Rattle.tables.proofs.i64_in.Tie as tie
 use Rattle.tables.proofs.i64_in.Reads as reads
 use Rattle.tables.proofs.i64_in.Lts as lts
-use Rattle.csv.proofs.field_part.Reads as field-part-reads
+use Rattle.csv.proofs.find_field.Reads as find-field-reads
 use Rattle.csv.proofs.i64_of.Reads as i64-of-reads
 
-field-part-requires : tie.Need-field-part-requires
-field-part-requires c κs = search needs
+find-field-requires : tie.Need-find-field-requires
+find-field-requires c κs = search needs
 
 i64-of-requires : tie.Need-i64-of-requires
 i64-of-requires c κs = search needs
@@ -17,4 +17,4 @@ returns : tie.Need-returns
 returns c = search signed-in
 
 pub i64-in-spec : {M : Type 1} → statement M
-i64-in-spec = tie.close (tie.spec field-part-requires i64-of-requires returns)
+i64-in-spec = tie.close (tie.spec find-field-requires i64-of-requires returns)

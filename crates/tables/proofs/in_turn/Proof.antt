@@ -1,5 +1,4 @@
 use Rattle.tables.proofs.Rows.{turn-out, turn-full, turn-taken}
-use borrow.Author.Needs.{needs}
 use Rattle.tables.proofs.in_turn.Statement.{statement}
 use Rattle.tables.proofs.in_turn.Tie as tie
 use Rattle.tables.proofs.in_turn.Reads as reads

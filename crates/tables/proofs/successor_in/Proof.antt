@@ -4,11 +4,11 @@ use Rattle.tables.proofs.successor_in.Statement.{statement}
 use Rattle.tables.proofs.successor_in.Tie as tie
 use Rattle.tables.proofs.successor_in.Reads as reads
 use Rattle.tables.proofs.successor_in.Lts as lts
-use Rattle.csv.proofs.field_part.Reads as field-part-reads
+use Rattle.csv.proofs.find_field.Reads as find-field-reads
 use Rattle.csv.proofs.successor_of.Reads as successor-of-reads
 
-field-part-requires : tie.Need-field-part-requires
-field-part-requires c κs = search needs
+find-field-requires : tie.Need-find-field-requires
+find-field-requires c κs = search needs
 
 successor-of-requires : tie.Need-successor-of-requires
 successor-of-requires c κs = search needs
@@ -35,7 +35,7 @@ pub successor-in-spec : {M : Type 1} → statement M
 successor-in-spec =
     tie.close
     (tie.spec
-    field-part-requires
+    find-field-requires
     successor-of-requires
     enum-known-n
     enum-told

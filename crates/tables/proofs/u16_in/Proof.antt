@@ -4,11 +4,11 @@ use Rattle.tables.proofs.u16_in.Statement.{statement}
 use Rattle.tables.proofs.u16_in.Tie as tie
 use Rattle.tables.proofs.u16_in.Reads as reads
 use Rattle.tables.proofs.u16_in.Lts as lts
-use Rattle.csv.proofs.field_part.Reads as field-part-reads
+use Rattle.csv.proofs.find_field.Reads as find-field-reads
 use Rattle.csv.proofs.u16_of.Reads as u16-of-reads
 
-field-part-requires : tie.Need-field-part-requires
-field-part-requires c κs = search needs
+find-field-requires : tie.Need-find-field-requires
+find-field-requires c κs = search needs
 
 u16-of-requires : tie.Need-u16-of-requires
 u16-of-requires c κs = search needs
@@ -17,4 +17,4 @@ returns : tie.Need-returns
 returns c = search unsigned-in
 
 pub u16-in-spec : {M : Type 1} → statement M
-u16-in-spec = tie.close (tie.spec field-part-requires u16-of-requires returns)
+u16-in-spec = tie.close (tie.spec find-field-requires u16-of-requires returns)
