@@ -62,7 +62,7 @@ unfolding digits allText
 digits-text [] e = refl
 digits-text (b ∷ s) e = rw (digit-text b (and-left (digit b) (digits s) e), digits-text s (and-right (digit b) (digits s) e))
 
-first-digit : (s : List ℕ) → digits s ≡ true → 0 < length s → 48 ≤ getD s 0 0
+pub first-digit : (s : List ℕ) → digits s ≡ true → 0 < length s → 48 ≤ getD s 0 0
 unfolding digits
 first-digit [] e h = absurd (omega arith)
 first-digit (b ∷ s) e h = leb-true 48 b (and-left (leb 48 b) (leb b 57) (and-left (digit b) (digits s) e))

@@ -6,7 +6,7 @@ use mathlib.Core.List.{List, [], _∷_}
 use Prim.Native.Nat.{ℕ, zero, suc, _+_, _-_, _*_, _/_, _%_, _^_, _<_, _≤_}
 use native.Mathlib.Omega.{arith}
 use native.Mathlib.Decide.{ℕ-discrete}
-use borrow.Author.Tests.{le-leb, ltb-true, ltb-false}
+use borrow.Author.Tests.{le-leb, ltb-true, ltb-false, ne-eqb}
 use lib.ListN.{length, getD}
 use lib.IntN.{pos, negsuc}
 use lib.Dec.{ltb}
@@ -16,6 +16,7 @@ use Rattle.csv.specs.declared.Value.the-variants.{Number}
 use Rattle.csv.specs.declared.SignedValue.the-variants.{Number as Signed}
 use Rattle.csv.proofs.Numbers.{natural-zero, natural-gathered}
 use Rattle.csv.proofs.Inverse.{content-written}
+use Rattle.csv.proofs.Cells.{first-digit}
 
 -- what holds of the digits of n in front of s, by cases on n < 10
 module _ (P : ℕ → ℕ → List ℕ → List ℕ → Type 0) (one : (n : ℕ) (s : List ℕ) → n < 10 → (k : ℕ) → P (suc k) n s ((48 + n) ∷ s)) (more : (k n : ℕ) (s t : List ℕ) → 10 ≤ n → P k (n / 10) ((48 + n % 10) ∷ s) t → P (suc k) n s t) where
@@ -73,11 +74,12 @@ number-back f limit n u e l = rw (content-written f u, e) (sym (natural-back lim
 
 -- the same of figures
 pub positive-back : (f : Entry) (n : ℕ) → Unmarked f → textOf f ≡ numeralOf n → n ≤ 2 ^ 63 - 1 → signed (written f) ≡ Signed (pos n)
-unfolding signed
+unfolding signed integer digits
 positive-back f n u e l = rw (content-written f u, e) (plain (numeralOf n) (natural-back (2 ^ 63 - 1) n l) (is-numeral n))
   where
     plain : (t : List ℕ) → Number n ≡ natural (2 ^ 63 - 1) t → Numeral (suc n) n [] t → integer t ≡ Signed (pos n)
-    plain t q r = ?
+    plain [] q r = absurd (omega (arith, r .some))
+    plain (b ∷ t) q r = let h : 48 ≤ b = first-digit (b ∷ t) (r .digit) (omega arith) in rw (ne-eqb b 45 (λ z. omega arith), ← q)
 
 pub negative-back : (f : Entry) (n : ℕ) → Unmarked f → textOf f ≡ 45 ∷ numeralOf (suc n) → suc n ≤ 2 ^ 63 → signed (written f) ≡ Signed (negsuc n)
 unfolding signed integer
