@@ -1,6 +1,6 @@
 -- A table's text and the grammar the other way round: what is written is read as the lines that were written, and every accepted text is written so.
 -- Assumes nothing.
-use mathlib.Core.Path.{_≡_, refl, sym, _∙_}
+use mathlib.Core.Path.{_≡_, refl, sym}
 use mathlib.Core.Bool.{Bool, true, false, cond}
 use mathlib.Core.List.{List, [], _∷_}
 use Prim.Native.Nat.{ℕ, suc, _+_, _≤_}
@@ -11,7 +11,7 @@ use lib.Dec.{eqb, leb}
 use Rattle.csv.specs.Grammar.{Record, records}
 use Rattle.csv.specs.Write.{Line, write, Allowed, recordsAs, AllSound, Written}
 use Rattle.csv.proofs.Inverse.{read-back, write-again}
-use Rattle.tables.specs.Table.{judge, placed, fieldOf, End, all, refused, stopped, onward, reading, headed, tableOf}
+use Rattle.tables.specs.Table.{judge, placed, fieldOf, all, refused, stopped, onward, reading, headed, tableOf}
 use Rattle.tables.specs.Row.{rowOf}
 use Rattle.tables.specs.declared.Layout.{Layout}
 use Rattle.tables.specs.declared.Verdict.{Verdict}

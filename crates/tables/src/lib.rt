@@ -71,7 +71,7 @@ pub enum Checked {
     Refused { number: u32, record: usize },
 }
 
-// The reply of a reader: the count of rows, or the number of a refusal and its place, a record.
+// The reply of a reader: the count of rows, or the number of a refusal and its place, a record (0 for 101).
 pub enum ReadReply {
     Rows(usize),
     Refused { number: u32, record: usize },
@@ -486,7 +486,8 @@ fn loop_layout(parent: usize, head: usize, limit: usize, multiplier: usize) -> L
     }
 }
 
-// Reads a block table into the columns. A refusal leaves them as they were.
+// Reads a block table into the columns: the count of its rows, or the number of a refusal and its record (0 for 101). A refusal leaves the
+// columns as they were.
 pub fn read_blocks(
     text: &[u8],
     header: bool,
@@ -514,7 +515,7 @@ pub fn read_blocks(
     }
 }
 
-// Reads a loop table into the columns. A refusal leaves them as they were.
+// Reads a loop table into the columns, with the same reply.
 pub fn read_loops(
     text: &[u8],
     header: bool,
