@@ -1,0 +1,73 @@
+// The C library.
+use crate::routine::{Blocks, Routine};
+
+#[repr(C)]
+pub struct Reply {
+    pub number: u32,
+    pub place: u32,
+    pub value: i64,
+    pub more: u64,
+}
+
+#[rustfmt::skip]
+extern "C" {
+    fn rolkeyda_read_blocks(
+        text: *const u8, text_length: usize, header: bool,
+        cost: *mut u32, cost_length: usize, loops: *mut u16, loops_length: usize, first: *mut u16, first_length: usize,
+        second: *mut u16, second_length: usize, figure: *mut i64, figure_length: usize,
+    ) -> Reply;
+    fn rolkeyda_check(
+        cost: *const u32, cost_length: usize, loops: *const u16, loops_length: usize, first: *const u16, first_length: usize,
+        second: *const u16, second_length: usize, figure: *const i64, figure_length: usize,
+        parent: *const u16, parent_length: usize, header: *const u16, header_length: usize,
+        limit: *const u32, limit_length: usize, multiplier: *const u64, multiplier_length: usize,
+    ) -> Reply;
+    fn rolkeyda_walk(
+        cost: *const u32, cost_length: usize, loops: *const u16, loops_length: usize, first: *const u16, first_length: usize,
+        second: *const u16, second_length: usize, figure: *const i64, figure_length: usize,
+        parent: *const u16, parent_length: usize, header: *const u16, header_length: usize,
+        limit: *const u32, limit_length: usize, multiplier: *const u64, multiplier_length: usize,
+        blocks: *const u16, blocks_length: usize,
+    ) -> Reply;
+}
+
+pub struct Library;
+
+#[rustfmt::skip]
+impl Library {
+    pub fn read_blocks(text: &[u8], to: &mut Blocks) -> Reply {
+        let n = to.cost.len();
+        // SAFETY: each pointer comes with the length of its own column, and no two columns overlap.
+        unsafe {
+            rolkeyda_read_blocks(
+                text.as_ptr(), text.len(), false, to.cost.as_mut_ptr(), n, to.loops.as_mut_ptr(), n, to.first.as_mut_ptr(), n,
+                to.second.as_mut_ptr(), n, to.figure.as_mut_ptr(), n,
+            )
+        }
+    }
+
+    pub fn check(t: &Routine) -> Reply {
+        let (b, l) = (&t.blocks, &t.loops);
+        let (n, m) = (b.cost.len(), l.parent.len());
+        // SAFETY: each pointer comes with the length of its own column.
+        unsafe {
+            rolkeyda_check(
+                b.cost.as_ptr(), n, b.loops.as_ptr(), n, b.first.as_ptr(), n, b.second.as_ptr(), n, b.figure.as_ptr(), n,
+                l.parent.as_ptr(), m, l.header.as_ptr(), m, l.limit.as_ptr(), m, l.multiplier.as_ptr(), m,
+            )
+        }
+    }
+
+    pub fn walk(t: &Routine, walk: &[u16]) -> Reply {
+        let (b, l) = (&t.blocks, &t.loops);
+        let (n, m) = (b.cost.len(), l.parent.len());
+        // SAFETY: each pointer comes with the length of its own column.
+        unsafe {
+            rolkeyda_walk(
+                b.cost.as_ptr(), n, b.loops.as_ptr(), n, b.first.as_ptr(), n, b.second.as_ptr(), n, b.figure.as_ptr(), n,
+                l.parent.as_ptr(), m, l.header.as_ptr(), m, l.limit.as_ptr(), m, l.multiplier.as_ptr(), m,
+                walk.as_ptr(), walk.len(),
+            )
+        }
+    }
+}

@@ -1,0 +1,127 @@
+// Ratios of the proved library to other ways of doing the same, in one run. The measures alternate, and each counts by its fastest round,
+// so that what else the machine does weighs on both alike.
+mod library;
+mod reading;
+mod routine;
+mod straight;
+
+use library::Library;
+use routine::Routine;
+use std::hint::black_box;
+use std::time::Instant;
+
+const ROUNDS: usize = 40;
+
+// The seconds of one call: the fastest of many rounds of some milliseconds each.
+struct Measure<'a> {
+    name: &'a str,
+    call: Box<dyn FnMut() + 'a>,
+    best: f64,
+}
+
+impl<'a> Measure<'a> {
+    fn new(name: &'a str, call: impl FnMut() + 'a) -> Self {
+        Measure { name, call: Box::new(call), best: f64::INFINITY }
+    }
+
+    fn round(&mut self, calls: u32) {
+        let start = Instant::now();
+        for _ in 0..calls {
+            (self.call)();
+        }
+        self.best = self.best.min(start.elapsed().as_secs_f64() / f64::from(calls));
+    }
+}
+
+// Measures ours beside the others and prints a line for each: time, rate over `units`, and how many times faster ours is.
+fn compare(title: &str, units: f64, unit: &str, calls: u32, goals: &[f64], measures: &mut [Measure]) {
+    for _ in 0..ROUNDS {
+        for measure in measures.iter_mut() {
+            measure.round(calls);
+        }
+    }
+    println!("{title}");
+    let ours = measures[0].best;
+    for (i, measure) in measures.iter().enumerate() {
+        let rate = units / measure.best / 1e6;
+        print!("  {:<24} {:>10.1} us {:>9.1} M{unit}/s", measure.name, measure.best * 1e6, rate);
+        if i > 0 {
+            print!("   ratio {:.2} (goal {:.1})", measure.best / ours, goals[i - 1]);
+        }
+        println!();
+    }
+}
+
+fn reading(routine: &Routine) {
+    let text = routine.blocks_csv();
+    let bytes = text.as_bytes();
+    let mut ours = routine::Blocks::room(1024);
+    let mut core = routine::Blocks::room(1024);
+    let mut libcsv = routine::Blocks::room(1024);
+    assert_eq!(Library::read_blocks(bytes, &mut ours).value, 1024);
+    assert_eq!(reading::csv_core(bytes, &mut core), Some(1024));
+    assert_eq!(reading::libcsv(bytes, &mut libcsv), Some(1024));
+    assert!(ours == routine.blocks && core == ours && libcsv == ours);
+    compare(
+        &format!("reading a plain block table of 1024 rows, {} bytes", bytes.len()),
+        bytes.len() as f64,
+        "B",
+        50,
+        &[1.0, 1.5],
+        &mut [
+            Measure::new("rolkeyda_read_blocks", || drop(black_box(Library::read_blocks(black_box(bytes), &mut ours)))),
+            Measure::new("csv-core, parsed", || drop(black_box(reading::csv_core(black_box(bytes), &mut core)))),
+            Measure::new("libcsv, parsed", || drop(black_box(reading::libcsv(black_box(bytes), &mut libcsv)))),
+        ],
+    );
+}
+
+fn checking(routine: &Routine) {
+    let ours = Library::check(routine);
+    assert_eq!(straight::check(routine), Ok(ours.value));
+    assert_eq!(ours.number, 0);
+    compare(
+        &format!("checking 1024 blocks, 64 loops (bound {})", ours.value),
+        1024.0,
+        "blocks",
+        200,
+        &[1.0],
+        &mut [
+            Measure::new("rolkeyda_check", || drop(black_box(Library::check(black_box(routine))))),
+            Measure::new("straight Rust", || drop(black_box(straight::check(black_box(routine))))),
+        ],
+    );
+}
+
+fn walking(routine: &Routine) {
+    let walk = routine.walk(1 << 20);
+    let ours = Library::walk(routine, &walk);
+    assert_eq!((ours.number, ours.place), (0, 0));
+    assert_eq!(straight::walk(routine, &walk), Ok((ours.value as u64, ours.more)));
+    compare(
+        &format!("a walk of {} blocks (cost {})", walk.len(), ours.value),
+        walk.len() as f64,
+        "blocks",
+        1,
+        &[0.9],
+        &mut [
+            Measure::new("rolkeyda_walk", || drop(black_box(Library::walk(routine, black_box(&walk))))),
+            Measure::new("straight Rust", || drop(black_box(straight::walk(routine, black_box(&walk))))),
+        ],
+    );
+}
+
+fn main() {
+    let routine = Routine::largest();
+    let only = std::env::args().nth(1);
+    let wanted = |name: &str| only.as_deref().is_none_or(|o| o == name);
+    if wanted("read") {
+        reading(&routine);
+    }
+    if wanted("check") {
+        checking(&routine);
+    }
+    if wanted("walk") {
+        walking(&routine);
+    }
+}

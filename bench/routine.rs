@@ -1,0 +1,184 @@
+// The largest routine: 1,024 blocks, 64 loops, three deep, with figures and multipliers that are accepted, and a walk through it.
+use std::fmt::Write;
+
+pub const MISSING: u16 = 65535;
+const BODY: usize = 14;
+
+#[derive(Default, Clone, PartialEq)]
+pub struct Blocks {
+    pub cost: Vec<u32>,
+    pub loops: Vec<u16>,
+    pub first: Vec<u16>,
+    pub second: Vec<u16>,
+    pub figure: Vec<i64>,
+}
+
+#[derive(Default)]
+pub struct Loops {
+    pub parent: Vec<u16>,
+    pub header: Vec<u16>,
+    pub limit: Vec<u32>,
+    pub multiplier: Vec<u64>,
+}
+
+#[derive(Default)]
+pub struct Routine {
+    pub blocks: Blocks,
+    pub loops: Loops,
+}
+
+impl Blocks {
+    pub fn room(n: usize) -> Blocks {
+        Blocks { cost: vec![0; n], loops: vec![0; n], first: vec![0; n], second: vec![0; n], figure: vec![0; n] }
+    }
+}
+
+impl Routine {
+    fn block(&mut self, inner: u16) -> usize {
+        let k = self.blocks.cost.len();
+        self.blocks.cost.push(1 + (k as u32 * 7919) % 20011);
+        self.blocks.loops.push(inner);
+        self.blocks.first.push(MISSING);
+        self.blocks.second.push(MISSING);
+        self.blocks.figure.push(0);
+        k
+    }
+
+    // A block behind block `last`.
+    fn behind(&mut self, last: usize, inner: u16) -> usize {
+        let k = self.block(inner);
+        self.leads(last, k);
+        k
+    }
+
+    // A header leads on through its second successor, any other block through its first that is free.
+    fn leads(&mut self, from: usize, to: usize) {
+        let b = &mut self.blocks;
+        if b.first[from] == MISSING { b.first[from] = to as u16 } else { b.second[from] = to as u16 }
+    }
+
+    // A loop behind block `last`, with a loop for each further limit in the middle of its body. Gives its header, the cost of a stay and
+    // what follows the loop follows the header.
+    fn nest(&mut self, last: usize, parent: u16, limits: &[u32]) -> (usize, u64) {
+        let l = self.loops.parent.len() as u16;
+        let header = self.behind(last, l);
+        self.loops.parent.push(parent);
+        self.loops.header.push(header as u16);
+        self.loops.limit.push(limits[0]);
+        self.loops.multiplier.push(0);
+        let mut round = u64::from(self.blocks.cost[header]);
+        let mut at = header;
+        for i in 0..BODY {
+            at = self.behind(at, l);
+            round += u64::from(self.blocks.cost[at]);
+            if i == BODY / 2 && limits.len() > 1 {
+                let (inner, stay) = self.nest(at, l, &limits[1..]);
+                at = inner;
+                round += stay;
+            }
+        }
+        self.leads(at, header);
+        self.loops.multiplier[l as usize] = round;
+        (header, u64::from(self.blocks.cost[header]) + round * u64::from(limits[0] - 1))
+    }
+
+    pub fn largest() -> Routine {
+        let mut t = Routine::default();
+        t.loops = Loops { parent: vec![0], header: vec![0], limit: vec![1], multiplier: vec![0] };
+        let mut last = t.block(0);
+        for _ in 0..21 {
+            last = t.nest(last, 0, &[17, 12, 20]).0;
+        }
+        let tail = t.blocks.cost.len();
+        while t.blocks.cost.len() < 1024 {
+            last = t.behind(last, 0);
+        }
+        // the tail may be walked by single steps or by double ones
+        for u in tail..1022 {
+            t.blocks.second[u] = u as u16 + 2;
+        }
+        t.solve();
+        t
+    }
+
+    fn inside(&self, u: usize, l: u16) -> bool {
+        let mut k = self.blocks.loops[u];
+        while k > l {
+            k = self.loops.parent[k as usize];
+        }
+        k == l
+    }
+
+    // Figures: the dearest way to the exit, where an edge into a loop has the cost of the stay's further rounds.
+    fn solve(&mut self) {
+        let mut changed = true;
+        while changed {
+            changed = false;
+            for u in (0..1023).rev() {
+                let b = &self.blocks;
+                let way = |v: u16| {
+                    let l = b.loops[v as usize] as usize;
+                    let mut weight = i64::from(b.cost[v as usize]);
+                    if self.loops.header[l] == v {
+                        let m = self.loops.multiplier[l] as i64;
+                        weight += if self.inside(u, l as u16) { -m } else { m * (i64::from(self.loops.limit[l]) - 1) };
+                    }
+                    weight + b.figure[v as usize]
+                };
+                let best = [b.first[u], b.second[u]].iter().filter(|&&v| v != MISSING).map(|&v| way(v)).max().unwrap();
+                if best > b.figure[u] {
+                    self.blocks.figure[u] = best;
+                    changed = true;
+                }
+            }
+        }
+    }
+
+    pub fn blocks_csv(&self) -> String {
+        let b = &self.blocks;
+        let mut text = String::new();
+        let field = |v: u16| if v == MISSING { String::new() } else { v.to_string() };
+        for k in 0..b.cost.len() {
+            write!(text, "{k},{},{},{},{},{}\r\n", b.cost[k], b.loops[k], field(b.first[k]), field(b.second[k]), b.figure[k]).unwrap();
+        }
+        text
+    }
+
+    // A finished counted run of this length: it goes round wherever the limits and the length allow.
+    pub fn walk(&self, length: usize) -> Vec<u16> {
+        let b = &self.blocks;
+        let exit = b.cost.len() - 1;
+        // the fewest blocks behind each block up to the exit
+        let mut ahead = vec![usize::MAX / 2; b.cost.len()];
+        ahead[exit] = 0;
+        for _ in 0..4 {
+            for u in (0..exit).rev() {
+                for v in [b.first[u], b.second[u]] {
+                    if v != MISSING {
+                        ahead[u] = ahead[u].min(ahead[v as usize] + 1);
+                    }
+                }
+            }
+        }
+        let mut visits = vec![0u32; self.loops.parent.len()];
+        let mut walk = vec![0u16];
+        let mut u = 0;
+        while u != exit {
+            let left = length - walk.len();
+            let l = b.loops[u] as usize;
+            let heads = self.loops.header[l] as usize == u;
+            let first = b.first[u] as usize;
+            let full = heads && l > 0 && visits[l] == self.loops.limit[l];
+            let spare = b.second[u] != MISSING && (full || ahead[first] + 1 > left || (l == 0 && exit - u > left));
+            let v = if spare { b.second[u] as usize } else { first };
+            let to = b.loops[v] as usize;
+            if self.loops.header[to] as usize == v {
+                visits[to] = if self.inside(u, to as u16) { visits[to] + 1 } else { 1 };
+            }
+            walk.push(v as u16);
+            u = v;
+        }
+        assert_eq!(walk.len(), length);
+        walk
+    }
+}

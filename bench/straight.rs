@@ -1,0 +1,132 @@
+// The table check and the walk in plain Rust, with nothing proved: safe code with slices, loop sets as words, one pass per rule.
+use crate::routine::{Blocks, Loops, Routine, MISSING};
+
+type Refusal = (u32, usize);
+
+fn sizes_fit(b: &Blocks, l: &Loops) -> bool {
+    let (n, m) = (b.cost.len(), l.parent.len());
+    (2..=1024).contains(&n)
+        && (1..=64).contains(&m)
+        && [b.loops.len(), b.first.len(), b.second.len(), b.figure.len()].iter().all(|&k| k == n)
+        && [l.header.len(), l.limit.len(), l.multiplier.len()].iter().all(|&k| k == m)
+}
+
+fn loop_fits(t: &Routine, l: usize) -> bool {
+    let (p, h, limit, multiplier) = (t.loops.parent[l] as usize, t.loops.header[l] as usize, t.loops.limit[l], t.loops.multiplier[l]);
+    if l == 0 {
+        return p == 0 && h == 0 && limit == 1 && multiplier == 0;
+    }
+    p < l && h < t.blocks.cost.len() && (1..=65535).contains(&limit) && multiplier <= 1 << 40
+}
+
+fn block_fits(t: &Routine, u: usize) -> bool {
+    let (b, n) = (&t.blocks, t.blocks.cost.len());
+    let names = |v: u16| v == MISSING || (v as usize) < n;
+    b.cost[u] <= 1_000_000
+        && (b.loops[u] as usize) < t.loops.parent.len()
+        && names(b.first[u])
+        && names(b.second[u])
+        && (-(1i64 << 60)..=1 << 60).contains(&b.figure[u])
+}
+
+// The edges out of block u.
+fn edges(b: &Blocks, u: usize) -> impl Iterator<Item = usize> {
+    [b.first[u], b.second[u]].into_iter().filter(|&v| v != MISSING).map(usize::from)
+}
+
+// 201 to 207: the loops around each loop, or the first refusal.
+fn structure(t: &Routine) -> Result<[u64; 64], Refusal> {
+    let (b, l) = (&t.blocks, &t.loops);
+    if !sizes_fit(b, l) {
+        return Err((201, 0));
+    }
+    let (n, m) = (b.cost.len(), l.parent.len());
+    let lowest = |number: u32, places: usize, broken: &dyn Fn(usize) -> bool| (0..places).find(|&p| broken(p)).map_or(Ok(()), |p| Err((number, p)));
+    lowest(202, m, &|k| !loop_fits(t, k))?;
+    lowest(203, n, &|u| !block_fits(t, u))?;
+    lowest(204, m, &|k| b.loops[l.header[k] as usize] as usize != k)?;
+    let mut around = [0u64; 64];
+    for k in 0..m {
+        around[k] = around[l.parent[k] as usize] | 1 << k;
+    }
+    lowest(205, m, &|k| around[k].count_ones() > 16)?;
+    lowest(206, n, &|u| edges(b, u).any(|v| v == 0 || u == n - 1))?;
+    lowest(207, n, &|u| {
+        edges(b, u).any(|v| {
+            let entered = around[b.loops[v] as usize] & !around[b.loops[u] as usize];
+            entered != 0 && (entered.count_ones() != 1 || l.header[b.loops[v] as usize] as usize != v)
+        })
+    })?;
+    Ok(around)
+}
+
+fn holds(t: &Routine, around: &[u64; 64], u: usize, v: usize) -> bool {
+    let (b, l) = (&t.blocks, t.blocks.loops[v] as usize);
+    let d = b.figure[u] - b.figure[v];
+    let (cost, multiplier) = (i64::from(b.cost[v]), t.loops.multiplier[l] as i64);
+    if t.loops.header[l] as usize != v {
+        cost <= d
+    } else if around[b.loops[u] as usize] >> l & 1 == 1 {
+        cost <= d + multiplier
+    } else {
+        cost + multiplier * (i64::from(t.loops.limit[l]) - 1) <= d
+    }
+}
+
+pub fn check(t: &Routine) -> Result<i64, Refusal> {
+    let around = structure(t)?;
+    let b = &t.blocks;
+    let n = b.cost.len();
+    if let Some(u) = (0..n).find(|&u| edges(b, u).any(|v| !holds(t, &around, u, v))) {
+        return Err((208, u));
+    }
+    Ok(i64::from(b.cost[0]) + b.figure[0] - b.figure[n - 1])
+}
+
+pub fn walk(t: &Routine, walk: &[u16]) -> Result<(u64, u64), Refusal> {
+    let around = structure(t)?;
+    let b = &t.blocks;
+    let n = b.cost.len();
+    if walk.is_empty() || walk.len() > 1 << 20 {
+        return Err((301, 0));
+    }
+    if walk[0] as usize >= n {
+        return Err((302, 0));
+    }
+    if walk[0] != 0 {
+        return Err((303, 0));
+    }
+    let mut counts = [0u32; 64];
+    counts[0] = 1;
+    let (mut at, mut cost) = (0usize, u64::from(b.cost[0]));
+    for (i, &v) in walk.iter().enumerate().skip(1) {
+        let to = v as usize;
+        if to >= n {
+            return Err((302, i));
+        }
+        if at == n - 1 {
+            return Err((311, i));
+        }
+        if b.first[at] != v && b.second[at] != v {
+            return Err((312, i));
+        }
+        let (from, l) = (around[b.loops[at] as usize], b.loops[to] as usize);
+        if t.loops.header[l] == v {
+            counts[l] = if from >> l & 1 == 1 { counts[l] + 1 } else { 1 };
+            if counts[l] > t.loops.limit[l] {
+                return Err((313, i));
+            }
+        }
+        let mut left = from & !around[l];
+        while left != 0 {
+            counts[left.trailing_zeros() as usize] = 0;
+            left &= left - 1;
+        }
+        at = to;
+        cost += u64::from(b.cost[to]);
+    }
+    if at != n - 1 {
+        return Err((314, walk.len()));
+    }
+    Ok((cost, walk.len() as u64 - 1))
+}

@@ -1,0 +1,211 @@
+-- Each answer in the fields of the reply. Assumes nothing.
+use mathlib.Core.Path.{_≡_, refl, sym, _∙_, ap}
+use mathlib.Core.List.{List}
+use mathlib.Core.Bool.{Bool}
+use Prim.Native.Nat.{ℕ, _^_, _<_}
+use native.Mathlib.Omega.{arith}
+use mir.Syntax.{w64}
+use mir.Val.{SFits, toZ, ofZ}
+use mir.Facts.{toZ-pos, toZ-ofZ}
+use lib.IntN.{ℤ, pos}
+use Rattle.integers.proofs.Laws.{ints}
+use Rattle.wcet.specs.Table.{Routine}
+use Rattle.wcet.specs.Rules.{Reply as Answer, accepted, refused, tableReply}
+use Rattle.wcet.specs.Walk.{Walked, walked, walkReply}
+use Rattle.wcet.specs.Claim.{WcetBound, Checked}
+use Rattle.wcet.proofs.Walks.{walks-exactly}
+use Rattle.nesting.specs.Answers.{refusal}
+use Rattle.nesting.specs.declared.StructureFault.{StructureFault}
+use Rattle.nesting.specs.declared.StructureFault.the-variants.{Sizes, Loop, Block, Header, Depth, EntryOrExit, PastHeader}
+use Rattle.certificate.specs.Answers.{tableMeaning}
+use Rattle.certificate.specs.declared.TableReply.{TableReply}
+use Rattle.certificate.specs.declared.TableReply.the-variants as table
+use Rattle.walk.specs.Reply.{meaning, WalkAnswered}
+use Rattle.walk.specs.declared.WalkReply.{WalkReply}
+use Rattle.walk.specs.declared.WalkReply.the-variants as walk
+use Rattle.tables.specs.Columns.{BlockColumns, LoopColumns, shortestBlock, shortestLoop, BlocksRead, LoopsRead}
+use Rattle.tables.specs.declared.Shape.the-variants.{Blocks, Loops}
+use Rattle.tables.specs.declared.ReadReply.{ReadReply}
+use Rattle.tables.specs.declared.ReadReply.the-variants.{Rows, Refused}
+use Rattle.rolkeyda.specs.declared.Reply.{Reply}
+use Rattle.rolkeyda.specs.Replies.{acceptance, refusing, ofTables, ofWalk, ofReading, PlaceFits, ValueFits, TablesReplied, WalkReplied}
+use Rattle.rolkeyda.proofs.Ranges.{Small, table-place, walk-place, Finished, walk-finished, layout-small}
+
+-- ---- 201 to 207
+
+-- the place of a fault, by its kind
+module _ {f : StructureFault} (F : PlaceFits (ofTables (refusal f))) where
+  pub at-loop : (l : ℕ) → f ≡ Loop l → l < 2 ^ 32
+  at-loop l e = rw e at (F .place)
+
+  pub at-block : (u : ℕ) → f ≡ Block u → u < 2 ^ 32
+  at-block u e = rw e at (F .place)
+
+  pub at-header : (l : ℕ) → f ≡ Header l → l < 2 ^ 32
+  at-header l e = rw e at (F .place)
+
+  pub at-depth : (l : ℕ) → f ≡ Depth l → l < 2 ^ 32
+  at-depth l e = rw e at (F .place)
+
+  pub at-entry-or-exit : (u : ℕ) → f ≡ EntryOrExit u → u < 2 ^ 32
+  at-entry-or-exit u e = rw e at (F .place)
+
+  pub at-past-header : (u : ℕ) → f ≡ PastHeader u → u < 2 ^ 32
+  at-past-header u e = rw e at (F .place)
+
+pub fault-reply : {f g : StructureFault} {r : Reply} → f ≡ g → r ≡ ofTables (refusal g) → r ≡ ofTables (refusal f)
+fault-reply e q = q ∙ ap (λ (x : StructureFault). ofTables (refusal x)) (sym e)
+
+-- a fault has the same fields in the reply to tables and to a walk, and its number is not 0
+same-fault : (f : StructureFault) → ofTables (refusal f) ≡ ofWalk (refusal f)
+same-fault Sizes = refl
+same-fault (Loop l) = refl
+same-fault (Block u) = refl
+same-fault (Header l) = refl
+same-fault (Depth l) = refl
+same-fault (EntryOrExit u) = refl
+same-fault (PastHeader u) = refl
+
+fault-number : (f : StructureFault) → ofTables (refusal f) .number ≡ 0 → ⊥
+fault-number Sizes e = omega arith
+fault-number (Loop l) e = omega arith
+fault-number (Block u) e = omega arith
+fault-number (Header l) e = omega arith
+fault-number (Depth l) e = omega arith
+fault-number (EntryOrExit u) e = omega arith
+fault-number (PastHeader u) e = omega arith
+
+-- ---- tables
+
+module _ {a : TableReply} (F : PlaceFits (ofTables (tableMeaning a))) where
+  pub table-structure : (f : StructureFault) → a ≡ table.Structure f → PlaceFits (ofTables (refusal f))
+  table-structure f e = record { place = rw e at (F .place) }
+
+  pub table-inequality : (u : ℕ) → a ≡ table.Inequality u → u < 2 ^ 32
+  table-inequality u e = rw e at (F .place)
+
+pub table-told : {a g : TableReply} {r : Reply} → a ≡ g → r ≡ ofTables (tableMeaning g) → r ≡ ofTables (tableMeaning a)
+table-told e q = q ∙ ap (λ (x : TableReply). ofTables (tableMeaning x)) (sym e)
+
+pub table-accepted : {a : TableReply} {r : Reply} (b : ℤ) → SFits w64 b → a ≡ table.Accepted b → r ≡ acceptance (toZ w64 (ofZ w64 b)) 0 → r ≡ ofTables (tableMeaning a)
+table-accepted b f e q = table-told e (q ∙ ap (λ (z : ℤ). acceptance z 0) (toZ-ofZ f))
+
+module _ (t : Routine) (a : TableReply) (C : Checked t (tableMeaning a)) where
+  pub table-fits : PlaceFits (ofTables (tableMeaning a))
+  table-fits = go (tableMeaning a) (C .replied)
+    where
+      go : (x : Answer ℤ) → x ≡ tableReply t → PlaceFits (ofTables x)
+      go (accepted b) e = record { place = omega arith }
+      go (refused n p) e = record { place = omega (arith, table-place t n p (sym e)) }
+
+  pub tables-replied : (r : Reply) → r ≡ ofTables (tableMeaning a) → TablesReplied t r
+  tables-replied r e = rw e record { replied = ap ofTables (C .replied); bounded = go a (C .bounded) }
+    where
+      go : (x : TableReply) → ((b : ℤ) → tableMeaning x ≡ accepted b → WcetBound t b) → ofTables (tableMeaning x) .number ≡ 0 → WcetBound t (ofTables (tableMeaning x) .value)
+      go (table.Accepted b) B z = B b refl
+      go (table.Structure f) B z = absurd (fault-number f z)
+      go (table.Inequality u) B z = absurd (omega arith)
+
+-- ---- walks
+
+module _ {a : WalkReply} (F : PlaceFits (ofWalk (meaning a))) where
+  pub walk-structure : (f : StructureFault) → a ≡ walk.Structure f → PlaceFits (ofTables (refusal f))
+  walk-structure f e = rw (same-fault f) (record { place = rw e at (F .place) })
+
+  pub at-no-block : (i : ℕ) → a ≡ walk.NoBlock i → i < 2 ^ 32
+  at-no-block i e = rw e at (F .place)
+
+  pub at-after-exit : (i : ℕ) → a ≡ walk.AfterExit i → i < 2 ^ 32
+  at-after-exit i e = rw e at (F .place)
+
+  pub at-no-edge : (i : ℕ) → a ≡ walk.NoEdge i → i < 2 ^ 32
+  at-no-edge i e = rw e at (F .place)
+
+  pub at-over-limit : (i : ℕ) → a ≡ walk.OverLimit i → i < 2 ^ 32
+  at-over-limit i e = rw e at (F .place)
+
+  pub at-unfinished : (n : ℕ) → a ≡ walk.Unfinished n → n < 2 ^ 32
+  at-unfinished n e = rw e at (F .place)
+
+pub walk-told : {a g : WalkReply} {r : Reply} → a ≡ g → r ≡ ofWalk (meaning g) → r ≡ ofWalk (meaning a)
+walk-told e q = q ∙ ap (λ (x : WalkReply). ofWalk (meaning x)) (sym e)
+
+pub walk-fault : {a : WalkReply} {r : Reply} (f : StructureFault) → a ≡ walk.Structure f → r ≡ ofTables (refusal f) → r ≡ ofWalk (meaning a)
+walk-fault f e q = walk-told e (q ∙ same-fault f)
+
+-- a number below 2^63, as the value of a reply
+pub value-fits : (n : ℕ) {m : ℕ} → ValueFits (acceptance (pos n) m) → SFits w64 (pos n)
+value-fits n F = record { sfits = omega (ints, F .value) }
+
+module _ {a : WalkReply} (F : ValueFits (ofWalk (meaning a))) (c s : ℕ) (e : a ≡ walk.Accepted c s) where
+  pub cost-fits : SFits w64 (pos c)
+  cost-fits = value-fits c {m = s} (record { value = rw e at (F .value) })
+
+  pub walk-accepted : {r : Reply} → r ≡ acceptance (toZ w64 c) s → r ≡ ofWalk (meaning a)
+  walk-accepted q = walk-told e (q ∙ ap (λ (z : ℤ). acceptance z s) (toZ-pos w64 (cost-fits .sfits)))
+
+record Acceptance (y : Answer Walked) : Type 0 where
+  walked : Walked
+  is : y ≡ accepted walked
+
+module _ (t : Routine) (w : List ℕ) (a : WalkReply) (C : WalkAnswered t w (meaning a)) where
+  walk-small : Small (ofWalk (meaning a))
+  walk-small = go (meaning a) (C .replied)
+    where
+      go : (x : Answer Walked) → x ≡ walkReply t w → Small (ofWalk x)
+      go (accepted x) e =
+          let F : Finished t w x = walk-finished t w x (sym e) in
+          record { place = record { place = omega arith }; value = record { value = omega (ints, F .most) } }
+      go (refused n p) e = record { place = record { place = omega (arith, walk-place t w n p (sym e)) }; value = record { value = omega ints } }
+
+  pub walk-fits : PlaceFits (ofWalk (meaning a)) × ValueFits (ofWalk (meaning a))
+  walk-fits = (walk-small .place, walk-small .value)
+
+  -- an answer whose number is 0 is an acceptance
+  accepting : (x : WalkReply) → ofWalk (meaning x) .number ≡ 0 → (y : Answer Walked) → y ≡ meaning x → Acceptance y
+  accepting (walk.Accepted c s) e y q = record { walked = record { total = c; steps = s }; is = q }
+  accepting (walk.Structure f) e y q = absurd (fault-number f (ap (λ (r : Reply). r .number) (same-fault f) ∙ e))
+  accepting walk.Length e y q = absurd (omega arith)
+  accepting (walk.NoBlock i) e y q = absurd (omega arith)
+  accepting walk.NotEntry e y q = absurd (omega arith)
+  accepting (walk.AfterExit i) e y q = absurd (omega arith)
+  accepting (walk.NoEdge i) e y q = absurd (omega arith)
+  accepting (walk.OverLimit i) e y q = absurd (omega arith)
+  accepting (walk.Unfinished n) e y q = absurd (omega arith)
+
+  finished : (x : Acceptance (meaning a)) → Finished t w (x .walked)
+  finished x = walk-finished t w (x .walked) (sym (C .replied) ∙ x .is)
+
+  pub walk-replied : (r : Reply) → r ≡ ofWalk (meaning a) → WalkReplied t w r
+  walk-replied r e = rw e record {
+    replied = ap ofWalk (C .replied);
+    accepts = λ h k. (
+      λ z. finished (accepting a z (meaning a) refl) .run,
+      λ f. ap (λ (x : Answer Walked). ofWalk x .number) (C .replied ∙ walks-exactly t h w k (walked t w) .1 (f, refl)),
+    );
+    cost = λ z.
+        let x : Acceptance (meaning a) = accepting a z (meaning a) refl in
+        let q : meaning a ≡ accepted (walked t w) = x .is ∙ ap accepted (finished x .same) in
+        (ap (λ (y : Answer Walked). ofWalk y .value) q, ap (λ (y : Answer Walked). ofWalk y .more) q);
+  }
+
+-- ---- readings
+
+module _ {a : ReadReply} (F : ValueFits (ofReading a)) (k : ℕ) (e : a ≡ Rows k) where
+  pub count-fits : SFits w64 (pos k)
+  count-fits = value-fits k {m = 0} (record { value = rw e at (F .value) })
+
+  pub rows-told : {r : Reply} → r ≡ acceptance (toZ w64 k) 0 → r ≡ ofReading a
+  rows-told q = q ∙ ap (λ (z : ℤ). acceptance z 0) (toZ-pos w64 (count-fits .sfits)) ∙ ap ofReading (sym e)
+
+pub record-fits : {a : ReadReply} → PlaceFits (ofReading a) → (n p : ℕ) → a ≡ Refused n p → p < 2 ^ 32
+record-fits F n p e = rw e at (F .place)
+
+pub refused-told : {a : ReadReply} {r : Reply} (n p : ℕ) → a ≡ Refused n p → r ≡ refusing n p → r ≡ ofReading a
+refused-told n p e q = q ∙ ap ofReading (sym e)
+
+pub blocks-fit : (s : List ℕ) (header : Bool) {old new : BlockColumns} {a : ReadReply} → BlocksRead s header old a new → PlaceFits (ofReading a) × ValueFits (ofReading a)
+blocks-fit s header {old} B = let S = layout-small Blocks (shortestBlock old) header s (B .reply) in (S .place, S .value)
+
+pub loops-fit : (s : List ℕ) (header : Bool) {old new : LoopColumns} {a : ReadReply} → LoopsRead s header old a new → PlaceFits (ofReading a) × ValueFits (ofReading a)
+loops-fit s header {old} B = let S = layout-small Loops (shortestLoop old) header s (B .reply) in (S .place, S .value)

@@ -1,0 +1,257 @@
+-- The numbers of every reply fit their widths: a place is at most 1,048,576, a cost at most 1,000,000 times that, a row count at most
+-- 1,024. Assumes nothing.
+use mathlib.Core.Path.{_≡_, refl, sym, _∙_, ap}
+use mathlib.Core.Bool.{Bool, true, false, not, cond}
+use mathlib.Core.List.{List, [], _∷_, _++_}
+use mathlib.Core.Option.{Option, none, some}
+use Prim.Native.Nat.{ℕ, suc, _+_, _*_, _≤_, _<_, min}
+use native.Mathlib.Omega.{arith}
+use lib.Dec.{eqb, ltb, leb}
+use lib.ListN.{length, List·getD-eq-default}
+use borrow.Author.Tests.{ltb-true, ltb-false}
+use Rattle.lists.specs.Search.{if_then_else_, firstBelow}
+use Rattle.lists.proofs.Search.{Lowest, not-found, found-lowest}
+use Rattle.lists.proofs.Tests.{or-false}
+use Rattle.integers.proofs.Laws.{ints}
+use Rattle.wcet.specs.Table.{Routine, blockCount, exit, cost, edge}
+use Rattle.wcet.specs.Rules.{Reply as Answer, accepted, refused, Rule, refusedAt, check, sizesWrong, structureRules, tableRules, bound, tableReply}
+use Rattle.wcet.specs.Run.{State, start, next, passesLimit, runCost}
+use Rattle.wcet.specs.Walk.{Walked, walked, longestWalk, lengthRule, walkFrom, walkBlocks, walkReply}
+use Rattle.wcet.specs.Claim.{AllHold, FinishedRun}
+use Rattle.wcet.proofs.Replies.{decides, hands-on, all-append, passes}
+use Rattle.wcet.proofs.Walks.{walks-exactly}
+use Rattle.nesting.specs.Columns.{Sized, Ranged}
+use Rattle.nesting.proofs.Stages.{fits, headed}
+use Rattle.csv.specs.Grammar.{Record, records}
+use Rattle.tables.specs.Row.{mostRows, rowOf}
+use Rattle.tables.specs.Table as table
+use Rattle.tables.specs.Table.{End, all, Reading, layoutOf, inTurn, placed, fieldOf, judge, stopped, onward, reading, tableOf}
+use Rattle.tables.specs.Columns.{replyBy, replyOf}
+use Rattle.tables.specs.declared.Shape.{Shape}
+use Rattle.tables.specs.declared.Shape.the-variants.{Blocks, Loops}
+use Rattle.tables.specs.declared.ReadReply.{ReadReply}
+use Rattle.tables.specs.declared.Row.{Row}
+use Rattle.tables.specs.declared.Row.the-variants.{Block, Loop, Bad}
+use Rattle.tables.specs.declared.Layout.{Layout}
+use Rattle.tables.specs.declared.Verdict.{Verdict}
+use Rattle.tables.specs.declared.Verdict.the-variants.{Taken, Fault}
+use Rattle.rolkeyda.specs.declared.Reply.{Reply}
+use Rattle.rolkeyda.specs.Replies.{ofReading, PlaceFits, ValueFits}
+
+-- ---- a list of rules
+
+-- no rule has more than m places
+abbrev Within : ℕ → List Rule → Type 0
+Within m [] = Unit {0}
+Within m (r ∷ rs) = (r .places ≤ m) × Within m rs
+
+within : {A : Type 0} (m : ℕ) (rs : List Rule) (passed : Answer A) (n p : ℕ) → Within m rs → (AllHold rs → passed ≡ refused n p → p ≤ m) → check rs passed ≡ refused n p → p ≤ m
+unfolding check
+within m [] passed n p W rest e = rest tt e
+within {A} m (r ∷ rs) passed n p W rest e = go (firstBelow (r .places) (r .broken)) refl e (within m rs passed n p (W .1))
+  where
+    go : (o : Option ℕ) → firstBelow (r .places) (r .broken) ≡ o → refusedAt {A = A} (r .number) o (check rs passed) ≡ refused n p
+        → ((AllHold rs → passed ≡ refused n p → p ≤ m) → check rs passed ≡ refused n p → p ≤ m) → p ≤ m
+    go (some q) f e later =
+        let l : Lowest (r .places) (r .broken) q = found-lowest (r .places) (r .broken) q f in
+        let there : q ≡ p = cc in
+        omega (arith, l .below, W .0)
+    go none f e later = later (λ h. rest (not-found (r .places) (r .broken) f, h)) e
+
+-- 201 is broken at place 0; where it holds, the columns are short
+sized-within : {A : Type 0} (t : Routine) (m : ℕ) (rs : List Rule) (passed : Answer A) (n p : ℕ) → (Sized t → Within m rs) → (AllHold rs → passed ≡ refused n p → p ≤ m)
+    → check (record { number = 201; places = 1; broken = λ _. sizesWrong t } ∷ rs) passed ≡ refused n p → p ≤ m
+sized-within {A} t m rs passed n p W rest e = go (sizesWrong t) refl
+  where
+    sizes : Rule
+    sizes = record { number = 201; places = 1; broken = λ _. sizesWrong t }
+
+    go : (b : Bool) → sizesWrong t ≡ b → p ≤ m
+    go true s =
+        let at-0 : _≡_ {A = Answer A} (refused 201 0) (refused n p) = sym (decides sizes rs passed 0 (record { below = omega arith; passes = s; first = λ j h. absurd (omega arith) })) ∙ e in
+        let there : 0 ≡ p = cc in
+        omega arith
+    go false s = within m rs passed n p (W (fits t s)) rest (sym (hands-on sizes rs passed (λ q h. s)) ∙ e)
+
+-- ---- tables
+
+pub table-place : (t : Routine) (n p : ℕ) → tableReply t ≡ refused n p → p ≤ longestWalk
+unfolding tableReply tableRules structureRules
+table-place t n p e =
+    sized-within t longestWalk _ (accepted (bound t)) n p
+    (λ S.
+    let b : blockCount t ≤ longestWalk = omega (arith, S .few-blocks) in
+    let l : length (t .parents) ≤ longestWalk = omega (arith, S .few-loops) in
+    (l, (b, (l, (l, (b, (b, (b, tt))))))))
+    (λ h q. absurd (let z : _≡_ {A = ℕ} 0 1 = cc in omega arith)) e
+
+-- ---- walks
+
+from-place : (t : Routine) (s : State) (i : ℕ) (w : List ℕ) (x : Walked) (n p : ℕ) → walkFrom t s i w (accepted x) ≡ refused n p → p ≤ i + length w
+unfolding walkFrom
+from-place t s i [] x n p e = go (eqb (s .block) (exit t)) e
+  where
+    go : (b : Bool) → (if b then accepted x else refused 314 i) ≡ refused n p → p ≤ i + 0
+    go true e = absurd (let z : _≡_ {A = ℕ} 0 1 = cc in omega arith)
+    go false e = let there : i ≡ p = cc in omega arith
+from-place t s i (v ∷ w) x n p e = go (not (ltb v (blockCount t))) (eqb (s .block) (exit t)) (not (edge t (s .block) v)) (passesLimit t (next t s v)) e (from-place t (next t s v) (suc i) w x n p)
+  where
+    rest : Answer Walked
+    rest = walkFrom t (next t s v) (suc i) w (accepted x)
+
+    here : i ≡ p → p ≤ i + suc (length w)
+    here e = omega arith
+
+    go : (a b c d : Bool) → (if a then refused 302 i else if b then refused 311 i else if c then refused 312 i else if d then refused 313 i else rest) ≡ refused n p
+        → (rest ≡ refused n p → p ≤ suc i + length w) → p ≤ i + suc (length w)
+    go true b c d e later = here cc
+    go false true c d e later = here cc
+    go false false true d e later = here cc
+    go false false false true e later = here cc
+    go false false false false e later = omega (arith, later e)
+
+blocks-place : (t : Routine) (w : List ℕ) (x : Walked) (n p : ℕ) → walkBlocks t w (accepted x) ≡ refused n p → p ≤ length w
+unfolding walkBlocks
+blocks-place t [] x n p e = absurd (let z : _≡_ {A = ℕ} 0 1 = cc in omega arith)
+blocks-place t (v ∷ w) x n p e = go (not (ltb v (blockCount t))) (not (eqb v 0)) e
+  where
+    first : 0 ≡ p → p ≤ suc (length w)
+    first e = omega arith
+
+    go : (a b : Bool) → (if a then refused 302 0 else if b then refused 303 0 else walkFrom t start 1 w (accepted x)) ≡ refused n p → p ≤ suc (length w)
+    go true b e = first cc
+    go false true e = first cc
+    go false false e = omega (arith, from-place t start 1 w x n p e)
+
+-- 301
+length-kept : (w : List ℕ) → AllHold (lengthRule w ∷ []) → length w ≤ longestWalk
+length-kept w h = ltb-false longestWalk (length w) (or-false (ltb (length w) 1) (ltb longestWalk (length w)) (h .0 0 (omega arith)) .1)
+
+pub walk-place : (t : Routine) (w : List ℕ) (n p : ℕ) → walkReply t w ≡ refused n p → p ≤ longestWalk
+unfolding walkReply structureRules
+walk-place t w n p e =
+    sized-within t longestWalk _ (walkBlocks t w (accepted (walked t w))) n p
+    (λ S.
+    let b : blockCount t ≤ longestWalk = omega (arith, S .few-blocks) in
+    let l : length (t .parents) ≤ longestWalk = omega (arith, S .few-loops) in
+    (l, (b, (l, (l, (b, (b, (omega arith, tt))))))))
+    (λ h q. let few : length w ≤ longestWalk = length-kept w (h .1 .1 .1 .1 .1 .1) in omega (arith, blocks-place t w (walked t w) n p q)) e
+
+-- a block that there is not costs 0
+cost-most : (t : Routine) → Ranged t → (v : ℕ) → cost t v ≤ 1000000
+cost-most t R v = go (ltb v (blockCount t)) refl
+  where
+    go : (b : Bool) → ltb v (blockCount t) ≡ b → cost t v ≤ 1000000
+    go true e = R .cost-most v (ltb-true v (blockCount t) e)
+    go false e = omega (arith, List·getD-eq-default (t .costs) 0 {n = v} (ltb-false v (blockCount t) e))
+
+run-most : (t : Routine) → Ranged t → (w : List ℕ) → runCost t w ≤ length w * 1000000
+unfolding runCost
+run-most t R [] = omega arith
+run-most t R (v ∷ w) = omega (arith, cost-most t R v, run-most t R w)
+
+-- an accepted walk is a finished counted run, with its cost and its length less one
+pub record Finished (t : Routine) (w : List ℕ) (x : Walked) : Type 0 where
+  pub run : FinishedRun t w
+  pub same : x ≡ walked t w
+  pub most : x .total ≤ longestWalk * 1000000
+
+pub walk-finished : (t : Routine) (w : List ℕ) (x : Walked) → walkReply t w ≡ accepted x → Finished t w x
+unfolding walkReply
+walk-finished t w x e =
+    let h = all-append (structureRules t) (lengthRule w ∷ []) (passes (structureRules t ++ lengthRule w ∷ []) _ x e .0) in
+    let few : length w ≤ longestWalk = length-kept w (h .1) in
+    let q : FinishedRun t w × (walked t w ≡ x) = walks-exactly t (h .0) w few x .0 e in
+    let total : runCost t w ≡ x .total = ap (λ (y : Walked). y .total) (q .1) in
+    record { run = q .0; same = sym (q .1); most = omega (arith, run-most t (headed t (h .0) .ranged) w) }
+
+-- ---- readings
+
+turn-room : (room k n : ℕ) (v w : Row) → inTurn room k n v ≡ Taken w → k < room
+turn-room room k n v w e = go (eqb n k) (ltb k room) refl e
+  where
+    go : (a b : Bool) → ltb k room ≡ b → cond a (cond b (Taken v) (Fault 106)) (Fault 105) ≡ Taken w → k < room
+    go true true f e = ltb-true k room f
+    go true false f e = absurd (let z : _≡_ {A = ℕ} 0 1 = cc in omega arith)
+    go false b f e = absurd (let z : _≡_ {A = ℕ} 0 1 = cc in omega arith)
+
+placed-room : (room k : ℕ) (v w : Row) → placed room k v ≡ Taken w → k < room
+placed-room room k (Block n c l a b z) w e = turn-room room k n (Block n c l a b z) w e
+placed-room room k (Loop n p h l m) w e = turn-room room k n (Loop n p h l m) w e
+placed-room room k Bad w e = absurd (let z : _≡_ {A = ℕ} 0 1 = cc in omega arith)
+
+judge-room : (t : Layout) (k : ℕ) (x : Record) (w : Row) → judge t k x ≡ Taken w → k < t .room
+unfolding judge
+judge-room t k x w e = go (x .sound) (eqb (length (x .fields)) (t .columns)) e
+  where
+    go : (a b : Bool) → cond a (cond b (placed (t .room) k (rowOf (t .shape) (fieldOf x))) (Fault 103)) (Fault 102) ≡ Taken w → k < t .room
+    go true true e = placed-room (t .room) k (rowOf (t .shape) (fieldOf x)) w e
+    go true false e = absurd (let z : _≡_ {A = ℕ} 0 1 = cc in omega arith)
+    go false b e = absurd (let z : _≡_ {A = ℕ} 0 1 = cc in omega arith)
+
+-- a reading from row k on: its rows have places, and it is refused at a record of at most `most`
+record Short (room most k : ℕ) (x : Reading) : Type 0 where
+  rows : k + length (x .rows) ≤ room
+  place : (n p : ℕ) → x .end ≡ table.refused n p → p ≤ most
+
+stopped-short : (room most k n p : ℕ) → k ≤ room → p ≤ most → Short room most k (stopped n p)
+stopped-short room most k n p h l = record { rows = omega arith; place = λ m q e. let there : p ≡ q = cc in omega arith }
+
+reading-short : (t : Layout) (first k : ℕ) (rs : List Record) → k ≤ t .room → Short (t .room) (first + t .room) k (reading t first k rs)
+unfolding reading
+reading-short t first k [] h = record { rows = omega arith; place = λ n p e. absurd (let z : _≡_ {A = ℕ} 0 1 = cc in omega arith) }
+reading-short t first k (r ∷ rs) h = go (judge t k r) refl (reading-short t first (suc k) rs)
+  where
+    go : (v : Verdict) → judge t k r ≡ v → (suc k ≤ t .room → Short (t .room) (first + t .room) (suc k) (reading t first (suc k) rs))
+        → Short (t .room) (first + t .room) k (onward (reading t first (suc k) rs) (first + k) v)
+    go (Taken w) e later = let S = later (judge-room t k r w e) in record { rows = omega (arith, S .rows); place = S .place }
+    go (Fault n) e later = stopped-short (t .room) (first + t .room) k n (first + k) h (omega arith)
+
+table-short : (t : Layout) (header : Bool) (s : List ℕ) → Short (t .room) (2 + t .room) 0 (tableOf t header s)
+unfolding tableOf
+table-short t header s = long (leb (length s) 65536)
+  where
+    stop : (n p : ℕ) → p ≤ 2 → Short (t .room) (2 + t .room) 0 (stopped n p)
+    stop n p h = stopped-short (t .room) (2 + t .room) 0 n p (omega arith) (omega arith)
+
+    behind : (rs : List Record) → Short (t .room) (2 + t .room) 0 (table.headed t rs)
+    behind [] = stop 103 1 (omega arith)
+    behind (r ∷ rs) = form (r .sound) (eqb (length (r .fields)) (t .columns))
+      where
+        form : (a b : Bool) → Short (t .room) (2 + t .room) 0 (cond a (cond b (reading t 2 0 rs) (stopped 103 1)) (stopped 102 1))
+        form true true = reading-short t 2 0 rs (omega arith)
+        form true false = stop 103 1 (omega arith)
+        form false b = stop 102 1 (omega arith)
+
+    plain : Short (t .room) (2 + t .room) 0 (reading t 1 0 (records s))
+    plain = let S = reading-short t 1 0 (records s) (omega arith) in record { rows = S .rows; place = λ n p e. omega (arith, S .place n p e) }
+
+    head : (b : Bool) → Short (t .room) (2 + t .room) 0 (cond b (table.headed t (records s)) (reading t 1 0 (records s)))
+    head true = behind (records s)
+    head false = plain
+
+    long : (b : Bool) → Short (t .room) (2 + t .room) 0 (cond b (cond header (table.headed t (records s)) (reading t 1 0 (records s))) (stopped 101 0))
+    long true = head header
+    long false = stop 101 0 (omega arith)
+
+pub record Small (r : Reply) : Type 0 where
+  pub place : PlaceFits r
+  pub value : ValueFits r
+
+reading-small : (t : Layout) → t .room ≤ 1024 → (header : Bool) (s : List ℕ) → Small (ofReading (replyOf (tableOf t header s)))
+reading-small t few header s = go (tableOf t header s .end) refl
+  where
+    S : Short (t .room) (2 + t .room) 0 (tableOf t header s)
+    S = table-short t header s
+
+    go : (e : End) → tableOf t header s .end ≡ e → Small (ofReading (replyBy (length (tableOf t header s .rows)) e))
+    go all q = record { place = record { place = omega arith }; value = record { value = omega (ints, S .rows) } }
+    go (table.refused n p) q = record { place = record { place = omega (arith, S .place n p q) }; value = record { value = omega ints } }
+
+-- a reading of either table
+pub layout-small : (x : Shape) (places : ℕ) (header : Bool) (s : List ℕ) {a : ReadReply} → a ≡ replyOf (tableOf (layoutOf x places) header s) → Small (ofReading a)
+layout-small x places header s e = rw e (reading-small (layoutOf x places) (go x) header s)
+  where
+    go : (y : Shape) → min places (mostRows y) ≤ 1024
+    go Blocks = omega arith
+    go Loops = omega arith

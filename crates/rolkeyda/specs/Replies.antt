@@ -1,0 +1,73 @@
+-- The one reply of the C library: its four numbers from each answer of the papers, and what each exported function promises of them.
+use Prim.Native.Nat.{ℕ, _-_, _^_, _≤_, _<_}
+use mathlib.Core.Path.{_≡_}
+use mathlib.Core.Logic.{_↔_}
+use mathlib.Core.Bool.{Bool}
+use mathlib.Core.List.{List}
+use lib.IntN.{ℤ, pos}
+use lib.ListN.{length}
+use lib.Signed.{_<ℤ_}
+use Rattle.wcet.specs.Table.{Routine}
+use Rattle.wcet.specs.Rules.{Reply as Answer, accepted, refused, structureRules, tableReply}
+use Rattle.wcet.specs.Run.{runCost}
+use Rattle.wcet.specs.Walk.{Walked, longestWalk, walkReply}
+use Rattle.wcet.specs.Claim.{WcetBound, AllHold, FinishedRun}
+use Rattle.tables.specs.Columns.{BlockColumns, LoopColumns, BlocksRead, LoopsRead}
+use Rattle.tables.specs.declared.ReadReply.{ReadReply}
+use Rattle.tables.specs.declared.ReadReply.the-variants.{Rows, Refused}
+use Rattle.rolkeyda.specs.declared.Reply.{Reply}
+
+-- number 0 is acceptance
+abbrev pub acceptance : ℤ → ℕ → Reply
+acceptance value more = record { number = 0; place = 0; value = value; more = more }
+
+-- "Each refusal is a number and a place."
+abbrev pub refusing : ℕ → ℕ → Reply
+refusing number place = record { number = number; place = place; value = pos 0; more = 0 }
+
+-- of a pair of tables, the bound
+abbrev pub ofTables : Answer ℤ → Reply
+ofTables (accepted b) = acceptance b 0
+ofTables (refused n p) = refusing n p
+
+-- of a walk, its cost and its steps
+abbrev pub ofWalk : Answer Walked → Reply
+ofWalk (accepted w) = acceptance (pos (w .total)) (w .steps)
+ofWalk (refused n p) = refusing n p
+
+-- of a reading, the row count
+abbrev pub ofReading : ReadReply → Reply
+ofReading (Rows k) = acceptance (pos k) 0
+ofReading (Refused n p) = refusing n p
+
+-- numbers that fit their widths: for functions that are no public entry
+pub record PlaceFits (r : Reply) : Type 0 where
+  pub place : r .place < 2 ^ 32
+
+pub record ValueFits (r : Reply) : Type 0 where
+  pub value : r .value <ℤ pos (2 ^ 63)
+
+-- ---- what the exported functions promise
+
+-- Demand 2 and demand 3 of the reply to a pair of tables.
+pub record TablesReplied (t : Routine) (r : Reply) : Type 0 where
+  pub replied : r ≡ ofTables (tableReply t)
+  pub bounded : r .number ≡ 0 → WcetBound t (r .value)
+
+-- Demand 2 of the reply to a walk: "A walk within the length limit, over tables that keep those ranges and rules, is accepted exactly when
+-- it is a finished counted run, with its true cost".
+pub record WalkReplied (t : Routine) (w : List ℕ) (r : Reply) : Type 0 where
+  pub replied : r ≡ ofWalk (walkReply t w)
+  pub accepts : AllHold (structureRules t) → length w ≤ longestWalk → (r .number ≡ 0) ↔ FinishedRun t w
+  pub cost : r .number ≡ 0 → (r .value ≡ pos (runCost t w)) × (r .more ≡ length w - 1)
+
+-- Demand 1 of the reply to a text: it is the answer of which the reader's promise holds, which there is one of.
+pub record BlocksReplied (s : List ℕ) (header : Bool) (old : BlockColumns) (r : Reply) (new : BlockColumns) : Type 0 where
+  pub answer : ReadReply
+  pub replied : r ≡ ofReading answer
+  pub read : BlocksRead s header old answer new
+
+pub record LoopsReplied (s : List ℕ) (header : Bool) (old : LoopColumns) (r : Reply) (new : LoopColumns) : Type 0 where
+  pub answer : ReadReply
+  pub replied : r ≡ ofReading answer
+  pub read : LoopsRead s header old answer new

@@ -1,0 +1,193 @@
+// The C library: the readers, the table checker and the walk checker, each with one reply struct for every answer. Nothing is decided
+// here; each function hands its answer over in the struct's fields.
+ghost use mathlib.Core.Path.{_≡_};
+ghost use Rattle.nesting.specs.Columns.{routine};
+ghost use Rattle.nesting.specs.Answers.{refusal};
+ghost use Rattle.certificate.specs.Answers.{tableMeaning};
+ghost use Rattle.walk.specs.Reply.{meaning};
+ghost use Rattle.tables.specs.Columns.{blocks, loops};
+ghost use Rattle.rolkeyda.specs.Replies.{acceptance, refusing, ofTables, ofWalk, ofReading, PlaceFits, ValueFits, TablesReplied, WalkReplied, BlocksReplied, LoopsReplied};
+ghost use Prim.Native.Nat.{_<_, _^_};
+use certificate::TableReply;
+use nesting::StructureFault;
+use tables::ReadReply;
+use walk::WalkReply;
+
+// number 0: accepted, with value the row count, the bound or the cost, and more the steps of a walk. Else the number and place of a refusal.
+#[repr(C)]
+pub struct Reply {
+    pub number: u32,
+    pub place: u32,
+    pub value: i64,
+    pub more: u64,
+}
+
+fn accepted(value: i64, more: u64) -> Reply
+    ensures { λ r. ⌜ r ≡ acceptance value more ⌝ }
+{
+    Reply {
+        number: 0,
+        place: 0,
+        value,
+        more,
+    }
+}
+
+fn refused(number: u32, place: usize) -> Reply
+    requires { ⌜ place < 2 ^ 32 ⌝ }
+    ensures { λ r. ⌜ r ≡ refusing number place ⌝ }
+{
+    Reply {
+        number,
+        place: place as u32,
+        value: 0,
+        more: 0,
+    }
+}
+
+// 201 to 207.
+fn structure(fault: StructureFault) -> Reply
+    requires { ⌜ PlaceFits (ofTables (refusal fault)) ⌝ }
+    ensures { λ r. ⌜ r ≡ ofTables (refusal fault) ⌝ }
+{
+    match fault {
+        StructureFault::Sizes => refused(201, 0),
+        StructureFault::Loop(l) => refused(202, l),
+        StructureFault::Block(u) => refused(203, u),
+        StructureFault::Header(l) => refused(204, l),
+        StructureFault::Depth(l) => refused(205, l),
+        StructureFault::EntryOrExit(u) => refused(206, u),
+        StructureFault::PastHeader(u) => refused(207, u),
+    }
+}
+
+fn table_reply(answer: TableReply) -> Reply
+    requires { ⌜ PlaceFits (ofTables (tableMeaning answer)) ⌝ }
+    ensures { λ r. ⌜ r ≡ ofTables (tableMeaning answer) ⌝ }
+{
+    match answer {
+        TableReply::Accepted(bound) => accepted(bound, 0),
+        TableReply::Structure(fault) => structure(fault),
+        TableReply::Inequality(u) => refused(208, u),
+    }
+}
+
+fn walk_reply(answer: WalkReply) -> Reply
+    requires { ⌜ PlaceFits (ofWalk (meaning answer)) × ValueFits (ofWalk (meaning answer)) ⌝ }
+    ensures { λ r. ⌜ r ≡ ofWalk (meaning answer) ⌝ }
+{
+    match answer {
+        WalkReply::Accepted { cost, steps } => accepted(cost as i64, steps as u64),
+        WalkReply::Structure(fault) => structure(fault),
+        WalkReply::Length => refused(301, 0),
+        WalkReply::NoBlock(i) => refused(302, i),
+        WalkReply::NotEntry => refused(303, 0),
+        WalkReply::AfterExit(i) => refused(311, i),
+        WalkReply::NoEdge(i) => refused(312, i),
+        WalkReply::OverLimit(i) => refused(313, i),
+        WalkReply::Unfinished(length) => refused(314, length),
+    }
+}
+
+fn read_reply(answer: ReadReply) -> Reply
+    requires { ⌜ PlaceFits (ofReading answer) × ValueFits (ofReading answer) ⌝ }
+    ensures { λ r. ⌜ r ≡ ofReading answer ⌝ }
+{
+    match answer {
+        ReadReply::Rows(count) => accepted(count as i64, 0),
+        ReadReply::Refused { number, record } => refused(number, record),
+    }
+}
+
+// Reads a block table into the columns. A refusal leaves them as they were.
+#[no_mangle]
+pub extern "C" fn rolkeyda_read_blocks(
+    text: &[u8],
+    header: bool,
+    cost: &mut [u32],
+    loops: &mut [u16],
+    first: &mut [u16],
+    second: &mut [u16],
+    figure: &mut [i64],
+) -> Reply
+    ensures { λ r. ⌜ BlocksReplied (now (text .entry)) header (blocks (now (cost .entry)) (now (loops .entry)) (now (first .entry)) (now (second .entry)) (now (figure .entry))) r (blocks (now (cost .exit)) (now (loops .exit)) (now (first .exit)) (now (second .exit)) (now (figure .exit))) ⌝ }
+{
+    let answer = tables::read_blocks(text, header, cost, loops, first, second, figure);
+    read_reply(answer)
+}
+
+// Reads a loop table into the columns. A refusal leaves them as they were.
+#[no_mangle]
+pub extern "C" fn rolkeyda_read_loops(
+    text: &[u8],
+    header: bool,
+    parent: &mut [u16],
+    head: &mut [u16],
+    limit: &mut [u32],
+    multiplier: &mut [u64],
+) -> Reply
+    ensures { λ r. ⌜ LoopsReplied (now (text .entry)) header (loops (now (parent .entry)) (now (head .entry)) (now (limit .entry)) (now (multiplier .entry))) r (loops (now (parent .exit)) (now (head .exit)) (now (limit .exit)) (now (multiplier .exit))) ⌝ }
+{
+    let answer = tables::read_loops(text, header, parent, head, limit, multiplier);
+    read_reply(answer)
+}
+
+// The bound of a pair of tables, or the first broken rule.
+#[no_mangle]
+pub extern "C" fn rolkeyda_check(
+    cost: &[u32],
+    loops: &[u16],
+    first: &[u16],
+    second: &[u16],
+    figure: &[i64],
+    parent: &[u16],
+    header: &[u16],
+    limit: &[u32],
+    multiplier: &[u64],
+) -> Reply
+    ensures { λ r. ⌜ TablesReplied (routine (now (cost .entry)) (now (loops .entry)) (now (first .entry)) (now (second .entry)) (now (figure .entry)) (now (parent .entry)) (now (header .entry)) (now (limit .entry)) (now (multiplier .entry))) r ⌝ }
+{
+    let answer = certificate::check(
+        cost,
+        loops,
+        first,
+        second,
+        figure,
+        parent,
+        header,
+        limit,
+        multiplier,
+    );
+    table_reply(answer)
+}
+
+// The cost and the steps of a walk, or what is wrong with it or with its tables.
+#[no_mangle]
+pub extern "C" fn rolkeyda_walk(
+    cost: &[u32],
+    loops: &[u16],
+    first: &[u16],
+    second: &[u16],
+    figure: &[i64],
+    parent: &[u16],
+    header: &[u16],
+    limit: &[u32],
+    multiplier: &[u64],
+    blocks: &[u16],
+) -> Reply
+    ensures { λ r. ⌜ WalkReplied (routine (now (cost .entry)) (now (loops .entry)) (now (first .entry)) (now (second .entry)) (now (figure .entry)) (now (parent .entry)) (now (header .entry)) (now (limit .entry)) (now (multiplier .entry))) (now (blocks .entry)) r ⌝ }
+{
+    let answer = walk::walk(
+        cost,
+        loops,
+        first,
+        second,
+        figure,
+        parent,
+        header,
+        limit,
+        multiplier,
+        blocks,
+    );
+    walk_reply(answer)
+}

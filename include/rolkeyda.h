@@ -1,0 +1,102 @@
+/*
+ * Rolkeyda: the importer and the final checker of a worst-case execution time (WCET) analysis, proved.
+ *
+ * Every function takes any input, looks it over itself and returns a Reply by value; none keeps a pointer, allocates or fails otherwise.
+ * A column is a pointer to its first value and then its length, a count of values (of bytes for a text). Columns that a function writes
+ * must not overlap each other or the text. A column of length 0 may have any pointer that is not NULL.
+ *
+ * Build the library with `rt staticlib rolkeyda`.
+ */
+#ifndef ROLKEYDA_H
+#define ROLKEYDA_H
+
+#include <stdbool.h>
+#include <stddef.h>
+#include <stdint.h>
+
+#ifdef __cplusplus
+extern "C" {
+#endif
+
+/* A successor that a block has not. */
+#define ROLKEYDA_MISSING 65535u
+
+/* The most that a table or a walk may have, and so the columns that hold any table. */
+#define ROLKEYDA_MOST_BLOCKS 1024u
+#define ROLKEYDA_MOST_LOOPS 64u
+#define ROLKEYDA_MOST_BYTES 65536u
+#define ROLKEYDA_LONGEST_WALK 1048576u
+
+/*
+ * number   0: accepted. Else the number of the lowest rule that is broken:
+ *          101 to 106 of a text, 201 to 208 of a pair of tables, 301 to 303 and 311 to 314 of a walk.
+ * place    where: the record of a text (the first is 1), the block or loop of a table, the index of a walk. 0 when accepted.
+ * value    when accepted: the count of rows, the bound, or the cost. Else 0.
+ * more     when a walk is accepted: its steps, the length less one. Else 0.
+ */
+typedef struct rolkeyda_reply {
+    uint32_t number;
+    uint32_t place;
+    int64_t value;
+    uint64_t more;
+} rolkeyda_reply;
+
+/*
+ * Reads a block table (number, cost, loop, first successor, second successor, figure; RFC 4180) into five columns. `header` says whether
+ * record 1 is a header. Accepted: the first `value` places of each column hold the rows and later places keep their contents. Refused: no
+ * column is changed. 106 where the shortest column has no place for a row.
+ */
+rolkeyda_reply rolkeyda_read_blocks(
+    const uint8_t *text, size_t text_length,
+    bool header,
+    uint32_t *cost, size_t cost_length,
+    uint16_t *loops, size_t loops_length,
+    uint16_t *first, size_t first_length,
+    uint16_t *second, size_t second_length,
+    int64_t *figure, size_t figure_length);
+
+/* Reads a loop table (number, parent, header, limit, multiplier) into four columns, by the same rules. */
+rolkeyda_reply rolkeyda_read_loops(
+    const uint8_t *text, size_t text_length,
+    bool header,
+    uint16_t *parent, size_t parent_length,
+    uint16_t *head, size_t head_length,
+    uint32_t *limit, size_t limit_length,
+    uint64_t *multiplier, size_t multiplier_length);
+
+/*
+ * Checks a pair of tables. Accepted: `value` is the bound, and no counted run from block 0 to the last block costs more, whoever proposed
+ * the figures and the multipliers. A negative bound: no such run exists.
+ */
+rolkeyda_reply rolkeyda_check(
+    const uint32_t *cost, size_t cost_length,
+    const uint16_t *loops, size_t loops_length,
+    const uint16_t *first, size_t first_length,
+    const uint16_t *second, size_t second_length,
+    const int64_t *figure, size_t figure_length,
+    const uint16_t *parent, size_t parent_length,
+    const uint16_t *header, size_t header_length,
+    const uint32_t *limit, size_t limit_length,
+    const uint64_t *multiplier, size_t multiplier_length);
+
+/*
+ * Checks a walk, a list of block numbers, over tables that keep 201 to 207 (208 is not asked). Accepted: the walk is a finished counted
+ * run, `value` is its cost and `more` its steps.
+ */
+rolkeyda_reply rolkeyda_walk(
+    const uint32_t *cost, size_t cost_length,
+    const uint16_t *loops, size_t loops_length,
+    const uint16_t *first, size_t first_length,
+    const uint16_t *second, size_t second_length,
+    const int64_t *figure, size_t figure_length,
+    const uint16_t *parent, size_t parent_length,
+    const uint16_t *header, size_t header_length,
+    const uint32_t *limit, size_t limit_length,
+    const uint64_t *multiplier, size_t multiplier_length,
+    const uint16_t *blocks, size_t blocks_length);
+
+#ifdef __cplusplus
+}
+#endif
+
+#endif
