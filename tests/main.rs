@@ -83,13 +83,15 @@ fn show_tables(tables: &Tables) -> String {
     )
 }
 
-/// A shorter text that the two sides still disagree on.
+/// A shorter text that the two sides still disagree on, found in at most 2,000 trials.
 fn shorter(bench: &mut Bench, case: &Case) -> Case {
     let mut best = case.clone();
     let mut part = best.text.len() / 2;
+    let mut trials = 0;
     while part > 0 {
         let mut at = 0;
-        while at + part <= best.text.len() {
+        while at + part <= best.text.len() && trials < 2000 {
+            trials += 1;
             let mut tried = best.clone();
             tried.text.drain(at..at + part);
             if bench.read(&tried).is_err() {
@@ -107,7 +109,7 @@ fn read(bench: &mut Bench, tally: &mut Tally, case: &Case) {
     let mut outcome = bench.read(case);
     let mut shown = String::new();
     if outcome.is_err() {
-        let best = if tally.failed < 20 { shorter(bench, case) } else { case.clone() };
+        let best = if tally.failed < 5 { shorter(bench, case) } else { case.clone() };
         shown = show_case(&best);
         outcome = bench.read(&best).and(outcome);
     }
@@ -127,15 +129,18 @@ fn part(seed: u64, rounds: usize) -> Tally {
             read(&mut bench, &mut tally, &case);
         }
         let tables = graphs::tables(&mut random);
-        tally.count(2, bench.check(&tables), || show_tables(&tables));
+        let checked = bench.check(&tables);
+        let bound = checked.as_ref().ok().filter(|reply| reply.number == 0).map(|reply| reply.value);
         // most walks on tables that are good for walks
-        let walks = match reference::check(&tables.blocks, &tables.loops) {
-            Err(refusal) if refusal.number < 208 => 1,
-            _ => 4,
-        };
+        let walks = if checked.as_ref().is_ok_and(|reply| (201..208).contains(&reply.number)) { 1 } else { 4 };
+        tally.count(2, checked, || show_tables(&tables));
         for _ in 0..walks {
             let list = graphs::walk(&mut random, &tables);
-            tally.count(3, bench.walk(&tables, &list), || format!("{}\n  walk {list:?}", show_tables(&tables)));
+            let outcome = bench.walk(&tables, &list).and_then(|reply| match bound {
+                Some(bound) if reply.number == 0 && reply.value > bound => Err(format!("cost {} over the bound {bound}", reply.value)),
+                _ => Ok(reply),
+            });
+            tally.count(3, outcome, || format!("{}\n  walk {list:?}", show_tables(&tables)));
         }
     }
     tally
