@@ -1,0 +1,109 @@
+//! The C ABI of the library, and wrappers that take slices.
+
+#[repr(C)]
+#[derive(Clone, Copy, Debug, PartialEq, Eq)]
+pub struct Reply {
+    pub number: u32,
+    pub place: u32,
+    pub value: i64,
+    pub more: u64,
+}
+
+#[link(name = "rolkeyda", kind = "static")]
+extern "C" {
+    fn rolkeyda_read_blocks(
+        text: *const u8, text_length: usize, header: bool,
+        cost: *mut u32, cost_length: usize, inner: *mut u16, inner_length: usize,
+        first: *mut u16, first_length: usize, second: *mut u16, second_length: usize,
+        figure: *mut i64, figure_length: usize,
+    ) -> Reply;
+
+    fn rolkeyda_read_loops(
+        text: *const u8, text_length: usize, header: bool,
+        parent: *mut u16, parent_length: usize, head: *mut u16, head_length: usize,
+        limit: *mut u32, limit_length: usize, multiplier: *mut u64, multiplier_length: usize,
+    ) -> Reply;
+
+    fn rolkeyda_check(
+        cost: *const u32, cost_length: usize, inner: *const u16, inner_length: usize,
+        first: *const u16, first_length: usize, second: *const u16, second_length: usize,
+        figure: *const i64, figure_length: usize,
+        parent: *const u16, parent_length: usize, head: *const u16, head_length: usize,
+        limit: *const u32, limit_length: usize, multiplier: *const u64, multiplier_length: usize,
+    ) -> Reply;
+
+    fn rolkeyda_walk(
+        cost: *const u32, cost_length: usize, inner: *const u16, inner_length: usize,
+        first: *const u16, first_length: usize, second: *const u16, second_length: usize,
+        figure: *const i64, figure_length: usize,
+        parent: *const u16, parent_length: usize, head: *const u16, head_length: usize,
+        limit: *const u32, limit_length: usize, multiplier: *const u64, multiplier_length: usize,
+        blocks: *const u16, blocks_length: usize,
+    ) -> Reply;
+}
+
+/// The nine columns of a pair of tables.
+#[derive(Clone, Copy)]
+pub struct Columns<'a> {
+    pub cost: &'a [u32],
+    pub inner: &'a [u16],
+    pub first: &'a [u16],
+    pub second: &'a [u16],
+    pub figure: &'a [i64],
+    pub parent: &'a [u16],
+    pub header: &'a [u16],
+    pub limit: &'a [u32],
+    pub multiplier: &'a [u64],
+}
+
+pub fn read_blocks(
+    text: &[u8], header: bool,
+    cost: &mut [u32], inner: &mut [u16], first: &mut [u16], second: &mut [u16], figure: &mut [i64],
+) -> Reply {
+    unsafe {
+        rolkeyda_read_blocks(
+            text.as_ptr(), text.len(), header,
+            cost.as_mut_ptr(), cost.len(), inner.as_mut_ptr(), inner.len(),
+            first.as_mut_ptr(), first.len(), second.as_mut_ptr(), second.len(),
+            figure.as_mut_ptr(), figure.len(),
+        )
+    }
+}
+
+pub fn read_loops(
+    text: &[u8], header: bool,
+    parent: &mut [u16], head: &mut [u16], limit: &mut [u32], multiplier: &mut [u64],
+) -> Reply {
+    unsafe {
+        rolkeyda_read_loops(
+            text.as_ptr(), text.len(), header,
+            parent.as_mut_ptr(), parent.len(), head.as_mut_ptr(), head.len(),
+            limit.as_mut_ptr(), limit.len(), multiplier.as_mut_ptr(), multiplier.len(),
+        )
+    }
+}
+
+pub fn check(c: Columns) -> Reply {
+    unsafe {
+        rolkeyda_check(
+            c.cost.as_ptr(), c.cost.len(), c.inner.as_ptr(), c.inner.len(),
+            c.first.as_ptr(), c.first.len(), c.second.as_ptr(), c.second.len(),
+            c.figure.as_ptr(), c.figure.len(),
+            c.parent.as_ptr(), c.parent.len(), c.header.as_ptr(), c.header.len(),
+            c.limit.as_ptr(), c.limit.len(), c.multiplier.as_ptr(), c.multiplier.len(),
+        )
+    }
+}
+
+pub fn walk(c: Columns, blocks: &[u16]) -> Reply {
+    unsafe {
+        rolkeyda_walk(
+            c.cost.as_ptr(), c.cost.len(), c.inner.as_ptr(), c.inner.len(),
+            c.first.as_ptr(), c.first.len(), c.second.as_ptr(), c.second.len(),
+            c.figure.as_ptr(), c.figure.len(),
+            c.parent.as_ptr(), c.parent.len(), c.header.as_ptr(), c.header.len(),
+            c.limit.as_ptr(), c.limit.len(), c.multiplier.as_ptr(), c.multiplier.len(),
+            blocks.as_ptr(), blocks.len(),
+        )
+    }
+}

@@ -1,0 +1,162 @@
+//! One case at a time: the library and the reference on the same input, with guards around all that is lent.
+
+use crate::abi::{self, Columns, Reply};
+use crate::graphs::Tables;
+use crate::lent::Yard;
+use crate::random::Random;
+use crate::reference::{self, Refusal};
+use crate::texts::{Case, Table};
+
+/// The memory that is lent, and the generator for old contents and places.
+pub struct Bench {
+    text: Yard,
+    columns: Vec<Yard>,
+    list: Yard,
+    random: Random,
+}
+
+/// The reply of an answer: number 0 with its values, or the number and the place with values 0.
+fn reply(answer: Result<(i64, u64), Refusal>) -> Reply {
+    match answer {
+        Ok((value, more)) => Reply { number: 0, place: 0, value, more },
+        Err(refusal) => Reply { number: refusal.number, place: refusal.place, value: 0, more: 0 },
+    }
+}
+
+fn agree(wanted: Reply, given: Reply) -> Result<Reply, String> {
+    if wanted == given {
+        Ok(given)
+    } else {
+        Err(format!("the reference says {wanted:?}, the library {given:?}"))
+    }
+}
+
+/// `old` with `rows` over its first places.
+fn filled<T: Copy>(old: &[T], rows: &[T]) -> Vec<T> {
+    let mut filled = old.to_vec();
+    filled[..rows.len()].copy_from_slice(rows);
+    filled
+}
+
+fn unchanged(ok: bool, what: &str) -> Result<(), String> {
+    if ok { Ok(()) } else { Err(format!("{what}: other contents than wanted, or a byte around it has changed")) }
+}
+
+impl Bench {
+    pub fn new(seed: u64) -> Bench {
+        let column = || Yard::new(64 * 1024);
+        Bench {
+            text: Yard::new(512 * 1024),
+            columns: (0..9).map(|_| column()).collect(),
+            list: Yard::new(2 * 1_048_600),
+            random: Random::new(seed),
+        }
+    }
+
+    pub fn read(&mut self, case: &Case) -> Result<Reply, String> {
+        match case.table {
+            Table::Blocks => self.read_blocks(case),
+            Table::Loops => self.read_loops(case),
+        }
+    }
+
+    fn read_blocks(&mut self, case: &Case) -> Result<Reply, String> {
+        let Bench { text, columns, random, .. } = self;
+        let [a, b, c, d, e] = case.lengths;
+        let cost: Vec<u32> = (0..a).map(|_| random.next() as u32).collect();
+        let inner: Vec<u16> = (0..b).map(|_| random.next() as u16).collect();
+        let first: Vec<u16> = (0..c).map(|_| random.next() as u16).collect();
+        let second: Vec<u16> = (0..d).map(|_| random.next() as u16).collect();
+        let figure: Vec<i64> = (0..e).map(|_| random.next() as i64).collect();
+        let wanted = reference::read_blocks(&case.text, case.header, a.min(b).min(c).min(d).min(e));
+        let given = abi::read_blocks(
+            text.lend(&case.text, random),
+            case.header,
+            columns[0].lend(&cost, random),
+            columns[1].lend(&inner, random),
+            columns[2].lend(&first, random),
+            columns[3].lend(&second, random),
+            columns[4].lend(&figure, random),
+        );
+        let rows = wanted.clone().unwrap_or_default();
+        unchanged(text.holds(&case.text), "the text")?;
+        unchanged(columns[0].holds(&filled(&cost, &rows.cost)), "column cost")?;
+        unchanged(columns[1].holds(&filled(&inner, &rows.inner)), "column loop")?;
+        unchanged(columns[2].holds(&filled(&first, &rows.first)), "column first")?;
+        unchanged(columns[3].holds(&filled(&second, &rows.second)), "column second")?;
+        unchanged(columns[4].holds(&filled(&figure, &rows.figure)), "column figure")?;
+        agree(reply(wanted.map(|rows| (rows.cost.len() as i64, 0))), given)
+    }
+
+    fn read_loops(&mut self, case: &Case) -> Result<Reply, String> {
+        let Bench { text, columns, random, .. } = self;
+        let [a, b, c, d, _] = case.lengths;
+        let parent: Vec<u16> = (0..a).map(|_| random.next() as u16).collect();
+        let header: Vec<u16> = (0..b).map(|_| random.next() as u16).collect();
+        let limit: Vec<u32> = (0..c).map(|_| random.next() as u32).collect();
+        let multiplier: Vec<u64> = (0..d).map(|_| random.next()).collect();
+        let wanted = reference::read_loops(&case.text, case.header, a.min(b).min(c).min(d));
+        let given = abi::read_loops(
+            text.lend(&case.text, random),
+            case.header,
+            columns[5].lend(&parent, random),
+            columns[6].lend(&header, random),
+            columns[7].lend(&limit, random),
+            columns[8].lend(&multiplier, random),
+        );
+        let rows = wanted.clone().unwrap_or_default();
+        unchanged(text.holds(&case.text), "the text")?;
+        unchanged(columns[5].holds(&filled(&parent, &rows.parent)), "column parent")?;
+        unchanged(columns[6].holds(&filled(&header, &rows.header)), "column header")?;
+        unchanged(columns[7].holds(&filled(&limit, &rows.limit)), "column limit")?;
+        unchanged(columns[8].holds(&filled(&multiplier, &rows.multiplier)), "column multiplier")?;
+        agree(reply(wanted.map(|rows| (rows.parent.len() as i64, 0))), given)
+    }
+
+    fn lend(&mut self, tables: &Tables) -> Columns<'static> {
+        let Bench { columns, random, .. } = self;
+        let Tables { blocks, loops } = tables;
+        Columns {
+            cost: columns[0].lend(&blocks.cost, random),
+            inner: columns[1].lend(&blocks.inner, random),
+            first: columns[2].lend(&blocks.first, random),
+            second: columns[3].lend(&blocks.second, random),
+            figure: columns[4].lend(&blocks.figure, random),
+            parent: columns[5].lend(&loops.parent, random),
+            header: columns[6].lend(&loops.header, random),
+            limit: columns[7].lend(&loops.limit, random),
+            multiplier: columns[8].lend(&loops.multiplier, random),
+        }
+    }
+
+    fn kept(&mut self, tables: &Tables) -> Result<(), String> {
+        let Tables { blocks, loops } = tables;
+        let columns = &mut self.columns;
+        unchanged(columns[0].holds(&blocks.cost), "column cost")?;
+        unchanged(columns[1].holds(&blocks.inner), "column loop")?;
+        unchanged(columns[2].holds(&blocks.first), "column first")?;
+        unchanged(columns[3].holds(&blocks.second), "column second")?;
+        unchanged(columns[4].holds(&blocks.figure), "column figure")?;
+        unchanged(columns[5].holds(&loops.parent), "column parent")?;
+        unchanged(columns[6].holds(&loops.header), "column header")?;
+        unchanged(columns[7].holds(&loops.limit), "column limit")?;
+        unchanged(columns[8].holds(&loops.multiplier), "column multiplier")
+    }
+
+    pub fn check(&mut self, tables: &Tables) -> Result<Reply, String> {
+        let wanted = reference::check(&tables.blocks, &tables.loops).map(|bound| (bound, 0));
+        let columns = self.lend(tables);
+        let given = abi::check(columns);
+        self.kept(tables)?;
+        agree(reply(wanted), given)
+    }
+
+    pub fn walk(&mut self, tables: &Tables, list: &[u16]) -> Result<Reply, String> {
+        let wanted = reference::walk(&tables.blocks, &tables.loops, list);
+        let columns = self.lend(tables);
+        let given = abi::walk(columns, self.list.lend(list, &mut self.random));
+        self.kept(tables)?;
+        unchanged(self.list.holds(list), "the walk")?;
+        agree(reply(wanted), given)
+    }
+}

@@ -1,0 +1,539 @@
+//! Named tests: the marked cases of document 01, each sentence of its "Plausible and wrong", and the edges of its rules.
+
+use crate::compare::Bench;
+use crate::graphs::Tables;
+use crate::reference::{self, MISSING};
+use crate::texts::{Case, Table};
+use crate::Tally;
+
+/// The wanted reply: value and more, or number and place.
+#[derive(Clone, Copy, Debug, PartialEq)]
+enum Want {
+    Accepted(i64, u64),
+    Refused(u32, u32),
+}
+
+use Want::{Accepted, Refused};
+
+struct Tester<'a> {
+    bench: Bench,
+    tally: &'a mut Tally,
+}
+
+impl Tester<'_> {
+    fn expect(&mut self, name: &str, wanted: Want, outcome: Result<crate::abi::Reply, String>) {
+        let outcome = outcome.and_then(|reply| {
+            let given = if reply.number == 0 { Accepted(reply.value, reply.more) } else { Refused(reply.number, reply.place) };
+            if given == wanted { Ok(()) } else { Err(format!("wanted {wanted:?}, got {given:?}")) }
+        });
+        self.tally.test(name, outcome);
+    }
+
+    /// Reads a text into columns of the given length.
+    fn read(&mut self, name: &str, table: Table, header: bool, text: &[u8], length: usize, wanted: Want) {
+        let case = Case { table, text: text.to_vec(), header, lengths: [length; 5] };
+        let outcome = self.bench.read(&case);
+        self.expect(name, wanted, outcome);
+    }
+
+    fn check(&mut self, name: &str, tables: &Tables, wanted: Want) {
+        let outcome = self.bench.check(tables);
+        self.expect(name, wanted, outcome);
+    }
+
+    fn walk(&mut self, name: &str, tables: &Tables, list: &[u16], wanted: Want) {
+        let outcome = self.bench.walk(tables, list);
+        self.expect(name, wanted, outcome);
+    }
+}
+
+pub fn all(tally: &mut Tally) {
+    let mut tester = Tester { bench: Bench::new(1), tally };
+    marked(&mut tester);
+    plausible_and_wrong(&mut tester);
+    texts(&mut tester);
+    sizes(&mut tester);
+    tables(&mut tester);
+    walks(&mut tester);
+}
+
+/// Records written with '|' for CR LF.
+fn lines(text: &str) -> Vec<u8> {
+    text.replace('|', "\r\n").into_bytes()
+}
+
+const A_BLOCKS: &str = "0,2,0,1,,28|1,3,1,2,3,1|2,5,1,1,,-4|3,1,0,,,0|";
+const A_LOOPS: &str = "0,0,0,1,0|1,0,1,4,8|";
+
+fn tables_of(blocks: &str, loops: &str) -> Tables {
+    Tables {
+        blocks: reference::read_blocks(&lines(blocks), false, 1024).expect("a good block table"),
+        loops: reference::read_loops(&lines(loops), false, 64).expect("a good loop table"),
+    }
+}
+
+/// Routine A with a change.
+fn a(change: impl FnOnce(&mut Tables)) -> Tables {
+    let mut tables = tables_of(A_BLOCKS, A_LOOPS);
+    change(&mut tables);
+    tables
+}
+
+fn marked(t: &mut Tester) {
+    t.read("marked: blocks of A", Table::Blocks, false, &lines(A_BLOCKS), 4, Accepted(4, 0));
+    t.read("marked: loops of A", Table::Loops, false, &lines(A_LOOPS), 2, Accepted(2, 0));
+    let plain = a(|_| ());
+    let m = MISSING;
+    let by_hand = plain.blocks.cost == [2, 3, 5, 1]
+        && plain.blocks.inner == [0, 1, 1, 0]
+        && plain.blocks.first == [1, 2, 1, m]
+        && plain.blocks.second == [m, 3, m, m]
+        && plain.blocks.figure == [28, 1, -4, 0]
+        && plain.loops.parent == [0, 0]
+        && plain.loops.header == [0, 1]
+        && plain.loops.limit == [1, 4]
+        && plain.loops.multiplier == [0, 8];
+    t.tally.test("marked: columns of A", if by_hand { Ok(()) } else { Err("other columns".to_string()) });
+    t.check("marked: A", &plain, Accepted(30, 0));
+    t.check("marked: A, figure of block 0 is 27", &a(|x| x.blocks.figure[0] = 27), Refused(208, 0));
+    t.check("marked: A, multiplier 7", &a(|x| x.loops.multiplier[1] = 7), Refused(208, 2));
+    t.check("marked: A, limit 65,535", &a(|x| x.loops.limit[1] = 65_535), Refused(208, 0));
+    t.check("marked: A, limit 0", &a(|x| x.loops.limit[1] = 0), Refused(202, 1));
+    t.check("marked: A, limit 65,536", &a(|x| x.loops.limit[1] = 65_536), Refused(202, 1));
+    t.check("marked: A, block 2 in loop 0", &a(|x| x.blocks.inner[2] = 0), Refused(208, 2));
+    t.check("marked: A, edge from 0 to 2", &a(|x| x.blocks.second[0] = 2), Refused(207, 0));
+    t.walk("marked: walk 0 1 2 1 2 1 2 1 3", &plain, &[0, 1, 2, 1, 2, 1, 2, 1, 3], Accepted(30, 8));
+    t.walk("marked: walk 0 1 2 1 2 1 2 1 2 1", &plain, &[0, 1, 2, 1, 2, 1, 2, 1, 2, 1], Refused(313, 9));
+    t.walk("marked: walk 0 1", &plain, &[0, 1], Refused(314, 2));
+    t.check("marked: two blocks, no edges", &tables_of("0,7,0,,,-10|1,9,0,,,0", "0,0,0,1,0"), Accepted(-3, 0));
+    let cycle = tables_of("0,1,0,1,,3|1,1,0,2,,2|2,1,0,1,3,1|3,1,0,,,0", "0,0,0,1,0");
+    t.check("marked: a cycle of no loop that costs", &cycle, Refused(208, 2));
+    let cycle = tables_of("0,1,0,1,,1|1,0,0,2,,1|2,0,0,1,3,1|3,1,0,,,0", "0,0,0,1,0");
+    t.check("marked: a cycle of no loop that costs nothing", &cycle, Accepted(2, 0));
+}
+
+/// An outer loop 1 (blocks 1, 3) of limit 3 around an inner loop 2 (block 2, which names itself) of limit 2.
+fn nested() -> Tables {
+    tables_of(
+        "0,1,0,1,,13|1,1,1,2,,4|2,1,2,2,3,2|3,1,1,1,4,1|4,1,0,,,0",
+        "0,0,0,1,0|1,0,1,3,4|2,1,2,2,1",
+    )
+}
+
+fn plausible_and_wrong(t: &mut Tester) {
+    let blocks = |first: &str| lines(&format!("{first}|{A_BLOCKS}"));
+    let odd = "number,cost,loop,first,second,figure";
+    t.read("wrong: record 1 dropped because it looks odd", Table::Blocks, false, &blocks(odd), 9, Refused(104, 1));
+    t.read("wrong: record 1 dropped because it looks odd (loops)", Table::Loops, false, b"a,b,c,d,e", 9, Refused(104, 1));
+    t.read("wrong: record 1 dropped always", Table::Blocks, false, &lines(A_BLOCKS), 9, Accepted(4, 0));
+    t.read("wrong: record 1 dropped always (loops)", Table::Loops, false, &lines(A_LOOPS), 9, Accepted(2, 0));
+    t.read("wrong: record 1 kept because it looks like a row", Table::Blocks, true, &lines(A_BLOCKS), 9, Refused(105, 2));
+    t.read("wrong: record 1 kept because it looks like a row (row 0 twice)", Table::Blocks, true, &blocks("0,2,0,1,,28"), 9, Accepted(4, 0));
+    let two = nested();
+    t.check("wrong: visits over the whole run (the tables)", &two, Accepted(14, 0));
+    t.walk("wrong: visits over the whole run", &two, &[0, 1, 2, 2, 3, 1, 2, 2, 3, 4], Accepted(10, 9));
+    t.walk("wrong: visits over the whole run (a third visit in one stay)", &two, &[0, 1, 2, 2, 3, 1, 2, 2, 2], Refused(313, 8));
+    t.check("wrong: rounds of the body in place of header visits", &a(|_| ()), Accepted(30, 0));
+    t.walk("wrong: rounds of the body (four visits)", &a(|_| ()), &[0, 1, 2, 1, 2, 1, 2, 1, 3], Accepted(30, 8));
+    t.walk("wrong: rounds of the body (five visits)", &a(|_| ()), &[0, 1, 2, 1, 2, 1, 2, 1, 2, 1, 3], Refused(313, 9));
+    t.read("wrong: a negative figure refused by the reader", Table::Blocks, false, b"0,0,0,,,-4", 1, Accepted(1, 0));
+    t.check("wrong: a negative figure refused by the check", &a(|x| x.blocks.figure[2] = -4), Accepted(30, 0));
+    let outer: &[u16] = &[0, 1, 2, 3, 1, 2, 3, 1, 2, 3];
+    t.walk("wrong: outer count cleared by leaving the inner loop (kept)", &two, &[outer, &[4]].concat(), Accepted(11, 10));
+    t.walk("wrong: outer count cleared by leaving the inner loop (passed)", &two, &[outer, &[1]].concat(), Refused(313, 10));
+}
+
+fn texts(t: &mut Tester) {
+    let row = |text: &str| lines(text);
+    let cases: &[(&str, &str, Want)] = &[
+        ("no text", "", Accepted(0, 0)),
+        ("no last line end", "0,1,2,3,4,5", Accepted(1, 0)),
+        ("a line end alone", "|", Refused(103, 1)),
+        ("one more line end", "0,1,2,3,4,5||", Refused(103, 2)),
+        ("102 before 103", "0,2,0,1,,28,\"", Refused(102, 1)),
+        ("102 at the end of a bad record", "x,y,\"", Refused(102, 1)),
+        ("104 in a record before 102", "0,1,2,3,4,5|1,x,,,,|2,\"", Refused(104, 2)),
+        ("a lone LF", "0,1,2,3,4,5\n1,1,2,3,4,5", Refused(102, 1)),
+        ("a lone CR", "0,1,2,3,4,5\r1,1,2,3,4,5", Refused(102, 1)),
+        ("a lone CR at the end", "0,1,2,3,4,5\r", Refused(102, 1)),
+        ("a lone CR after the last line end", "0,1,2,3,4,5|\r", Refused(102, 2)),
+        ("a lone LF at the end", "0,1,2,3,4,5\n", Refused(102, 1)),
+        ("CR CR LF", "0,1,2,3,4,5\r\r\n", Refused(102, 1)),
+        ("text after a closing quote", "\"0\"x,1,2,3,4,5", Refused(102, 1)),
+        ("a space after a closing quote", "\"0\" ,1,2,3,4,5", Refused(102, 1)),
+        ("CR after a closing quote", "0,1,2,3,4,\"5\"\r", Refused(102, 1)),
+        ("a quote in a plain field", " \"0\",1,2,3,4,5", Refused(102, 1)),
+        ("a quote inside a plain field", "0,1\"1\",2,3,4,5", Refused(102, 1)),
+        ("a quote never closed", "0,1,2,3,4,\"5", Refused(102, 1)),
+        ("a quote never closed after a doubled one", "0,1,2,3,4,\"5\"\"", Refused(102, 1)),
+        ("quoted numbers", "\"0\",\"1\",\"2\",\"3\",\"4\",\"-5\"", Accepted(1, 0)),
+        ("quoted numbers and a line end", "\"0\",\"1\",\"2\",\"3\",\"4\",\"-5\"|", Accepted(1, 0)),
+        ("missing successors", "0,1,2,,,5", Accepted(1, 0)),
+        ("missing successors in quotes", "0,1,2,\"\",\"\",5", Accepted(1, 0)),
+        ("an empty number", ",1,2,3,4,5", Refused(104, 1)),
+        ("an empty cost", "0,,2,3,4,5", Refused(104, 1)),
+        ("an empty quoted cost", "0,\"\",2,3,4,5", Refused(104, 1)),
+        ("an empty loop", "0,1,,3,4,5", Refused(104, 1)),
+        ("an empty figure", "0,1,2,3,4,", Refused(104, 1)),
+        ("one quote mark as a successor", "0,1,2,\"\"\"\",4,5", Refused(104, 1)),
+        ("a space as a successor", "0,1,2, ,4,5", Refused(104, 1)),
+        ("a quoted space as a successor", "0,1,2,\" \",4,5", Refused(104, 1)),
+        ("a comma in quotes", "0,1,2,\"3,4\",5,6", Refused(104, 1)),
+        ("a line end in quotes", "0,1,2,\"|\",4,5|1,1,2,3,4,5", Refused(104, 1)),
+        ("a leading zero", "0,01,2,3,4,5", Refused(104, 1)),
+        ("a quoted leading zero", "0,\"01\",2,3,4,5", Refused(104, 1)),
+        ("two zeros", "0,00,2,3,4,5", Refused(104, 1)),
+        ("minus zero", "0,1,2,3,4,-0", Refused(104, 1)),
+        ("quoted minus zero", "0,1,2,3,4,\"-0\"", Refused(104, 1)),
+        ("minus alone", "0,1,2,3,4,-", Refused(104, 1)),
+        ("minus and a leading zero", "0,1,2,3,4,-01", Refused(104, 1)),
+        ("two minus signs", "0,1,2,3,4,--1", Refused(104, 1)),
+        ("a plus sign", "0,1,2,3,4,+1", Refused(104, 1)),
+        ("a minus sign in a cost", "0,-1,2,3,4,5", Refused(104, 1)),
+        ("minus zero in a successor", "0,1,2,-0,4,5", Refused(104, 1)),
+        ("an exponent", "0,1e3,2,3,4,5", Refused(104, 1)),
+        ("the byte before 0", "0,/,2,3,4,5", Refused(104, 1)),
+        ("the byte after 9", "0,:,2,3,4,5", Refused(104, 1)),
+        ("the largest cost", "0,4294967295,2,3,4,5", Accepted(1, 0)),
+        ("a cost too wide", "0,4294967296,2,3,4,5", Refused(104, 1)),
+        ("the largest loop", "0,1,65535,3,4,5", Accepted(1, 0)),
+        ("a loop too wide", "0,1,65536,3,4,5", Refused(104, 1)),
+        ("the largest successor", "0,1,2,65534,65534,5", Accepted(1, 0)),
+        ("65,535 as a successor", "0,1,2,65535,4,5", Refused(104, 1)),
+        ("65,535 as the second successor", "0,1,2,3,65535,5", Refused(104, 1)),
+        ("the largest figure", "0,1,2,3,4,9223372036854775807", Accepted(1, 0)),
+        ("a figure too large", "0,1,2,3,4,9223372036854775808", Refused(104, 1)),
+        ("the least figure", "0,1,2,3,4,-9223372036854775808", Accepted(1, 0)),
+        ("a figure too small", "0,1,2,3,4,-9223372036854775809", Refused(104, 1)),
+        ("a figure that wraps to 5", "0,1,2,3,4,18446744073709551621", Refused(104, 1)),
+        ("five fields", "0,1,2,3,4", Refused(103, 1)),
+        ("seven fields", "0,1,2,3,4,5,6", Refused(103, 1)),
+        ("103 before 104", "x,1,2,3,4", Refused(103, 1)),
+        ("104 before 105", "1,x,2,3,4,5", Refused(104, 1)),
+        ("a first row 1", "1,1,2,3,4,5", Refused(105, 1)),
+        ("row 0 twice", "0,1,2,3,4,5|0,1,2,3,4,5", Refused(105, 2)),
+        ("row 65,535 out of turn", "65535,1,2,3,4,5", Refused(105, 1)),
+        ("row 65,536", "65536,1,2,3,4,5", Refused(104, 1)),
+        ("bytes over 127", "0,1,2,3,4,\u{e9}", Refused(104, 1)),
+        ("a mark before the first row", "\u{feff}0,1,2,3,4,5", Refused(104, 1)),
+        ("NUL in a field", "0,1\0,2,3,4,5", Refused(104, 1)),
+    ];
+    for (name, text, wanted) in cases {
+        t.read(&format!("blocks: {name}"), Table::Blocks, false, &row(text), 5, *wanted);
+    }
+    let cases: &[(&str, &str, Want)] = &[
+        ("no record", "", Refused(103, 1)),
+        ("a header alone", "a,b,c,d,e", Accepted(0, 0)),
+        ("a header alone with its line end", "a,b,c,d,e|", Accepted(0, 0)),
+        ("a header of four fields", "a,b,c,d|0,0,0,1,0", Refused(103, 1)),
+        ("a broken header", "a,b\",c,d,e|", Refused(102, 1)),
+        ("an empty line as a header", "|0,0,0,1,0", Refused(103, 1)),
+        ("a header of empty fields", ",,,,|0,0,0,1,0", Accepted(1, 0)),
+        ("a header with a line end in quotes", "\"a|b\",,,,|0,0,0,1,0|2", Refused(103, 3)),
+        ("a header with a mark before it", "\u{feff}number,,,,|0,0,0,1,0", Accepted(1, 0)),
+        ("row 1 below a header", "a,b,c,d,e|1,0,0,1,0", Refused(105, 2)),
+        ("the largest multiplier", ",,,,|0,65535,65535,4294967295,18446744073709551615", Accepted(1, 0)),
+        ("a multiplier too wide", ",,,,|0,0,0,1,18446744073709551616", Refused(104, 2)),
+        ("a parent too wide", ",,,,|0,65536,0,1,0", Refused(104, 2)),
+        ("a header block too wide", ",,,,|0,0,65536,1,0", Refused(104, 2)),
+        ("a limit too wide", ",,,,|0,0,0,4294967296,0", Refused(104, 2)),
+        ("a negative multiplier", ",,,,|0,0,0,1,-1", Refused(104, 2)),
+        ("an empty parent", ",,,,|0,,0,1,0", Refused(104, 2)),
+    ];
+    for (name, text, wanted) in cases {
+        t.read(&format!("loops with a header: {name}"), Table::Loops, true, &row(text), 5, *wanted);
+    }
+    t.read("blocks: a header on an empty text", Table::Blocks, true, b"", 5, Refused(103, 1));
+}
+
+/// The edges of lengths: fields, rows, texts and columns.
+fn sizes(t: &mut Tester) {
+    let first = |field: &str| format!("{field},1,2,3,4,5").into_bytes();
+    t.read("a field of 64 digits", Table::Blocks, false, &first(&"1".repeat(64)), 5, Refused(104, 1));
+    t.read("a field of 65 digits", Table::Blocks, false, &first(&"1".repeat(65)), 5, Refused(102, 1));
+    t.read("a quoted field of 64 bytes", Table::Blocks, false, &first(&format!("\"{}\"", "1".repeat(62))), 5, Refused(104, 1));
+    t.read("a quoted field of 65 bytes", Table::Blocks, false, &first(&format!("\"{}\"", "1".repeat(63))), 5, Refused(102, 1));
+    t.read("64 quote marks", Table::Blocks, false, &first(&"\"".repeat(64)), 5, Refused(104, 1));
+    t.read("66 quote marks", Table::Blocks, false, &first(&"\"".repeat(66)), 5, Refused(102, 1));
+    t.read("a header of 64 bytes", Table::Loops, true, format!("{},,,,", "h".repeat(64)).as_bytes(), 5, Accepted(0, 0));
+    t.read("a header of 65 bytes", Table::Loops, true, format!("{},,,,", "h".repeat(65)).as_bytes(), 5, Refused(102, 1));
+    t.read("a last field of 64 bytes", Table::Loops, true, format!(",,,,{}", "h".repeat(64)).as_bytes(), 5, Accepted(0, 0));
+    t.read("a last field of 65 bytes", Table::Loops, true, format!(",,,,{}", "h".repeat(65)).as_bytes(), 5, Refused(102, 1));
+
+    let rows = |count: usize, rest: &str| (0..count).map(|i| format!("{i},{rest}\r\n")).collect::<String>();
+    for (table, rest, most) in [(Table::Blocks, "1,2,3,4,5", 1024), (Table::Loops, "0,0,1,0", 64)] {
+        let over = most as u32 + 1;
+        let full = rows(most, rest);
+        t.read(&format!("{table:?}: all rows"), table, false, full.as_bytes(), 2000, Accepted(most as i64, 0));
+        t.read(&format!("{table:?}: all rows, all places"), table, false, full.as_bytes(), most, Accepted(most as i64, 0));
+        t.read(&format!("{table:?}: one place short"), table, false, full.as_bytes(), most - 1, Refused(106, over - 1));
+        t.read(&format!("{table:?}: no places"), table, false, full.as_bytes(), 0, Refused(106, 1));
+        t.read(&format!("{table:?}: one row more"), table, false, rows(most + 1, rest).as_bytes(), 2000, Refused(106, over));
+        let header = format!("{}\r\n", ",".repeat(rest.matches(',').count() + 1));
+        t.read(&format!("{table:?}: header and all rows"), table, true, (header.clone() + &full).as_bytes(), 2000, Accepted(most as i64, 0));
+        t.read(&format!("{table:?}: header and one row more"), table, true, (header + &rows(most + 1, rest)).as_bytes(), 2000, Refused(106, over + 1));
+        for (name, last, number) in [
+            ("empty line", "\r\n".to_string(), 103),
+            ("bad number", format!("x,{rest}"), 104),
+            ("wrong row", format!("0,{rest}"), 105),
+            ("broken record", format!("{most},{rest}\""), 102),
+        ] {
+            let text = full.clone() + &last;
+            t.read(&format!("{table:?}: {name} after all rows"), table, false, text.as_bytes(), 2000, Refused(number, over));
+            t.read(&format!("{table:?}: {name} without a place"), table, false, text.as_bytes(), most, Refused(number, over));
+            let text = last.replace(&format!("{most},"), "0,").replace(&format!("0,{rest}"), &format!("0,{rest}"));
+            let number = if name == "wrong row" { 106 } else { number };
+            t.read(&format!("{table:?}: {name} with no place at all"), table, false, text.as_bytes(), 0, Refused(number, 1));
+        }
+        let case = |lengths| Case { table, text: format!("0,{rest}\r\n1,{rest}\r\n2,{rest}").into_bytes(), header: false, lengths };
+        for short in 0..rest.matches(',').count() + 1 {
+            for (length, place) in [(0, 1), (1, 2), (2, 3)] {
+                let mut lengths = [5; 5];
+                lengths[short] = length;
+                let outcome = t.bench.read(&case(lengths));
+                t.expect(&format!("{table:?}: column {short} of length {length}"), Refused(106, place), outcome);
+            }
+        }
+    }
+
+    // texts at the length limit: good rows of some length and a header that fills up
+    let rest = "\"4294967295\",\"65535\",\"65534\",\"65534\",\"-9223372036854775808\"";
+    let body = rows(1008, rest);
+    for (length, end, wanted) in [
+        (65_535, "\r\n", Accepted(1008, 0)),
+        (65_536, "\r\n", Accepted(1008, 0)),
+        (65_537, "\r\n", Refused(101, 0)),
+        (65_535, "", Accepted(1008, 0)),
+        (65_536, "", Accepted(1008, 0)),
+        (65_537, "", Refused(101, 0)),
+    ] {
+        let body = &body[..body.len() - 2];
+        let mut left = length - body.len() - end.len() - 7;
+        let mut fields = Vec::new();
+        for _ in 0..6 {
+            fields.push("h".repeat(left.min(64)));
+            left -= left.min(64);
+        }
+        assert!(left == 0);
+        let text = format!("{}\r\n{body}{end}", fields.join(","));
+        t.read(&format!("a text of {length} bytes, last line end {}", end.len()), Table::Blocks, true, text.as_bytes(), 1024, wanted);
+    }
+    t.read("65,536 bytes of no form", Table::Blocks, false, &[b'x'; 65_536], 5, Refused(102, 1));
+    t.read("65,537 bytes of no form", Table::Blocks, false, &[b'x'; 65_537], 5, Refused(101, 0));
+    t.read("a long text", Table::Loops, true, &[b'"'; 400_000], 5, Refused(101, 0));
+    t.read("65,536 quote marks", Table::Loops, true, &[b'"'; 65_536], 5, Refused(102, 1));
+    t.read("65,536 commas", Table::Loops, true, &[b','; 65_536], 5, Refused(103, 1));
+    t.read("65,536 bytes of line ends", Table::Loops, true, &b"\r\n".repeat(32_768), 5, Refused(103, 1));
+}
+
+/// `n` blocks in a row and loop 0 only.
+fn straight(n: usize) -> Tables {
+    let mut tables = Tables::default();
+    let blocks = &mut tables.blocks;
+    blocks.cost = vec![1; n];
+    blocks.inner = vec![0; n];
+    blocks.first = (1..=n).map(|next| if next < n { next as u16 } else { MISSING }).collect();
+    blocks.second = vec![MISSING; n];
+    blocks.figure = (0..n).map(|u| (n - 1 - u) as i64).collect();
+    tables.loops.parent = vec![0];
+    tables.loops.header = vec![0];
+    tables.loops.limit = vec![1];
+    tables.loops.multiplier = vec![0];
+    tables
+}
+
+/// A row of blocks, block l the header of loop l for l up to m − 1; nested one in another or side by side.
+fn headed(m: usize, nested: bool) -> Tables {
+    let mut tables = straight(m + 1);
+    for l in 1..m {
+        tables.blocks.inner[l] = l as u16;
+        tables.loops.parent.push(if nested { l as u16 - 1 } else { 0 });
+        tables.loops.header.push(l as u16);
+        tables.loops.limit.push(65_535);
+        tables.loops.multiplier.push(0);
+    }
+    tables
+}
+
+fn tables(t: &mut Tester) {
+    t.check("n 2", &straight(2), Accepted(2, 0));
+    t.check("n 1024", &straight(1024), Accepted(1024, 0));
+    t.check("n 1025", &straight(1025), Refused(201, 0));
+    t.check("n 1", &straight(1), Refused(201, 0));
+    t.check("n 0", &Tables { blocks: Default::default(), ..straight(2) }, Refused(201, 0));
+    t.check("m 0", &Tables { loops: Default::default(), ..straight(2) }, Refused(201, 0));
+    t.check("all empty", &Tables::default(), Refused(201, 0));
+    t.check("m 64", &headed(64, false), Accepted(65, 0));
+    t.check("m 65", &headed(65, false), Refused(201, 0));
+    t.check("depth 16", &headed(16, true), Accepted(17, 0));
+    t.check("depth 17", &headed(17, true), Refused(205, 16));
+    t.check("depth 64", &headed(64, true), Refused(205, 16));
+    let columns: [(&str, fn(&mut Tables, bool)); 9] = [
+        ("cost", |x, more| if more { x.blocks.cost.push(0) } else { x.blocks.cost.truncate(3) }),
+        ("loop", |x, more| if more { x.blocks.inner.push(0) } else { x.blocks.inner.truncate(3) }),
+        ("first", |x, more| if more { x.blocks.first.push(0) } else { x.blocks.first.truncate(3) }),
+        ("second", |x, more| if more { x.blocks.second.push(0) } else { x.blocks.second.truncate(3) }),
+        ("figure", |x, more| if more { x.blocks.figure.push(0) } else { x.blocks.figure.truncate(3) }),
+        ("parent", |x, more| if more { x.loops.parent.push(0) } else { x.loops.parent.truncate(1) }),
+        ("header", |x, more| if more { x.loops.header.push(0) } else { x.loops.header.truncate(1) }),
+        ("limit", |x, more| if more { x.loops.limit.push(0) } else { x.loops.limit.truncate(1) }),
+        ("multiplier", |x, more| if more { x.loops.multiplier.push(0) } else { x.loops.multiplier.truncate(1) }),
+    ];
+    for (name, change) in columns {
+        for more in [false, true] {
+            let tables = a(|x| change(x, more));
+            t.check(&format!("column {name} {} by one", if more { "longer" } else { "shorter" }), &tables, Refused(201, 0));
+            t.walk(&format!("a walk with column {name} {}", if more { "longer" } else { "shorter" }), &tables, &[0], Refused(201, 0));
+        }
+    }
+    let cases: &[(&str, fn(&mut Tables), Want)] = &[
+        ("loop 0 with limit 2", |x| x.loops.limit[0] = 2, Refused(202, 0)),
+        ("loop 0 with limit 0", |x| x.loops.limit[0] = 0, Refused(202, 0)),
+        ("loop 0 with header 1", |x| x.loops.header[0] = 1, Refused(202, 0)),
+        ("loop 0 with parent 1", |x| x.loops.parent[0] = 1, Refused(202, 0)),
+        ("loop 0 with multiplier 1", |x| x.loops.multiplier[0] = 1, Refused(202, 0)),
+        ("a loop its own parent", |x| x.loops.parent[1] = 1, Refused(202, 1)),
+        ("a header n", |x| x.loops.header[1] = 4, Refused(202, 1)),
+        ("a header 65,535", |x| x.loops.header[1] = 65_535, Refused(202, 1)),
+        ("limit 2^32 - 1", |x| x.loops.limit[1] = u32::MAX, Refused(202, 1)),
+        ("limit 1", |x| x.loops.limit[1] = 1, Accepted(30, 0)),
+        ("multiplier 2^40", |x| x.loops.multiplier[1] = 1 << 40, Refused(208, 0)),
+        ("multiplier 2^40 + 1", |x| x.loops.multiplier[1] = (1 << 40) + 1, Refused(202, 1)),
+        ("multiplier 2^64 - 1", |x| x.loops.multiplier[1] = u64::MAX, Refused(202, 1)),
+        ("cost 1,000,000", |x| x.blocks.cost[0] = 1_000_000, Accepted(1_000_028, 0)),
+        ("cost 1,000,001", |x| x.blocks.cost[0] = 1_000_001, Refused(203, 0)),
+        ("a block's loop m", |x| x.blocks.inner[3] = 2, Refused(203, 3)),
+        ("a successor n", |x| x.blocks.second[0] = 4, Refused(203, 0)),
+        ("a successor 65,534", |x| x.blocks.first[0] = 65_534, Refused(203, 0)),
+        ("a figure 2^60", |x| x.blocks.figure[0] = 1 << 60, Accepted((1 << 60) + 2, 0)),
+        ("a figure 2^60 + 1", |x| x.blocks.figure[0] = (1 << 60) + 1, Refused(203, 0)),
+        ("a figure -2^60", |x| x.blocks.figure[3] = -(1 << 60), Accepted((1 << 60) + 30, 0)),
+        ("a figure -2^60 - 1", |x| x.blocks.figure[3] = -(1 << 60) - 1, Refused(203, 3)),
+        ("a figure -2^63", |x| x.blocks.figure[3] = i64::MIN, Refused(203, 3)),
+        ("202 before 203", |x| (x.blocks.cost[0], x.loops.limit[1]) = (1_000_001, 0), Refused(202, 1)),
+        ("a header in another loop", |x| x.loops.header[1] = 3, Refused(204, 1)),
+        ("block 0 in loop 1", |x| x.blocks.inner[0] = 1, Refused(204, 0)),
+        ("an edge into block 0", |x| x.blocks.second[2] = 0, Refused(206, 2)),
+        ("block 0 names itself", |x| x.blocks.second[0] = 0, Refused(206, 0)),
+        ("an edge out of the exit", |x| x.blocks.first[3] = 1, Refused(206, 3)),
+        ("a second edge out of the exit", |x| x.blocks.second[3] = 3, Refused(206, 3)),
+        ("206 before 207", |x| (x.blocks.second[0], x.blocks.first[3]) = (2, 1), Refused(206, 3)),
+        ("both successors the same", |x| x.blocks.second[0] = 1, Accepted(30, 0)),
+        ("the header names itself", |x| x.blocks.second[1] = 1, Accepted(30, 0)),
+        ("a block that is no header names itself", |x| x.blocks.second[2] = 2, Refused(208, 2)),
+        ("and costs nothing", |x| (x.blocks.second[2], x.blocks.cost[2]) = (2, 0), Accepted(30, 0)),
+        ("the exit in a loop", |x| x.blocks.inner[3] = 1, Accepted(30, 0)),
+    ];
+    for (name, change, wanted) in cases {
+        t.check(name, &a(*change), *wanted);
+    }
+    // largest differences of figures
+    let far = |first: i64, last: i64| tables_of(&format!("0,1000000,0,1,,{first}|1,1000000,0,,,{last}"), "0,0,0,1,0");
+    t.check("figures 2^60 and -2^60", &far(1 << 60, -(1 << 60)), Accepted((1 << 61) + 1_000_000, 0));
+    t.check("figures -2^60 and 2^60", &far(-(1 << 60), 1 << 60), Refused(208, 0));
+    let no_edge = |first: i64, last: i64| {
+        let mut tables = far(first, last);
+        tables.blocks.first[0] = MISSING;
+        tables
+    };
+    t.check("figures -2^60 and 2^60 without an edge", &no_edge(-(1 << 60), 1 << 60), Accepted(1_000_000 - (1 << 61), 0));
+    // the largest entry: 2^40 x 65,534
+    let entry = |first: i64| tables_of(&format!("0,0,0,1,,{first}|1,0,1,2,,0|2,0,0,,,0"), "0,0,0,1,0|1,0,1,65535,1099511627776");
+    t.check("the largest entry, just kept", &entry(65_534 << 40), Accepted(65_534 << 40, 0));
+    t.check("the largest entry, just broken", &entry((65_534 << 40) - 1), Refused(208, 0));
+    // two loops entered at once, at the inner one's header
+    let mut two = headed(3, true);
+    two.blocks.second[0] = 2;
+    t.check("an edge that enters two loops", &two, Refused(207, 0));
+    let mut side = headed(3, false);
+    side.blocks.second[0] = 2;
+    t.check("an edge past a loop into another", &side, Accepted(4, 0));
+    // a return to the outer header from inside the inner loop
+    let mut back = headed(3, true);
+    back.blocks.second[2] = 1;
+    t.check("a return from the inner loop to the outer header, broken", &back, Refused(208, 2));
+    // block 1 enters loop 1 from outside at (limit - 1) x multiplier and inside it returns at cost - multiplier
+    back.loops.multiplier[1] = 2;
+    back.loops.limit[1] = 2;
+    back.blocks.figure[0] = 5;
+    t.check("a return from the inner loop to the outer header, kept", &back, Accepted(6, 0));
+    t.walk("that return counts for the outer loop", &back, &[0, 1, 2, 1, 2, 3], Accepted(6, 5));
+    t.walk("that return is held to the outer limit", &back, &[0, 1, 2, 1, 2, 1], Refused(313, 5));
+}
+
+fn walks(t: &mut Tester) {
+    let plain = a(|_| ());
+    let cases: &[(&str, &[u16], Want)] = &[
+        ("of length 0", &[], Refused(301, 0)),
+        ("of block 0 alone", &[0], Refused(314, 1)),
+        ("that starts at 1", &[1], Refused(303, 0)),
+        ("that starts at the exit", &[3], Refused(303, 0)),
+        ("that starts at n", &[4], Refused(302, 0)),
+        ("that starts at 65,535", &[65_535], Refused(302, 0)),
+        ("with block n", &[0, 1, 4], Refused(302, 2)),
+        ("past the exit", &[0, 1, 3, 1], Refused(311, 3)),
+        ("past the exit to the exit", &[0, 1, 3, 3], Refused(311, 3)),
+        ("past the exit to no block", &[0, 1, 3, 4], Refused(302, 3)),
+        ("past the exit to 65,535", &[0, 1, 3, 65_535], Refused(302, 3)),
+        ("without an edge", &[0, 2], Refused(312, 1)),
+        ("that stays at block 0", &[0, 0], Refused(312, 1)),
+        ("without an edge, later", &[0, 1, 2, 3], Refused(312, 3)),
+        ("the shortest", &[0, 1, 3], Accepted(6, 2)),
+        ("that ends in the loop", &[0, 1, 2], Refused(314, 3)),
+    ];
+    for (name, list, wanted) in cases {
+        t.walk(&format!("a walk {name}"), &plain, list, *wanted);
+    }
+    t.walk("a walk where 208 applies", &a(|x| x.blocks.figure[0] = 27), &[0, 1, 3], Accepted(6, 2));
+    t.walk("a walk of length 0 where 202 applies", &a(|x| x.loops.limit[1] = 0), &[], Refused(202, 1));
+    t.walk("a walk where a figure is out of range", &a(|x| x.blocks.figure[0] = i64::MAX), &[0, 1, 3], Refused(203, 0));
+    t.walk("a walk where 207 applies", &a(|x| x.blocks.second[0] = 2), &[0, 1, 3], Refused(207, 0));
+    // 65,535 is no block, though it stands for a missing successor
+    t.walk("a walk to a missing successor", &plain, &[0, 65_535], Refused(302, 1));
+
+    // an outer loop 1 (block 1) around block 2, which heads loop 2 and names itself; both limits 65,535
+    let deep = tables_of(
+        "0,1000000,0,1,,0|1,1000000,1,2,3,0|2,1000000,2,2,1,0|3,1000000,0,,,0",
+        "0,0,0,1,0|1,0,1,65535,0|2,1,2,65535,0",
+    );
+    let long = |length: usize, stay: usize| {
+        let mut list = vec![0u16, 1];
+        let mut left = stay;
+        while list.len() + 2 < length {
+            if left > 0 {
+                list.push(2);
+                left -= 1;
+            } else {
+                list.push(1);
+                left = stay;
+            }
+        }
+        if list[list.len() - 1] == 2 {
+            list.push(1);
+        } else {
+            list.push(2);
+        }
+        list.push(3);
+        list
+    };
+    let most = 1_048_576;
+    // 60,000 visits in one stay; the last blocks are 2 1 3
+    let full = long(most, 60_000);
+    assert!(full.len() == most && full[most - 3..] == [2, 1, 3]);
+    t.walk("a walk of 1,048,576 blocks", &deep, &full, Accepted(1_000_000 * most as i64, most as u64 - 1));
+    t.walk("a walk of 1,048,576 blocks, the last no block", &deep, &[&full[..most - 1], &[4]].concat(), Refused(302, most as u32 - 1));
+    t.walk("a walk of 1,048,576 blocks, the last without an edge", &deep, &[&full[..most - 1], &[0]].concat(), Refused(312, most as u32 - 1));
+    t.walk("a walk of 1,048,576 blocks before the exit", &deep, &[&full[..most - 1], &[2]].concat(), Refused(314, most as u32));
+    t.walk("a walk of 1,048,577 blocks", &deep, &[&full[..], &[3]].concat(), Refused(301, 0));
+    t.walk("a walk of 1,048,575 blocks", &deep, &full[..most - 1], Refused(314, most as u32 - 1));
+    t.walk("a walk of 1,048,577 blocks that are none", &deep, &vec![65_535; most + 1], Refused(301, 0));
+    // the limit 65,535 itself
+    let stay = |visits: usize| [&[0, 1][..], &vec![2; visits], &[1, 3]].concat();
+    t.walk("65,535 visits", &deep, &stay(65_535), Accepted(65_539_000_000, 65_538));
+    t.walk("65,536 visits", &deep, &stay(65_536), Refused(313, 65_537));
+    let twice = [&stay(65_535)[..65_538], &stay(65_535)[2..]].concat();
+    t.walk("65,535 visits twice", &deep, &twice, Accepted(131_075_000_000, 131_074));
+    let outer = |visits: usize| [&[0u16][..], &[1, 2].repeat(visits - 1), &[1, 3]].concat();
+    t.walk("65,535 visits of the outer loop", &deep, &outer(65_535), Accepted(131_071_000_000, 131_070));
+    t.walk("65,536 visits of the outer loop", &deep, &outer(65_536), Refused(313, 131_071));
+}
