@@ -10,9 +10,7 @@ use routine::Routine;
 use std::hint::black_box;
 use std::time::Instant;
 
-const ROUNDS: usize = 40;
-
-// The seconds of one call: the fastest of many rounds of some milliseconds each.
+// The seconds of one call: the fastest of many short rounds.
 struct Measure<'a> {
     name: &'a str,
     call: Box<dyn FnMut() + 'a>,
@@ -33,9 +31,14 @@ impl<'a> Measure<'a> {
     }
 }
 
+// The result of a call counts as used, so that the call is not left out.
+fn keep<T>(result: T) {
+    black_box(result);
+}
+
 // Measures ours beside the others and prints a line for each: time, rate over `units`, and how many times faster ours is.
-fn compare(title: &str, units: f64, unit: &str, calls: u32, goals: &[f64], measures: &mut [Measure]) {
-    for _ in 0..ROUNDS {
+fn compare(title: &str, (units, unit): (f64, &str), (rounds, calls): (u32, u32), goals: &[f64], measures: &mut [Measure]) {
+    for _ in 0..rounds {
         for measure in measures.iter_mut() {
             measure.round(calls);
         }
@@ -64,14 +67,13 @@ fn reading(routine: &Routine) {
     assert!(ours == routine.blocks && core == ours && libcsv == ours);
     compare(
         &format!("reading a plain block table of 1024 rows, {} bytes", bytes.len()),
-        bytes.len() as f64,
-        "B",
-        50,
+        (bytes.len() as f64, "B"),
+        (400, 5),
         &[1.0, 1.5],
         &mut [
-            Measure::new("rolkeyda_read_blocks", || drop(black_box(Library::read_blocks(black_box(bytes), &mut ours)))),
-            Measure::new("csv-core, parsed", || drop(black_box(reading::csv_core(black_box(bytes), &mut core)))),
-            Measure::new("libcsv, parsed", || drop(black_box(reading::libcsv(black_box(bytes), &mut libcsv)))),
+            Measure::new("rolkeyda_read_blocks", || keep(Library::read_blocks(black_box(bytes), &mut ours))),
+            Measure::new("csv-core, parsed", || keep(reading::csv_core(black_box(bytes), &mut core))),
+            Measure::new("libcsv, parsed", || keep(reading::libcsv(black_box(bytes), &mut libcsv))),
         ],
     );
 }
@@ -82,13 +84,12 @@ fn checking(routine: &Routine) {
     assert_eq!(ours.number, 0);
     compare(
         &format!("checking 1024 blocks, 64 loops (bound {})", ours.value),
-        1024.0,
-        "blocks",
-        200,
+        (1024.0, "blocks"),
+        (400, 20),
         &[1.0],
         &mut [
-            Measure::new("rolkeyda_check", || drop(black_box(Library::check(black_box(routine))))),
-            Measure::new("straight Rust", || drop(black_box(straight::check(black_box(routine))))),
+            Measure::new("rolkeyda_check", || keep(Library::check(black_box(routine)))),
+            Measure::new("straight Rust", || keep(straight::check(black_box(routine)))),
         ],
     );
 }
@@ -100,13 +101,12 @@ fn walking(routine: &Routine) {
     assert_eq!(straight::walk(routine, &walk), Ok((ours.value as u64, ours.more)));
     compare(
         &format!("a walk of {} blocks (cost {})", walk.len(), ours.value),
-        walk.len() as f64,
-        "blocks",
-        1,
+        (walk.len() as f64, "blocks"),
+        (60, 1),
         &[0.9],
         &mut [
-            Measure::new("rolkeyda_walk", || drop(black_box(Library::walk(routine, black_box(&walk))))),
-            Measure::new("straight Rust", || drop(black_box(straight::walk(routine, black_box(&walk))))),
+            Measure::new("rolkeyda_walk", || keep(Library::walk(routine, black_box(&walk)))),
+            Measure::new("straight Rust", || keep(straight::walk(routine, black_box(&walk)))),
         ],
     );
 }

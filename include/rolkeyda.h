@@ -28,6 +28,8 @@ extern "C" {
 #define ROLKEYDA_LONGEST_WALK 1048576u
 
 /*
+ * The reply of every function (`Reply` in the crate).
+ *
  * number   0: accepted. Else the number of the lowest rule that is broken:
  *          101 to 106 of a text, 201 to 208 of a pair of tables, 301 to 303 and 311 to 314 of a walk.
  * place    where: the record of a text (the first is 1), the block or loop of a table, the index of a walk. 0 when accepted.
