@@ -1,5 +1,5 @@
 //! Compares the library with an implementation written from the papers alone: named tests first, then cases from fixed seeds. The last line
-//! is 'N passed, M failed'. With --long the run has forty times as many cases, from other seeds as well.
+//! is 'N passed, M failed'. With --long the run has ten times as many cases, from further seeds.
 
 mod abi;
 mod compare;
@@ -156,7 +156,7 @@ fn main() {
             std::process::exit(2);
         }
     }
-    let parts = if long { 40 * PARTS } else { PARTS };
+    let parts = if long { 10 * PARTS } else { PARTS };
     let mut tally = Tally::default();
     named::all(&mut tally);
     println!("named tests: {} passed, {} failed", tally.passed, tally.failed);

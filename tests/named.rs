@@ -281,8 +281,14 @@ fn sizes(t: &mut Tester) {
             let text = full.clone() + &last;
             t.read(&format!("{table:?}: {name} after all rows"), table, false, text.as_bytes(), 2000, Refused(number, over));
             t.read(&format!("{table:?}: {name} without a place"), table, false, text.as_bytes(), most, Refused(number, over));
-            let text = last.replace(&format!("{most},"), "0,").replace(&format!("0,{rest}"), &format!("0,{rest}"));
-            let number = if name == "wrong row" { 106 } else { number };
+        }
+        for (name, text, number) in [
+            ("empty line", "\r\n".to_string(), 103),
+            ("bad number", format!("x,{rest}"), 104),
+            ("wrong row", format!("1,{rest}"), 105),
+            ("good row", format!("0,{rest}"), 106),
+            ("broken record", format!("0,{rest}\""), 102),
+        ] {
             t.read(&format!("{table:?}: {name} with no place at all"), table, false, text.as_bytes(), 0, Refused(number, 1));
         }
         let case = |lengths| Case { table, text: format!("0,{rest}\r\n1,{rest}\r\n2,{rest}").into_bytes(), header: false, lengths };
