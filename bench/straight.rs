@@ -88,10 +88,8 @@ pub fn check(t: &Routine) -> Result<i64, Refusal> {
     Ok(i64::from(b.cost[0]) + b.figure[0] - b.figure[n - 1])
 }
 
-pub fn walk(t: &Routine, walk: &[u16]) -> Result<(u64, u64), Refusal> {
-    let around = structure(t)?;
-    let b = &t.blocks;
-    let n = b.cost.len();
+// The length of a walk and its first block.
+fn begins(walk: &[u16], n: usize) -> Result<(), Refusal> {
     if walk.is_empty() || walk.len() > 1 << 20 {
         return Err((301, 0));
     }
@@ -101,6 +99,14 @@ pub fn walk(t: &Routine, walk: &[u16]) -> Result<(u64, u64), Refusal> {
     if walk[0] != 0 {
         return Err((303, 0));
     }
+    Ok(())
+}
+
+pub fn walk(t: &Routine, walk: &[u16]) -> Result<(u64, u64), Refusal> {
+    let around = structure(t)?;
+    let b = &t.blocks;
+    let n = b.cost.len();
+    begins(walk, n)?;
     let mut counts = [0u32; 64];
     counts[0] = 1;
     let (mut at, mut cost) = (0usize, u64::from(b.cost[0]));
