@@ -7,6 +7,7 @@ mod straight;
 
 use library::Library;
 use routine::Routine;
+use csv_core::Reader;
 use std::hint::black_box;
 use std::time::Instant;
 
@@ -60,19 +61,22 @@ fn reading(routine: &Routine) {
     let bytes = text.as_bytes();
     let mut ours = routine::Blocks::room(1024);
     let mut core = routine::Blocks::room(1024);
+    let mut kept = routine::Blocks::room(1024);
     let mut libcsv = routine::Blocks::room(1024);
+    let mut reader = Reader::new();
     assert_eq!(Library::read_blocks(bytes, &mut ours).value, 1024);
-    assert_eq!(reading::csv_core(bytes, &mut core), Some(1024));
+    assert_eq!(reading::csv_core(&mut reader, bytes, &mut core), Some(1024));
     assert_eq!(reading::libcsv(bytes, &mut libcsv), Some(1024));
     assert!(ours == routine.blocks && core == ours && libcsv == ours);
     compare(
         &format!("reading a plain block table of 1024 rows, {} bytes", bytes.len()),
         (bytes.len() as f64, "B"),
         (400, 5),
-        &[1.0, 1.5],
+        &[1.0, 1.0, 1.5],
         &mut [
             Measure::new("rolkeyda_read_blocks", || keep(Library::read_blocks(black_box(bytes), &mut ours))),
-            Measure::new("csv-core, parsed", || keep(reading::csv_core(black_box(bytes), &mut core))),
+            Measure::new("csv-core, reader kept", || keep(reading::csv_core(&mut reader, black_box(bytes), &mut kept))),
+            Measure::new("csv-core, reader made", || keep(reading::csv_core(&mut Reader::new(), black_box(bytes), &mut core))),
             Measure::new("libcsv, parsed", || keep(reading::libcsv(black_box(bytes), &mut libcsv))),
         ],
     );

@@ -63,8 +63,9 @@ fn row(fields: &[u8], ends: &[usize], k: usize, to: &mut Blocks) -> Option<()> {
     Some(())
 }
 
-pub fn csv_core(text: &[u8], to: &mut Blocks) -> Option<usize> {
-    let mut reader = Reader::new();
+// The reader is the caller's, who may make one for each text or keep one.
+pub fn csv_core(reader: &mut Reader, text: &[u8], to: &mut Blocks) -> Option<usize> {
+    reader.reset();
     let mut fields = [0u8; 1024];
     let mut ends = [0usize; 16];
     let mut rest = text;

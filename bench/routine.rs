@@ -144,11 +144,10 @@ impl Routine {
         text
     }
 
-    // A finished counted run of this length: it goes round wherever the limits and the length allow.
-    pub fn walk(&self, length: usize) -> Vec<u16> {
+    // The fewest blocks behind each block up to the exit.
+    fn ahead(&self) -> Vec<usize> {
         let b = &self.blocks;
         let exit = b.cost.len() - 1;
-        // the fewest blocks behind each block up to the exit
         let mut ahead = vec![usize::MAX / 2; b.cost.len()];
         ahead[exit] = 0;
         for _ in 0..4 {
@@ -160,6 +159,14 @@ impl Routine {
                 }
             }
         }
+        ahead
+    }
+
+    // A finished counted run of this length: it goes round wherever the limits and the length allow.
+    pub fn walk(&self, length: usize) -> Vec<u16> {
+        let b = &self.blocks;
+        let exit = b.cost.len() - 1;
+        let ahead = self.ahead();
         let mut visits = vec![0u32; self.loops.parent.len()];
         let mut walk = vec![0u16];
         let mut u = 0;

@@ -29,9 +29,15 @@ fn block_fits(t: &Routine, u: usize) -> bool {
         && (-(1i64 << 60)..=1 << 60).contains(&b.figure[u])
 }
 
-// The edges out of block u.
-fn edges(b: &Blocks, u: usize) -> impl Iterator<Item = usize> {
-    [b.first[u], b.second[u]].into_iter().filter(|&v| v != MISSING).map(usize::from)
+// Whether some edge out of block u ends at a block of which p holds.
+fn some_edge(b: &Blocks, u: usize, p: impl Fn(usize) -> bool) -> bool {
+    let present = |v: u16| v != MISSING && p(v as usize);
+    present(b.first[u]) || present(b.second[u])
+}
+
+// A rule over its places: the lowest that breaks it decides.
+fn lowest(number: u32, places: usize, broken: impl Fn(usize) -> bool) -> Result<(), Refusal> {
+    (0..places).find(|&p| broken(p)).map_or(Ok(()), |p| Err((number, p)))
 }
 
 // 201 to 207: the loops around each loop, or the first refusal.
@@ -41,18 +47,17 @@ fn structure(t: &Routine) -> Result<[u64; 64], Refusal> {
         return Err((201, 0));
     }
     let (n, m) = (b.cost.len(), l.parent.len());
-    let lowest = |number: u32, places: usize, broken: &dyn Fn(usize) -> bool| (0..places).find(|&p| broken(p)).map_or(Ok(()), |p| Err((number, p)));
-    lowest(202, m, &|k| !loop_fits(t, k))?;
-    lowest(203, n, &|u| !block_fits(t, u))?;
-    lowest(204, m, &|k| b.loops[l.header[k] as usize] as usize != k)?;
+    lowest(202, m, |k| !loop_fits(t, k))?;
+    lowest(203, n, |u| !block_fits(t, u))?;
+    lowest(204, m, |k| b.loops[l.header[k] as usize] as usize != k)?;
     let mut around = [0u64; 64];
     for k in 0..m {
         around[k] = around[l.parent[k] as usize] | 1 << k;
     }
-    lowest(205, m, &|k| around[k].count_ones() > 16)?;
-    lowest(206, n, &|u| edges(b, u).any(|v| v == 0 || u == n - 1))?;
-    lowest(207, n, &|u| {
-        edges(b, u).any(|v| {
+    lowest(205, m, |k| around[k].count_ones() > 16)?;
+    lowest(206, n, |u| some_edge(b, u, |v| v == 0 || u == n - 1))?;
+    lowest(207, n, |u| {
+        some_edge(b, u, |v| {
             let entered = around[b.loops[v] as usize] & !around[b.loops[u] as usize];
             entered != 0 && (entered.count_ones() != 1 || l.header[b.loops[v] as usize] as usize != v)
         })
@@ -77,16 +82,14 @@ pub fn check(t: &Routine) -> Result<i64, Refusal> {
     let around = structure(t)?;
     let b = &t.blocks;
     let n = b.cost.len();
-    if let Some(u) = (0..n).find(|&u| edges(b, u).any(|v| !holds(t, &around, u, v))) {
+    if let Some(u) = (0..n).find(|&u| some_edge(b, u, |v| !holds(t, &around, u, v))) {
         return Err((208, u));
     }
     Ok(i64::from(b.cost[0]) + b.figure[0] - b.figure[n - 1])
 }
 
-pub fn walk(t: &Routine, walk: &[u16]) -> Result<(u64, u64), Refusal> {
-    let around = structure(t)?;
-    let b = &t.blocks;
-    let n = b.cost.len();
+// The length of a walk and its first block.
+fn begins(walk: &[u16], n: usize) -> Result<(), Refusal> {
     if walk.is_empty() || walk.len() > 1 << 20 {
         return Err((301, 0));
     }
@@ -96,6 +99,14 @@ pub fn walk(t: &Routine, walk: &[u16]) -> Result<(u64, u64), Refusal> {
     if walk[0] != 0 {
         return Err((303, 0));
     }
+    Ok(())
+}
+
+pub fn walk(t: &Routine, walk: &[u16]) -> Result<(u64, u64), Refusal> {
+    let around = structure(t)?;
+    let b = &t.blocks;
+    let n = b.cost.len();
+    begins(walk, n)?;
     let mut counts = [0u32; 64];
     counts[0] = 1;
     let (mut at, mut cost) = (0usize, u64::from(b.cost[0]));
