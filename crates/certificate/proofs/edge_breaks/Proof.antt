@@ -50,19 +50,19 @@ cast-l c = omega (arith, c .shared-slice-known9 .given (c .before .before .befor
 
 -- src/lib.rt:102:16
 mul-from : tie.Need-mul-from
-mul-from c = omega (arith, c .before .before .before .before .before .before .before .before .before .before .pre .2, c .before .before .before .before .before .before .before .before .before .before .pre .0 .ranged .sized .few-blocks)
+mul-from c = omega (arith, c .before .before .before .before .before .before .before .before .before .before .pre .2, present (c .before), c .before .before .before .before .before .before .before .before .before .before .pre .0 .ranged .sized .few-blocks)
 
 -- src/lib.rt:102:16
 shared-slice-read-from : tie.Need-shared-slice-read-from
-shared-slice-read-from c = omega (arith, c .before .before .before .before .before .before .before .before .before .before .before .pre .2, c .before .before .before .before .before .before .before .before .before .before .before .pre .0 .ranged .sized .loops)
+shared-slice-read-from c = omega (arith, c .before .before .before .before .before .before .before .before .before .before .before .pre .2, present (c .before .before), c .before .before .before .before .before .before .before .before .before .before .before .pre .0 .ranged .sized .loops)
 
 -- src/lib.rt:102:16
 cast-from : tie.Need-cast-from
-cast-from c = omega (arith, c .shared-slice-known10 .given (c .before .before .before .before .before .before .before .before .before .before .before .args .u))
+cast-from c = omega (arith, c .shared-slice-known10 .given (c .before .before .before .before .before .before .before .before .before .before .before .args .u), c .shared-slice-known10 .given (c .before .before .before .before .before .before .before .before .before .before .before .args .v))
 
 -- src/lib.rt:103:18
 set-at-requires : tie.Need-set-at-requires
-set-at-requires c κs = omega (arith, c .before .before .before .before .before .before .before .before .before .before .before .pre .0 .ranged .loop-below (c .before .before .before .before .before .before .before .before .before .before .before .args .u) (c .before .before .before .before .before .before .before .before .before .before .before .pre .2), c .before .before .before .before .before .before .before .before .before .before .before .pre .0 .ranged .sized .few-loops)
+set-at-requires c κs = omega (arith, c .before .before .before .before .before .before .before .before .before .before .before .pre .0 .ranged .loop-below (c .before .before .before .before .before .before .before .before .before .before .before .args .u) (c .before .before .before .before .before .before .before .before .before .before .before .pre .2), loop-low (c .before .before), c .before .before .before .before .before .before .before .before .before .before .before .pre .0 .ranged .sized .few-loops)
 
 -- src/lib.rt:103:9
 contains-requires : tie.Need-contains-requires
