@@ -190,9 +190,9 @@ judge-room t k x w e = go (x .sound) (eqb (length (x .fields)) (t .columns)) e
     go false b e = absurd (let z : _≡_ {A = ℕ} 0 1 = cc in omega arith)
 
 -- a reading from row k on: its rows have places, and it is refused at a record of at most `most`
-record Short (room most k : ℕ) (x : Reading) : Type 0 where
-  rows : k + length (x .rows) ≤ room
-  place : (n p : ℕ) → x .end ≡ table.refused n p → p ≤ most
+pub record Short (room most k : ℕ) (x : Reading) : Type 0 where
+  pub rows : k + length (x .rows) ≤ room
+  pub place : (n p : ℕ) → x .end ≡ table.refused n p → p ≤ most
 
 stopped-short : (room most k n p : ℕ) → k ≤ room → p ≤ most → Short room most k (stopped n p)
 stopped-short room most k n p h l = record { rows = omega arith; place = λ m q e. let there : p ≡ q = cc in omega arith }
@@ -207,7 +207,7 @@ reading-short t first k (r ∷ rs) h = go (judge t k r) refl (reading-short t fi
     go (Taken w) e later = let S = later (judge-room t k r w e) in record { rows = omega (arith, S .rows); place = S .place }
     go (Fault n) e later = stopped-short (t .room) (first + t .room) k n (first + k) h (omega arith)
 
-table-short : (t : Layout) (header : Bool) (s : List ℕ) → Short (t .room) (2 + t .room) 0 (tableOf t header s)
+pub table-short : (t : Layout) (header : Bool) (s : List ℕ) → Short (t .room) (2 + t .room) 0 (tableOf t header s)
 unfolding tableOf
 table-short t header s = long (leb (length s) 65536)
   where

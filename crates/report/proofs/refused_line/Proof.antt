@@ -1,0 +1,80 @@
+use Rattle.report.proofs.Lines.{stage-short, numeral-short, wrote-both, ready}
+use Rattle.report.specs.Line.{stageWord, lineOf}
+use Rattle.report.specs.Line.{bytes}
+use Rattle.csv.specs.Write.{numeralOf}
+use lib.ListN.{length}
+use Prim.Native.Nat.{_≤_}
+use mathlib.Core.List.{[], _∷_}
+use native.Mathlib.Omega.{arith}
+use borrow.Author.Needs.{needs}
+use Rattle.report.proofs.refused_line.Statement.{statement}
+use Rattle.report.proofs.refused_line.Tie as tie
+use Rattle.report.proofs.refused_line.Reads as reads
+use Rattle.report.proofs.refused_line.Lts as lts
+
+number-short : (s : tie.Start) → length (numeralOf (s .args .number)) ≤ 10
+number-short s = numeral-short 9 (s .args .number) (omega arith)
+
+place-short : (s : tie.Start) → length (numeralOf (s .args .place)) ≤ 20
+place-short s = numeral-short 19 (s .args .place) (omega arith)
+
+-- src/lib.rt:352:9
+empty-requires : tie.Need-empty-requires
+empty-requires c κs = search needs
+
+-- src/lib.rt:353:26
+slice-aggregate-word : tie.Need-slice-aggregate-word
+slice-aggregate-word c = search needs
+
+-- src/lib.rt:353:9
+word-requires : tie.Need-word-requires
+word-requires c κs = search needs
+
+-- src/lib.rt:354:9
+stage-requires : tie.Need-stage-requires
+stage-requires c κs = omega arith
+
+-- src/lib.rt:355:9
+byte-requires : tie.Need-byte-requires
+byte-requires c κs = omega (arith, stage-short (c .before .before .before .before .args .stage))
+
+-- src/lib.rt:356:9
+numeral-requires : tie.Need-numeral-requires
+numeral-requires c κs = omega (arith, stage-short (c .before .before .before .before .before .args .stage), number-short (c .before .before .before .before .before))
+
+-- src/lib.rt:357:9
+byte-requires-2 : tie.Need-byte-requires-2
+byte-requires-2 c κs = omega (arith, stage-short (c .before .before .before .before .before .before .args .stage), number-short (c .before .before .before .before .before .before))
+
+-- src/lib.rt:358:9
+numeral-requires-2 : tie.Need-numeral-requires-2
+numeral-requires-2 c κs = omega (arith, stage-short (c .before .before .before .before .before .before .before .args .stage), number-short (c .before .before .before .before .before .before .before), place-short (c .before .before .before .before .before .before .before))
+
+-- src/lib.rt:359:5
+byte-requires-3 : tie.Need-byte-requires-3
+byte-requires-3 c κs = omega (arith, stage-short (c .before .before .before .before .before .before .before .before .args .stage), number-short (c .before .before .before .before .before .before .before .before), place-short (c .before .before .before .before .before .before .before .before))
+
+-- src/lib.rt:349:1
+returns : tie.Need-returns
+unfolding lineOf
+returns c = let a = c .before .before .before .before .before .before .before .before .before .args in
+    let stage = wrote-both (bytes "refused ") (stageWord (a .stage)) (c .before .before .before .before .before .before .word .ensures) (c .before .before .before .before .before .stage .ensures) in
+    let number = wrote-both (32 ∷ []) (numeralOf (a .number)) (c .before .before .before .before .byte .ensures) (c .before .before .before .numeral .ensures) in
+    let place = wrote-both (32 ∷ []) (numeralOf (a .place)) (c .before .before .byte2 .ensures) (c .before .numeral2 .ensures) in
+    ready _ (c .before .before .before .before .before .before .before .before .empty .ensures) (wrote-both _ (10 ∷ []) (wrote-both _ _ (wrote-both _ _ stage number) place) (c .byte3 .ensures))
+    (omega (arith, stage-short (a .stage), number-short (c .before .before .before .before .before .before .before .before .before), place-short (c .before .before .before .before .before .before .before .before .before)))
+
+pub refused-line-spec : {M : Type 1} → statement M
+refused-line-spec =
+    tie.close
+    (tie.spec
+    empty-requires
+    slice-aggregate-word
+    word-requires
+    stage-requires
+    byte-requires
+    numeral-requires
+    byte-requires-2
+    numeral-requires-2
+    byte-requires-3
+    returns)

@@ -1,0 +1,120 @@
+-- The program as a whole: what an accepted line means, and how much of its input it needs to see. Assumes nothing.
+use mathlib.Core.Path.{_≡_, refl, ap}
+use mathlib.Core.Bool.{Bool, true, false, cond, _&&_}
+use mathlib.Core.List.{List, [], _∷_, _++_}
+use Prim.Native.Nat.{ℕ, zero, suc, _<_}
+use native.Mathlib.Omega.{arith}
+use borrow.Author.Tests.{leb-true, leb-false, lt-leb}
+use lib.Dec.{eqb, leb}
+use lib.IntN.{ℤ}
+use lib.ListN.{length, length-take, take}
+use lib.Seq.{take-all}
+use Rattle.wcet.specs.Rules.{Reply, accepted, refused, tableReply}
+use Rattle.wcet.proofs.Bound.{wcet-bound}
+use Rattle.tables.specs.Table as table
+use Rattle.tables.specs.Table.{End, Reading, layoutOf, tableOf}
+use Rattle.tables.specs.declared.Layout.{Layout}
+use Rattle.tables.specs.declared.Row.{Row}
+use Rattle.tables.specs.declared.Shape.the-variants.{Blocks as BlockRows, Loops as LoopRows}
+use Rattle.report.specs.Line.{bytes}
+use Rattle.stages.specs.Stages.{same, headerOf, ofAnswer, ofEnd, ofReading, routineOf, tableStage, hasBlocks, hasLoops, loopsStage, blocksStage, settingStage, outcomeOf, Certified, FirstBytes}
+use Rattle.stages.specs.declared.Header.{Header}
+use Rattle.stages.specs.declared.Header.the-variants.{Absent, Present, Wrong}
+use Rattle.stages.specs.declared.Files.{Files}
+use Rattle.report.specs.declared.Stage.{Stage}
+use Rattle.report.specs.declared.Stage.the-variants.{Blocks, Loops}
+use Rattle.report.specs.declared.Outcome.{Outcome}
+use Rattle.report.specs.declared.Outcome.the-variants.{Accepted, Refused}
+
+-- ---- the first bytes
+
+-- a word of fewer than k bytes is found in the first k
+same-first : (k : ℕ) (s w : List ℕ) → length w < k → same (take k s) w ≡ same s w
+unfolding same
+same-first zero s w h = absurd (omega arith)
+same-first (suc k) [] w h = refl
+same-first (suc k) (b ∷ s) [] h = refl
+same-first (suc k) (b ∷ s) (c ∷ w) h = ap (λ (x : Bool). eqb b c && x) (same-first k s w (omega arith))
+
+header-first : (s : List ℕ) → headerOf (take 16 s) ≡ headerOf s
+unfolding headerOf
+header-first s = rw (
+  same-first 16 s (bytes "header=absent") (omega arith),
+  same-first 16 s (bytes "header=absent" ++ 10 ∷ []) (omega arith),
+  same-first 16 s (bytes "header=present") (omega arith),
+  same-first 16 s (bytes "header=present" ++ 10 ∷ []) (omega arith),
+)
+
+-- a text that is too long is so by its first bytes
+text-first : (t : Layout) (header : Bool) (s : List ℕ) → tableOf t header (take 65537 s) ≡ tableOf t header s
+unfolding tableOf
+text-first t header s = go (leb (length s) 65536) refl
+  where
+    go : (b : Bool) → leb (length s) 65536 ≡ b → tableOf t header (take 65537 s) ≡ tableOf t header s
+    go true e = ap (tableOf t header) (take-all 65537 s (omega (arith, leb-true (length s) 65536 e)))
+    go false e =
+        let l : 65536 < length s = leb-false (length s) 65536 e in
+        let long : leb (length (take 65537 s)) 65536 ≡ false = lt-leb (length (take 65537 s)) 65536 (omega (arith, length-take 65537 s)) in
+        rw (e, long)
+
+-- THEOREM: buffers of 16 and of 65,537 bytes are enough.
+pub first-bytes : (setting : List ℕ) (files : Files) (blocks loops : List ℕ) → FirstBytes setting files blocks loops
+unfolding outcomeOf blocksStage loopsStage
+first-bytes setting files blocks loops = rw (header-first setting) (go (headerOf setting))
+  where
+    stage : (header : Bool) → blocksStage header files (take 65537 blocks) (take 65537 loops) ≡ blocksStage header files blocks loops
+    stage header = rw (text-first (layoutOf BlockRows 1024) header blocks, text-first (layoutOf LoopRows 64) header loops)
+
+    go : (h : Header) → settingStage h files (take 65537 blocks) (take 65537 loops) ≡ settingStage h files blocks loops
+    go Absent = stage false
+    go Present = stage true
+    go Wrong = refl
+
+-- ---- an accepted line
+
+-- an acceptance behind a text comes from its rows
+record Behind (x : Reading) (behind : List Row → Outcome) (b : ℤ) : Type 0 where
+  read : x ≡ record { rows = x .rows; end = table.all }
+  accepts : behind (x .rows) ≡ Accepted b
+
+behind-text : (x : Reading) (stage : Stage) (behind : List Row → Outcome) (b : ℤ) → ofReading stage behind x ≡ Accepted b → Behind x behind b
+behind-text x stage behind b e = go (x .end) refl e
+  where
+    go : (y : End) → x .end ≡ y → ofEnd stage (behind (x .rows)) y ≡ Accepted b → Behind x behind b
+    go table.all f q = record { read = ap (λ (y : End). record { rows = x .rows; end = y }) f; accepts = q }
+    go (table.refused n p) f q = absurd (let z : _≡_ {A = ℕ} 0 1 = cc in omega arith)
+
+-- a file that is there
+behind-file : (has : Bool) (x : Reading) (stage : Stage) (behind : List Row → Outcome) (n p : ℕ) (b : ℤ) → cond has (ofReading stage behind x) (Refused stage n p) ≡ Accepted b → Behind x behind b
+behind-file true x stage behind n p b e = behind-text x stage behind b e
+behind-file false x stage behind n p b e = absurd (let z : _≡_ {A = ℕ} 0 1 = cc in omega arith)
+
+table-accepts : (x : Reply ℤ) (b : ℤ) → ofAnswer x ≡ Accepted b → x ≡ accepted b
+table-accepts (accepted c) b e = let same : c ≡ b = cc in ap accepted same
+table-accepts (refused n p) b e = absurd (let z : _≡_ {A = ℕ} 0 1 = cc in omega arith)
+
+-- THEOREM: demand 3, of an accepted outcome of the program.
+pub certified : (setting : List ℕ) (files : Files) (blocks loops : List ℕ) (b : ℤ) → outcomeOf setting files blocks loops ≡ Accepted b → Certified setting blocks loops b
+unfolding outcomeOf blocksStage loopsStage
+certified setting files blocks loops b e = go (headerOf setting) refl e
+  where
+    stage : (header : Bool) → headerOf setting ≡ cond header Present Absent → blocksStage header files blocks loops ≡ Accepted b → Certified setting blocks loops b
+    stage header h q =
+        let x = tableOf (layoutOf BlockRows 1024) header blocks in
+        let y = tableOf (layoutOf LoopRows 64) header loops in
+        let B = behind-file (hasBlocks files) x Blocks (λ bs. loopsStage header files loops (routineOf bs)) 107 1 b q in
+        let L = behind-file (hasLoops files) y Loops (λ ls. tableStage (routineOf (x .rows) ls)) 107 2 b (B .accepts) in
+        record {
+          header = header;
+          said = h;
+          block-rows = x .rows;
+          loop-rows = y .rows;
+          blocks-read = B .read;
+          loops-read = L .read;
+          bounded = wcet-bound (routineOf (x .rows) (y .rows)) b (table-accepts (tableReply (routineOf (x .rows) (y .rows))) b (L .accepts));
+        }
+
+    go : (g : Header) → headerOf setting ≡ g → settingStage g files blocks loops ≡ Accepted b → Certified setting blocks loops b
+    go Absent h q = stage false h q
+    go Present h q = stage true h q
+    go Wrong h q = absurd (let z : _≡_ {A = ℕ} 0 1 = cc in omega arith)

@@ -1,0 +1,134 @@
+-- Document 01, "One routine in full": what the checking program says of the line on its standard input and of its two files.
+-- Assumes nothing: these are definitions.
+use Prim.Native.Nat.{ℕ}
+use Prim.Native.String.{String}
+use mathlib.Core.Bool.{Bool, true, false, cond, _&&_, _||_}
+use mathlib.Core.List.{List, [], _∷_, _++_, map}
+use mathlib.Core.Path.{_≡_}
+use lib.Dec.{eqb}
+use lib.IntN.{ℤ}
+use lib.ListN.{take}
+use Rattle.wcet.specs.Table.{Routine}
+use Rattle.wcet.specs.Rules.{Reply, accepted, refused, tableReply}
+use Rattle.wcet.specs.Claim.{WcetBound}
+use Rattle.nesting.specs.Columns.{routine}
+use Rattle.tables.specs.Row.{mostRows, costOf, innermostOf, firstOf, secondOf, figureOf, parentOf, headOf, limitOf, multiplierOf}
+use Rattle.tables.specs.Table as table
+use Rattle.tables.specs.Table.{End, Reading, layoutOf, tableOf}
+use Rattle.tables.specs.declared.Shape.{Shape}
+use Rattle.tables.specs.declared.Shape.the-variants.{Blocks as BlockRows, Loops as LoopRows}
+use Rattle.tables.specs.declared.Row.{Row}
+use Rattle.report.specs.Line.{bytes}
+use Rattle.stages.specs.declared.Header.{Header}
+use Rattle.stages.specs.declared.Header.the-variants.{Absent, Present, Wrong}
+use Rattle.stages.specs.declared.Files.{Files}
+use Rattle.stages.specs.declared.Files.the-variants.{Neither, Blocks as OnlyBlocks, Both}
+use Rattle.report.specs.declared.Stage.{Stage}
+use Rattle.report.specs.declared.Stage.the-variants.{Setting, Blocks, Loops, Table}
+use Rattle.report.specs.declared.Outcome.{Outcome}
+use Rattle.report.specs.declared.Outcome.the-variants.{Accepted, Refused}
+use Rattle.stages.specs.declared.Wanted.{Wanted}
+use Rattle.stages.specs.declared.Wanted.the-variants.{Nothing, Blocks as BlockFile, Loops as LoopFile}
+
+-- ---- the setting
+
+-- the same bytes
+unfoldable pub same : List ℕ → List ℕ → Bool
+same [] [] = true
+same [] (c ∷ t) = false
+same (b ∷ s) [] = false
+same (b ∷ s) (c ∷ t) = eqb b c && same s t
+
+-- "The line ends with LF or with the input"
+abbrev pub says : List ℕ → String → Bool
+says s word = same s (bytes word) || same s (bytes word ++ 10 ∷ [])
+
+-- "one line, header=absent or header=present .. anything else before, in or after it is 100"
+unfoldable pub headerOf : List ℕ → Header
+headerOf s = cond (says s "header=absent") Absent (cond (says s "header=present") Present Wrong)
+
+-- ---- the stages
+
+-- the routine of the columns of blocks and the rows of loops
+abbrev pub behindBlocks : (costs loops firsts seconds : List ℕ) (figures : List ℤ) → List Row → Routine
+behindBlocks costs loops firsts seconds figures ls = routine costs loops firsts seconds figures (map parentOf ls) (map headOf ls) (map limitOf ls) (map multiplierOf ls)
+
+-- the routine of the rows of blocks and those of loops
+abbrev pub routineOf : List Row → List Row → Routine
+routineOf bs = behindBlocks (map costOf bs) (map innermostOf bs) (map firstOf bs) (map secondOf bs) (map figureOf bs)
+
+-- the last stage: the bound, or 201 to 208
+abbrev pub ofAnswer : Reply ℤ → Outcome
+ofAnswer (accepted bound) = Accepted bound
+ofAnswer (refused number place) = Refused Table number place
+
+abbrev pub tableStage : Routine → Outcome
+tableStage t = ofAnswer (tableReply t)
+
+-- a text that is refused, 101 to 106, or what comes behind its rows
+abbrev pub ofEnd : Stage → Outcome → End → Outcome
+ofEnd stage behind table.all = behind
+ofEnd stage behind (table.refused number place) = Refused stage number place
+
+abbrev pub ofReading : Stage → (List Row → Outcome) → Reading → Outcome
+ofReading stage behind x = ofEnd stage (behind (x .rows)) (x .end)
+
+-- a text, with a place for as many rows as a table may have
+abbrev pub ofText : Stage → Shape → (List Row → Outcome) → Bool → List ℕ → Outcome
+ofText stage shape behind header s = ofReading stage behind (tableOf (layoutOf shape (mostRows shape)) header s)
+
+-- 107: "a file cannot be read", place "1 blocks, 2 loops"
+abbrev pub hasBlocks : Files → Bool
+hasBlocks Neither = false
+hasBlocks OnlyBlocks = true
+hasBlocks Both = true
+
+abbrev pub hasLoops : Files → Bool
+hasLoops Neither = false
+hasLoops OnlyBlocks = false
+hasLoops Both = true
+
+-- "Setting comes first, then blocks, loops, table; 107 carries the stage of its file."
+unfoldable pub loopsStage : Bool → Files → List ℕ → (List Row → Routine) → Outcome
+loopsStage header files loops with-loops = cond (hasLoops files) (ofText Loops LoopRows (λ ls. tableStage (with-loops ls)) header loops) (Refused Loops 107 2)
+
+unfoldable pub blocksStage : Bool → Files → List ℕ → List ℕ → Outcome
+blocksStage header files blocks loops = cond (hasBlocks files) (ofText Blocks BlockRows (λ bs. loopsStage header files loops (routineOf bs)) header blocks) (Refused Blocks 107 1)
+
+abbrev pub settingStage : Header → Files → List ℕ → List ℕ → Outcome
+settingStage Absent files blocks loops = blocksStage false files blocks loops
+settingStage Present files blocks loops = blocksStage true files blocks loops
+settingStage Wrong files blocks loops = Refused Setting 100 0
+
+unfoldable pub outcomeOf : List ℕ → Files → List ℕ → List ℕ → Outcome
+outcomeOf setting files blocks loops = settingStage (headerOf setting) files blocks loops
+
+-- ---- the order in which files are opened
+
+-- the file for want of which there is no other outcome
+abbrev pub wantedAt : Stage → Wanted
+wantedAt Setting = Nothing
+wantedAt Blocks = BlockFile
+wantedAt Loops = LoopFile
+wantedAt Table = Nothing
+
+abbrev pub wantedBy : Outcome → Wanted
+wantedBy (Accepted bound) = Nothing
+wantedBy (Refused stage number place) = cond (eqb number 107) (wantedAt stage) Nothing
+
+-- ---- what is claimed of the definitions, and proved in proofs/
+
+-- Demand 3 of the whole program: an accepted bound is the bound of the routine that the rows of the two texts give, and holds for every list
+-- of blocks.
+pub record Certified (setting blocks loops : List ℕ) (b : ℤ) : Type 0 where
+  pub header : Bool
+  pub said : headerOf setting ≡ cond header Present Absent
+  pub block-rows : List Row
+  pub loop-rows : List Row
+  pub blocks-read : tableOf (layoutOf BlockRows 1024) header blocks ≡ record { rows = block-rows; end = table.all }
+  pub loops-read : tableOf (layoutOf LoopRows 64) header loops ≡ record { rows = loop-rows; end = table.all }
+  pub bounded : WcetBound (routineOf block-rows loop-rows) b
+
+-- No input shows more than its first bytes do: 16 of the setting, and of a file one more than a text may have.
+abbrev pub FirstBytes : List ℕ → Files → List ℕ → List ℕ → Type 0
+FirstBytes setting files blocks loops = outcomeOf (take 16 setting) files (take 65537 blocks) (take 65537 loops) ≡ outcomeOf setting files blocks loops
