@@ -8,7 +8,11 @@ mod straight;
 use library::Library;
 use routine::Routine;
 use csv_core::Reader;
+use std::fs;
 use std::hint::black_box;
+use std::io::Write;
+use std::path::Path;
+use std::process::{Command, Stdio};
 use std::time::Instant;
 
 // The seconds of one call: the fastest of many short rounds.
@@ -37,13 +41,17 @@ fn keep<T>(result: T) {
     black_box(result);
 }
 
-// Measures ours beside the others and prints a line for each: time, rate over `units`, and how many times faster ours is.
-fn compare(title: &str, (units, unit): (f64, &str), (rounds, calls): (u32, u32), goals: &[f64], measures: &mut [Measure]) {
+fn measure(rounds: u32, calls: u32, measures: &mut [Measure]) {
     for _ in 0..rounds {
         for measure in measures.iter_mut() {
             measure.round(calls);
         }
     }
+}
+
+// Measures ours beside the others and prints a line for each: time, rate over `units`, and how many times faster ours is.
+fn compare(title: &str, (units, unit): (f64, &str), (rounds, calls): (u32, u32), goals: &[f64], measures: &mut [Measure]) {
+    measure(rounds, calls, measures);
     println!("{title}");
     let ours = measures[0].best;
     for (i, measure) in measures.iter().enumerate() {
@@ -115,6 +123,31 @@ fn walking(routine: &Routine) {
     );
 }
 
+// One run of a program on a setting, in a folder.
+fn run(program: &Path, folder: &Path) -> Vec<u8> {
+    let mut child = Command::new(program).current_dir(folder).stdin(Stdio::piped()).stdout(Stdio::piped()).spawn().unwrap();
+    // a program that reads no input may be gone by now
+    let _ = child.stdin.take().unwrap().write_all(b"header=absent\n");
+    child.wait_with_output().unwrap().stdout
+}
+
+fn program(routine: &Routine, name: &str) {
+    let folder = Path::new(name).join("largest");
+    let checker = Path::new("target/bin/checker").canonicalize().unwrap();
+    fs::create_dir_all(&folder).unwrap();
+    fs::write(folder.join("blocks.csv"), routine.blocks_csv()).unwrap();
+    fs::write(folder.join("loops.csv"), routine.loops_csv()).unwrap();
+    assert_eq!(run(&checker, &folder), format!("accepted {}\n", Library::check(routine).value).into_bytes());
+    let mut measures = [
+        Measure::new("checker", || keep(run(&checker, &folder))),
+        Measure::new("true", || keep(run(Path::new("/bin/true"), &folder))),
+    ];
+    measure(60, 5, &mut measures);
+    println!("the whole program on these tables, beside one that does nothing");
+    println!("  {:<24} {:>10.1} us (goal 3000 us)", measures[0].name, measures[0].best * 1e6);
+    println!("  {:<24} {:>10.1} us", measures[1].name, measures[1].best * 1e6);
+}
+
 fn main() {
     let routine = Routine::largest();
     let only = std::env::args().nth(1);
@@ -127,5 +160,8 @@ fn main() {
     }
     if wanted("walk") {
         walking(&routine);
+    }
+    if wanted("program") {
+        program(&routine, "target/bench");
     }
 }

@@ -144,6 +144,15 @@ impl Routine {
         text
     }
 
+    pub fn loops_csv(&self) -> String {
+        let l = &self.loops;
+        let mut text = String::new();
+        for k in 0..l.parent.len() {
+            write!(text, "{k},{},{},{},{}\r\n", l.parent[k], l.header[k], l.limit[k], l.multiplier[k]).unwrap();
+        }
+        text
+    }
+
     // The fewest blocks behind each block up to the exit.
     fn ahead(&self) -> Vec<usize> {
         let b = &self.blocks;
