@@ -30,7 +30,7 @@ extern "C" {
 /*
  * The reply of every function (`Reply` in the crate).
  *
- * number   0: accepted. Else the number of the lowest rule that is broken:
+ * number   0: accepted. Else the number of the first rule that is broken:
  *          101 to 106 of a text, 201 to 208 of a pair of tables, 301 to 303 and 311 to 314 of a walk.
  * place    where: the record of a text (the first is 1), the block or loop of a table, the index of a walk. 0 when accepted.
  * value    when accepted: the count of rows, the bound, or the cost. Else 0.

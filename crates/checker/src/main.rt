@@ -6,10 +6,35 @@ use report::Outcome;
 use stages::Files;
 use stages::Wanted;
 
-// A file that was read up to the first byte over the limit, or could not be read.
+// What a descriptor gave: all its bytes up to a full buffer, or an error.
 struct Content {
     readable: bool,
     len: usize,
+}
+
+// Reads until the buffer is full or the input ends. After an error nothing that came before it counts.
+fn read_all(fd: i32, buffer: &mut [u8]) -> Content {
+    let mut len: usize = 0;
+    while len < buffer.len() {
+        let got = libc::read(fd, &mut buffer[len..]);
+        if got < 0 {
+            return Content {
+                readable: false,
+                len: 0,
+            };
+        }
+        if got == 0 {
+            return Content {
+                readable: true,
+                len,
+            };
+        }
+        len += got as usize;
+    }
+    Content {
+        readable: true,
+        len,
+    }
 }
 
 fn read_file(path: &[u8], text: &mut [u8; 65537]) -> Content {
@@ -20,15 +45,9 @@ fn read_file(path: &[u8], text: &mut [u8; 65537]) -> Content {
             len: 0,
         };
     }
-    let len = io::read_full(fd, text);
-    // an error ends the reading above as the end of the file does; here it shows
-    let mut rest = [0u8; 1];
-    let more = libc::read(fd, &mut rest);
+    let content = read_all(fd, text);
     libc::close(fd);
-    Content {
-        readable: more >= 0,
-        len,
-    }
+    content
 }
 
 // The bytes that were read.
@@ -46,8 +65,8 @@ fn print(outcome: Outcome) {
 // Each file is opened only when the outcome without it is that it is missing; where it cannot be read, that outcome stands.
 fn main() {
     let mut line = [0u8; 16];
-    let n = io::read_full(STDIN_FILENO, &mut line);
-    let setting = &line[..n];
+    let said = read_all(STDIN_FILENO, &mut line);
+    let setting = stages::first_u8(&line, said.len);
     let outcome = stages::outcome_of(setting, Files::Neither, b"", b"");
     let Wanted::Blocks = stages::wanted_by(outcome) else {
         print(outcome);

@@ -17,10 +17,12 @@ use Rattle.tables.specs.declared.Layout.{Layout}
 use Rattle.tables.specs.declared.Row.{Row}
 use Rattle.tables.specs.declared.Shape.the-variants.{Blocks as BlockRows, Loops as LoopRows}
 use Rattle.report.specs.Line.{bytes}
-use Rattle.stages.specs.Stages.{same, headerOf, ofAnswer, ofEnd, ofReading, routineOf, tableStage, hasBlocks, hasLoops, loopsStage, blocksStage, settingStage, outcomeOf, Certified, FirstBytes}
+use Rattle.stages.specs.Stages.{same, headerOf, ofAnswer, ofEnd, ofReading, routineOf, tableStage, hasBlocks, hasLoops, loopsStage, blocksStage, settingStage, outcomeOf, wantedBy, Certified, FirstBytes, InTurn}
 use Rattle.stages.specs.declared.Header.{Header}
 use Rattle.stages.specs.declared.Header.the-variants.{Absent, Present, Wrong}
 use Rattle.stages.specs.declared.Files.{Files}
+use Rattle.stages.specs.declared.Files.the-variants.{Neither, Blocks as OnlyBlocks}
+use Rattle.stages.specs.declared.Wanted.the-variants.{Nothing}
 use Rattle.report.specs.declared.Stage.{Stage}
 use Rattle.report.specs.declared.Stage.the-variants.{Blocks, Loops}
 use Rattle.report.specs.declared.Outcome.{Outcome}
@@ -104,6 +106,8 @@ certified setting files blocks loops b e = go (headerOf setting) refl e
         let y = tableOf (layoutOf LoopRows 64) header loops in
         let B = behind-file (hasBlocks files) x Blocks (λ bs. loopsStage header files loops (routineOf bs)) 107 1 b q in
         let L = behind-file (hasLoops files) y Loops (λ ls. tableStage (routineOf (x .rows) ls)) 107 2 b (B .accepts) in
+        let t = routineOf (x .rows) (y .rows) in
+        let replied : tableReply t ≡ accepted b = table-accepts (tableReply t) b (L .accepts) in
         record {
           header = header;
           said = h;
@@ -111,10 +115,59 @@ certified setting files blocks loops b e = go (headerOf setting) refl e
           loop-rows = y .rows;
           blocks-read = B .read;
           loops-read = L .read;
-          bounded = wcet-bound (routineOf (x .rows) (y .rows)) b (table-accepts (tableReply (routineOf (x .rows) (y .rows))) b (L .accepts));
+          replied = replied;
+          bounded = wcet-bound t b replied;
         }
 
     go : (g : Header) → headerOf setting ≡ g → settingStage g files blocks loops ≡ Accepted b → Certified setting blocks loops b
     go Absent h q = stage false h q
     go Present h q = stage true h q
     go Wrong h q = absurd (let z : _≡_ {A = ℕ} 0 1 = cc in omega arith)
+
+-- ---- one file after the other
+
+-- with no file, and with no loops
+in-turn-neither : (h : Header) (files : Files) (blocks loops : List ℕ) → wantedBy (settingStage h Neither [] []) ≡ Nothing → settingStage h files blocks loops ≡ settingStage h Neither [] []
+unfolding blocksStage
+in-turn-neither Absent files blocks loops e = absurd (let z : _≡_ {A = ℕ} 0 1 = cc in omega arith)
+in-turn-neither Present files blocks loops e = absurd (let z : _≡_ {A = ℕ} 0 1 = cc in omega arith)
+in-turn-neither Wrong files blocks loops e = refl
+
+in-turn-blocks : (h : Header) (files : Files) (blocks loops : List ℕ) → hasBlocks files ≡ true → wantedBy (settingStage h OnlyBlocks blocks []) ≡ Nothing → settingStage h files blocks loops ≡ settingStage h OnlyBlocks blocks []
+unfolding blocksStage loopsStage
+in-turn-blocks h files blocks loops has e = go h e
+  where
+    stage : (header : Bool) → wantedBy (blocksStage header OnlyBlocks blocks []) ≡ Nothing → blocksStage header files blocks loops ≡ blocksStage header OnlyBlocks blocks []
+    stage header q = rw has (ended (tableOf (layoutOf BlockRows 1024) header blocks .end) q)
+      where
+        ended : (y : End) → wantedBy (ofEnd Blocks (Refused Loops 107 2) y) ≡ Nothing
+            → ofEnd Blocks (loopsStage header files loops (routineOf (tableOf (layoutOf BlockRows 1024) header blocks .rows))) y ≡ ofEnd Blocks (Refused Loops 107 2) y
+        ended table.all q = absurd (let z : _≡_ {A = ℕ} 0 1 = cc in omega arith)
+        ended (table.refused n p) q = refl
+
+    go : (h : Header) → wantedBy (settingStage h OnlyBlocks blocks []) ≡ Nothing → settingStage h files blocks loops ≡ settingStage h OnlyBlocks blocks []
+    go Absent q = stage false q
+    go Present q = stage true q
+    go Wrong q = refl
+
+no-blocks : (h : Header) (blocks loops : List ℕ) → settingStage h Neither blocks loops ≡ settingStage h Neither [] []
+unfolding blocksStage
+no-blocks Absent blocks loops = refl
+no-blocks Present blocks loops = refl
+no-blocks Wrong blocks loops = refl
+
+no-loops : (h : Header) (blocks loops : List ℕ) → settingStage h OnlyBlocks blocks loops ≡ settingStage h OnlyBlocks blocks []
+unfolding blocksStage loopsStage
+no-loops Absent blocks loops = refl
+no-loops Present blocks loops = refl
+no-loops Wrong blocks loops = refl
+
+-- THEOREM: the order in which the program opens its files gives the outcome.
+pub in-turn : (setting blocks loops : List ℕ) → InTurn setting blocks loops
+unfolding outcomeOf
+in-turn setting blocks loops = record {
+  by-setting = λ e files. in-turn-neither (headerOf setting) files blocks loops e;
+  by-blocks = λ e files has. in-turn-blocks (headerOf setting) files blocks loops has e;
+  no-blocks = no-blocks (headerOf setting) blocks loops;
+  no-loops = no-loops (headerOf setting) blocks loops;
+}

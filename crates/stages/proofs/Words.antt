@@ -4,14 +4,9 @@ use mathlib.Core.Bool.{Bool, true, false, _&&_}
 use mathlib.Core.List.{List, [], _∷_}
 use Prim.Native.Nat.{ℕ}
 use native.Mathlib.Omega.{arith}
-use borrow.Author.Tests.{eqb-true, eq-eqb}
+use borrow.Author.Tests.{eqb-true}
 use lib.Dec.{eqb}
 use Rattle.stages.specs.Stages.{same}
-
-same-refl : (s : List ℕ) → same s s ≡ true
-unfolding same
-same-refl [] = refl
-same-refl (b ∷ s) = rw (eq-eqb b b refl, same-refl s)
 
 same-path : (s t : List ℕ) → same s t ≡ true → s ≡ t
 unfolding same
@@ -25,9 +20,6 @@ same-path (b ∷ s) (c ∷ t) e = go (eqb b c) refl e (same-path s t)
     go false f q ih = absurd (let z : _≡_ {A = ℕ} 0 1 = cc in omega arith)
 
 -- what a comparison of the whole setting with a word tells
-pub is-same : (s t : List ℕ) → s ≡ t → same s t ≡ true
-is-same s t e = rw e (same-refl t)
-
 pub is-other : (s t : List ℕ) (r : Bool) → r ≡ false → (s ≡ t → r ≡ true) → same s t ≡ false
 is-other s t r f h = go (same s t) refl
   where

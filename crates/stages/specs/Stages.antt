@@ -105,7 +105,7 @@ outcomeOf setting files blocks loops = settingStage (headerOf setting) files blo
 
 -- ---- the order in which files are opened
 
--- the file for want of which there is no other outcome
+-- the file whose 107 the outcome is
 abbrev pub wantedAt : Stage → Wanted
 wantedAt Setting = Nothing
 wantedAt Blocks = BlockFile
@@ -118,17 +118,26 @@ wantedBy (Refused stage number place) = cond (eqb number 107) (wantedAt stage) N
 
 -- ---- what is claimed of the definitions, and proved in proofs/
 
--- Demand 3 of the whole program: an accepted bound is the bound of the routine that the rows of the two texts give, and holds for every list
--- of blocks.
+-- Demand 3 of the whole program: an accepted bound is that of the routine which the rows of the two texts give, and holds for every list of
+-- blocks.
 pub record Certified (setting blocks loops : List ℕ) (b : ℤ) : Type 0 where
   pub header : Bool
   pub said : headerOf setting ≡ cond header Present Absent
   pub block-rows : List Row
   pub loop-rows : List Row
-  pub blocks-read : tableOf (layoutOf BlockRows 1024) header blocks ≡ record { rows = block-rows; end = table.all }
-  pub loops-read : tableOf (layoutOf LoopRows 64) header loops ≡ record { rows = loop-rows; end = table.all }
+  pub blocks-read : tableOf (layoutOf BlockRows (mostRows BlockRows)) header blocks ≡ record { rows = block-rows; end = table.all }
+  pub loops-read : tableOf (layoutOf LoopRows (mostRows LoopRows)) header loops ≡ record { rows = loop-rows; end = table.all }
+  pub replied : tableReply (routineOf block-rows loop-rows) ≡ accepted b
   pub bounded : WcetBound (routineOf block-rows loop-rows) b
 
--- No input shows more than its first bytes do: 16 of the setting, and of a file one more than a text may have.
+-- The outcome depends on the first 16 bytes of the setting and the first 65,537 of each file only.
 abbrev pub FirstBytes : List ℕ → Files → List ℕ → List ℕ → Type 0
 FirstBytes setting files blocks loops = outcomeOf (take 16 setting) files (take 65537 blocks) (take 65537 loops) ≡ outcomeOf setting files blocks loops
+
+-- Files may be opened in turn, each when the outcome without it wants it: an outcome that wants none is the outcome whatever is in the
+-- files that are not open, and what an unopened file holds plays no part.
+pub record InTurn (setting blocks loops : List ℕ) : Type 0 where
+  pub by-setting : wantedBy (outcomeOf setting Neither [] []) ≡ Nothing → (files : Files) → outcomeOf setting files blocks loops ≡ outcomeOf setting Neither [] []
+  pub by-blocks : wantedBy (outcomeOf setting OnlyBlocks blocks []) ≡ Nothing → (files : Files) → hasBlocks files ≡ true → outcomeOf setting files blocks loops ≡ outcomeOf setting OnlyBlocks blocks []
+  pub no-blocks : outcomeOf setting Neither blocks loops ≡ outcomeOf setting Neither [] []
+  pub no-loops : outcomeOf setting OnlyBlocks blocks loops ≡ outcomeOf setting OnlyBlocks blocks []
