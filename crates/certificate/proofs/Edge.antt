@@ -1,25 +1,65 @@
--- The inequality of an edge, as the definition reads it off the tables and as the code has it on numbers. Assumes nothing.
-use mathlib.Core.Path.{_≡_, refl, _∙_, ap}
-use mathlib.Core.Bool.{Bool}
+-- 208 read off the loop sets is 208. Assumes nothing.
+use mathlib.Core.Path.{_≡_, ap}
+use mathlib.Core.Bool.{Bool, not}
 use mathlib.Core.List.{List}
 use Prim.Native.Nat.{ℕ, _<_}
-use Rattle.wcet.specs.Table.{Routine, blockCount, loopCount, cost, loopOf, figure, limit, multiplier, inside}
-use Rattle.wcet.specs.Rules.{isHeader, edgeHolds}
-use Rattle.loopsets.specs.Sets.{member, setAt, SetsAround}
-use Rattle.loopsets.specs.declared.LoopSet.{LoopSet}
+use native.Mathlib.Omega.{arith}
+use Rattle.lists.specs.Search.{firstBelow}
+use Rattle.lists.proofs.Search.{first-ext}
+use Rattle.wcet.specs.Table.{Routine, blockCount, exit, cost, loopOf, first, second, figure, limit, multiplier, someEdge, inside}
+use Rattle.wcet.specs.Rules.{isHeader, edgeHolds, inequalityBroken}
+use Rattle.loopsets.specs.Sets.{SetsAround}
 use Rattle.nesting.specs.Columns.{Ranged}
+use Rattle.nesting.proofs.Stages.{innermost}
+use Rattle.nesting.proofs.Edges.{edges-ext}
 use Rattle.certificate.specs.Figures.{Figure, inequality}
+use Rattle.certificate.specs.Columns.{weightColumns, priceColumns, Weighed, Priced, brokenBySets, anyBrokenBySets}
 
-pub edge-inequality : (t : Routine) (u v : ℕ)
-    → edgeHolds t u v ≡ inequality (isHeader t v) (inside t u (loopOf t v)) (cost t v) (figure t u) (figure t v) (multiplier t (loopOf t v)) (limit t (loopOf t v))
-unfolding edgeHolds inequality
-edge-inequality t u v = refl
+module _ (t : Routine) (R : Ranged t) where
+  figure-of : (u : ℕ) → u < blockCount t → Figure (figure t u)
+  figure-of u b = record { least = R .figure-least u b; most = R .figure-most u b }
 
-pub figure-of : (t : Routine) → Ranged t → (u : ℕ) → u < blockCount t → Figure (figure t u)
-figure-of t R u b = record { least = R .figure-least u b; most = R .figure-most u b }
+  pub weighed : Weighed (weightColumns (t .costs) (t .loops) (t .figures) (t .headers) (t .limits) (t .multipliers))
+  weighed = record {
+    few-blocks = R .sized .few-blocks;
+    loops = R .sized .loops;
+    figures = R .sized .figures;
+    limits = omega (arith, R .sized .limits, R .sized .headers);
+    multipliers = omega (arith, R .sized .multipliers, R .sized .headers);
+    innermost = innermost t R;
+    cost-most = R .cost-most;
+    figure-range = figure-of;
+    limit-least = λ l b. R .limit-least l (omega (arith, R .sized .headers));
+    limit-most = λ l b. R .limit-most l (omega (arith, R .sized .headers));
+    multiplier-most = λ l b. R .multiplier-most l (omega (arith, R .sized .headers));
+  }
 
--- membership of the source's set is being inside
-pub inside-read : (t : Routine) (sets : List ℕ) → SetsAround (t .parents) sets → (u l : ℕ) → loopOf t u < loopCount t
-    → (s : LoopSet) (r : Bool) → s ≡ setAt sets (loopOf t u) → r ≡ member s l → r ≡ inside t u l
-unfolding inside
-inside-read t sets S u l b s r e q = q ∙ ap (λ (x : LoopSet). member x l) e ∙ S .each (loopOf t u) l b
+  pub priced : Priced (priceColumns (t .costs) (t .figures))
+  priced = record {
+    some-block = R .sized .some-block;
+    few-blocks = R .sized .few-blocks;
+    figures = R .sized .figures;
+    cost-most = R .cost-most 0 (R .sized .some-block);
+    entry-range = figure-of 0 (R .sized .some-block);
+    exit-range = figure-of (exit t) (omega (arith, R .sized .some-block));
+  }
+
+  module _ (sets : List ℕ) (S : SetsAround (t .parents) sets) where
+    abbrev by-sets : ℕ → ℕ → Bool
+    by-sets = brokenBySets sets (weightColumns (t .costs) (t .loops) (t .figures) (t .headers) (t .limits) (t .multipliers))
+
+    -- membership of the source's set is being inside
+    edge-broken : (u v : ℕ) → u < blockCount t → by-sets u v ≡ not (edgeHolds t u v)
+    unfolding brokenBySets edgeHolds inequality inside
+    edge-broken u v b =
+        ap (λ (i : Bool). not (inequality (isHeader t v) i (cost t v) (figure t u) (figure t v) (multiplier t (loopOf t v)) (limit t (loopOf t v))))
+        (S .each (loopOf t u) (loopOf t v) (R .loop-below u b))
+
+    any-broken : (u : ℕ) → u < blockCount t
+        → anyBrokenBySets sets (t .firsts) (t .seconds) (weightColumns (t .costs) (t .loops) (t .figures) (t .headers) (t .limits) (t .multipliers)) u ≡ inequalityBroken t u
+    unfolding inequalityBroken someEdge
+    any-broken u b = edges-ext t u (by-sets u) (λ v. not (edgeHolds t u v)) (λ h. edge-broken u (first t u) b) (λ h. edge-broken u (second t u) b)
+
+    pub broken-places : firstBelow (blockCount t) (anyBrokenBySets sets (t .firsts) (t .seconds) (weightColumns (t .costs) (t .loops) (t .figures) (t .headers) (t .limits) (t .multipliers)))
+        ≡ firstBelow (blockCount t) (inequalityBroken t)
+    broken-places = first-ext (blockCount t) _ (inequalityBroken t) any-broken

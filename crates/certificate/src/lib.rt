@@ -1,22 +1,23 @@
 // The certificate check: 208, the inequality of each edge, and the reply to a pair of tables. Figures and multipliers are claims of
 // whoever made the tables; what an accepted bound means does not lean on them.
 ghost use mathlib.Core.Path.{_≡_};
-ghost use mathlib.Core.Bool.{not};
 ghost use Prim.Native.Nat.{_^_, _≤_, _<_};
 ghost use lib.IntN.{pos, _+ℤ_, _-ℤ_, _*ℤ_};
 ghost use lib.Signed.{leZ};
 ghost use lib.ListN.{length};
 ghost use Rattle.lists.specs.Search.{firstBelow};
-ghost use Rattle.wcet.specs.Rules.{edgeHolds, inequalityBroken};
+ghost use Rattle.wcet.specs.Rules.{bound};
 ghost use Rattle.wcet.specs.Claim.{Checked};
-ghost use Rattle.loopsets.specs.Sets.{SetsAround};
-ghost use Rattle.nesting.specs.Columns.{routine, Names, Headed, ofEdge};
-ghost use Rattle.nesting.specs.Answers.{placeOf};
+ghost use Rattle.nesting.specs.Columns.{routine, Names, Linked, ofEdge};
+ghost use Rattle.nesting.specs.Answers.{placeOf, StructureChecked};
 ghost use Rattle.certificate.specs.Answers.{tableMeaning};
 ghost use Rattle.certificate.specs.Figures.{Figure, inequality};
+ghost use Rattle.certificate.specs.Columns.{weightColumns, priceColumns, Weighed, Priced, brokenBySets, anyBrokenBySets};
+use loopsets::Sets;
 use nesting::Place;
 use nesting::Structure;
 use nesting::StructureFault;
+use nesting::Structured;
 
 // The bound, or the first broken rule: 201 to 207 as the structure check names them, or 208 at its source block.
 pub enum TableReply {
@@ -82,21 +83,18 @@ fn inequality_holds(
 
 // Whether an edge from block u to v breaks its inequality.
 fn edge_breaks(
-    around: &[u64; 64],
+    around: &Sets,
     cost: &[u32],
     loops: &[u16],
-    first: &[u16],
-    second: &[u16],
     figure: &[i64],
-    parent: &[u16],
     header: &[u16],
     limit: &[u32],
     multiplier: &[u64],
     u: usize,
     v: u16,
 ) -> bool
-    requires { ⌜ Headed (routine (now cost) (now loops) (now first) (now second) (now figure) (now parent) (now header) (now limit) (now multiplier)) × SetsAround (now parent) (now around) × (u < length (now cost)) × Names (routine (now cost) (now loops) (now first) (now second) (now figure) (now parent) (now header) (now limit) (now multiplier)) v ⌝ }
-    ensures { λ r. ⌜ r ≡ ofEdge v (λ x. not (edgeHolds (routine (now (cost .entry)) (now (loops .entry)) (now (first .entry)) (now (second .entry)) (now (figure .entry)) (now (parent .entry)) (now (header .entry)) (now (limit .entry)) (now (multiplier .entry))) u x)) ⌝ }
+    requires { ⌜ Weighed (weightColumns (now cost) (now loops) (now figure) (now header) (now limit) (now multiplier)) × (u < length (now cost)) × Names (length (now cost)) v ⌝ }
+    ensures { λ r. ⌜ r ≡ ofEdge v (brokenBySets (now (around .entry)) (weightColumns (now (cost .entry)) (now (loops .entry)) (now (figure .entry)) (now (header .entry)) (now (limit .entry)) (now (multiplier .entry))) u) ⌝ }
 {
     if v == 65535 {
         return false;
@@ -117,53 +115,28 @@ fn edge_breaks(
 }
 
 fn first_broken_inequality(
-    around: &[u64; 64],
+    around: &Sets,
     cost: &[u32],
     loops: &[u16],
     first: &[u16],
     second: &[u16],
     figure: &[i64],
-    parent: &[u16],
     header: &[u16],
     limit: &[u32],
     multiplier: &[u64],
 ) -> Place
-    requires { ⌜ Headed (routine (now cost) (now loops) (now first) (now second) (now figure) (now parent) (now header) (now limit) (now multiplier)) × SetsAround (now parent) (now around) ⌝ }
-    ensures { λ r. ⌜ placeOf r ≡ firstBelow (length (now (cost .entry))) (inequalityBroken (routine (now (cost .entry)) (now (loops .entry)) (now (first .entry)) (now (second .entry)) (now (figure .entry)) (now (parent .entry)) (now (header .entry)) (now (limit .entry)) (now (multiplier .entry)))) ⌝ }
+    requires { ⌜ Weighed (weightColumns (now cost) (now loops) (now figure) (now header) (now limit) (now multiplier)) × Linked (length (now cost)) (now first) (now second) ⌝ }
+    ensures { λ r. ⌜ placeOf r ≡ firstBelow (length (now (cost .entry))) (anyBrokenBySets (now (around .entry)) (now (first .entry)) (now (second .entry)) (weightColumns (now (cost .entry)) (now (loops .entry)) (now (figure .entry)) (now (header .entry)) (now (limit .entry)) (now (multiplier .entry)))) ⌝ }
 {
     let n = cost.len();
     let mut u = 0;
     while u < n {
-        if edge_breaks(
-            around,
-            cost,
-            loops,
-            first,
-            second,
-            figure,
-            parent,
-            header,
-            limit,
-            multiplier,
-            u,
-            first[u],
-        ) {
+        let v = first[u];
+        if edge_breaks(around, cost, loops, figure, header, limit, multiplier, u, v) {
             return Place::At(u);
         }
-        if edge_breaks(
-            around,
-            cost,
-            loops,
-            first,
-            second,
-            figure,
-            parent,
-            header,
-            limit,
-            multiplier,
-            u,
-            second[u],
-        ) {
+        let v = second[u];
+        if edge_breaks(around, cost, loops, figure, header, limit, multiplier, u, v) {
             return Place::At(u);
         }
         u += 1;
@@ -179,6 +152,52 @@ fn bound_of(cost: u32, entry: i64, exit: i64) -> i64
     ensures { λ r. ⌜ r ≡ pos cost +ℤ entry -ℤ exit ⌝ }
 {
     cost as i64 + entry - exit
+}
+
+fn bound_at_exit(cost: &[u32], figure: &[i64]) -> i64
+    requires { ⌜ Priced (priceColumns (now cost) (now figure)) ⌝ }
+    ensures { λ r. ⌜ r ≡ bound (priceColumns (now (cost .entry)) (now (figure .entry))) ⌝ }
+{
+    let exit = cost.len() - 1;
+    bound_of(cost[0], figure[0], figure[exit])
+}
+
+// 208 and the bound, behind the structure check.
+fn certify(
+    structured: Structured,
+    cost: &[u32],
+    loops: &[u16],
+    first: &[u16],
+    second: &[u16],
+    figure: &[i64],
+    parent: &[u16],
+    header: &[u16],
+    limit: &[u32],
+    multiplier: &[u64],
+) -> TableReply
+    requires { ⌜ StructureChecked (routine (now cost) (now loops) (now first) (now second) (now figure) (now parent) (now header) (now limit) (now multiplier)) structured ⌝ }
+    ensures { λ r. ⌜ Checked (routine (now (cost .entry)) (now (loops .entry)) (now (first .entry)) (now (second .entry)) (now (figure .entry)) (now (parent .entry)) (now (header .entry)) (now (limit .entry)) (now (multiplier .entry))) (tableMeaning r) ⌝ }
+{
+    let answer = structured.answer;
+    if let Structure::Broken(fault) = answer {
+        return TableReply::Structure(fault);
+    }
+    let around = structured.around;
+    let place = first_broken_inequality(
+        &around,
+        cost,
+        loops,
+        first,
+        second,
+        figure,
+        header,
+        limit,
+        multiplier,
+    );
+    if let Place::At(u) = place {
+        return TableReply::Inequality(u);
+    }
+    TableReply::Accepted(bound_at_exit(cost, figure))
 }
 
 // The reply to a pair of tables: the longest time of the routine, or the first broken rule; and with it what an accepted bound means for
@@ -207,13 +226,8 @@ pub fn check(
         limit,
         multiplier,
     );
-    let answer = structured.answer;
-    if let Structure::Broken(fault) = answer {
-        return TableReply::Structure(fault);
-    }
-    let around = structured.around;
-    let place = first_broken_inequality(
-        &around,
+    certify(
+        structured,
         cost,
         loops,
         first,
@@ -223,10 +237,5 @@ pub fn check(
         header,
         limit,
         multiplier,
-    );
-    if let Place::At(u) = place {
-        return TableReply::Inequality(u);
-    }
-    let exit = cost.len() - 1;
-    TableReply::Accepted(bound_of(cost[0], figure[0], figure[exit]))
+    )
 }

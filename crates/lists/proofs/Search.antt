@@ -94,6 +94,12 @@ found-lowest (suc k) p i e = go (firstBelow k p) refl (p k) refl e (found-lowest
         record { below = omega arith; passes = ap p (sym k≡i) ∙ q; first = λ j l. not-found k p o j (omega arith) }
     go none o false q e rest = absurd (let z : _≡_ {A = ℕ} 0 1 = cc in omega arith)
 
+-- two tests that agree below k find the same
+pub first-ext : (k : ℕ) (p q : ℕ → Bool) → ((i : ℕ) → i < k → p i ≡ q i) → firstBelow k p ≡ firstBelow k q
+unfolding firstBelow
+first-ext zero p q h = refl
+first-ext (suc k) p q h = rw (first-ext k p q (λ i l. h i (omega arith)), h k (omega arith))
+
 -- ---- countBelow
 
 pub count-ext : (k : ℕ) (p q : ℕ → Bool) → ((i : ℕ) → i < k → p i ≡ q i) → countBelow k p ≡ countBelow k q

@@ -5,9 +5,12 @@ ghost use mathlib.Core.Path.{_≡_};
 ghost use mathlib.Core.Bool.{not, _&&_, _||_};
 ghost use Prim.Native.Nat.{ℕ, _≤_, _<_};
 ghost use lib.Dec.{eqb};
-ghost use lib.ListN.{length, getD};
+ghost use lib.ListN.{length};
 ghost use Rattle.lists.specs.Search.{countBelow};
 ghost use Rattle.loopsets.specs.Sets.{member, setAt, LowestOf, Parents, SetsAround};
+
+// A word for the set of each loop.
+pub type Sets = [u64; 64];
 
 // A set of loops.
 pub struct LoopSet {
@@ -68,7 +71,7 @@ impl LoopSet {
 }
 
 // The set of loop l.
-pub fn set_at(sets: &[u64; 64], l: usize) -> LoopSet
+pub fn set_at(sets: &Sets, l: usize) -> LoopSet
     requires { ⌜ l < 64 ⌝ }
     ensures { λ r. ⌜ r ≡ setAt (now (sets .entry)) l ⌝ }
 {
@@ -76,7 +79,7 @@ pub fn set_at(sets: &[u64; 64], l: usize) -> LoopSet
 }
 
 // The loops around each loop of the parent column: around loop 0 itself alone, around any other loop itself and the loops around its parent.
-pub fn sets_around(parent: &[u16]) -> [u64; 64]
+pub fn sets_around(parent: &[u16]) -> Sets
     requires { ⌜ (0 < length (now parent)) × (length (now parent) ≤ 64) × Parents (now parent) ⌝ }
     ensures { λ r. ⌜ SetsAround (now (parent .entry)) r ⌝ }
 {

@@ -1,23 +1,23 @@
 -- How the answers of the rules' functions make the reply: a place decides, none hands on. Assumes nothing.
 use mathlib.Core.Path.{_≡_, refl, sym, _∙_, ap}
-use mathlib.Core.Bool.{Bool, true, false}
+use mathlib.Core.Bool.{Bool, true, false, not, _||_}
 use mathlib.Core.List.{List, [], _∷_, _++_}
 use Prim.Native.Nat.{ℕ, _<_}
 use native.Mathlib.Omega.{arith}
 use lib.ListN.{drop}
 use Rattle.lists.specs.Search.{firstBelow}
 use Rattle.lists.proofs.Search.{not-found}
-use Rattle.wcet.specs.Rules.{Reply, accepted, refused, Rule, check, sizesWrong, structureRules}
-use Rattle.wcet.specs.Table.{Routine}
+use Rattle.lists.proofs.Tests.{or-false}
+use Rattle.wcet.specs.Rules.{Reply, accepted, refused, Rule, check, outOfRange, blockColumnsEqual, loopColumnsEqual, sizesWrong, tooDeep, entryOrExitEdge, entersPastHeader, structureRules}
+use Rattle.wcet.specs.Table.{Routine, blockCount, loopCount, someEdge, inside}
 use Rattle.wcet.specs.Claim.{AllHold}
 use Rattle.wcet.proofs.Replies.{decides, hands-on, passes, refused-append}
-use Rattle.loopsets.specs.Sets.{SetsAround}
-use Rattle.nesting.specs.Answers.{placeOf, refusal, structureReply, StructureChecked}
+use Rattle.nesting.specs.Columns.{nestingColumns, blockSizesWrong, loopSizesWrong}
+use Rattle.nesting.specs.Answers.{placeOf, refusal, structureReply, StructureChecked, NestingChecked}
 use Rattle.nesting.specs.declared.Place.{Place}
 use Rattle.nesting.specs.declared.Place.the-variants.{At, Nowhere}
 use Rattle.nesting.specs.declared.StructureFault.{StructureFault}
 use Rattle.nesting.specs.declared.StructureFault.the-variants.{Sizes, Loop, Block, Header, Depth, EntryOrExit, PastHeader}
-use Rattle.nesting.specs.declared.Structure.{Structure}
 use Rattle.nesting.specs.declared.Structure.the-variants.{Sound, Broken}
 use Rattle.nesting.specs.declared.Structured.{Structured}
 
@@ -41,6 +41,33 @@ none-left passed = refl
 
 -- ---- 201, whose one place is 0
 
+module _ (t : Routine) where
+  pub blocks-decide : blockSizesWrong t ≡ true → sizesWrong t ≡ true
+  unfolding sizesWrong
+  blocks-decide e = go (outOfRange 2 1024 (blockCount t)) (outOfRange 1 64 (loopCount t)) (not (blockColumnsEqual t)) (not (loopColumnsEqual t)) e
+    where
+      go : (a b c d : Bool) → (a || c) ≡ true → (a || b || c || d) ≡ true
+      go true b c d e = refl
+      go false true c d e = refl
+      go false false c d e = rw e
+
+  pub loops-decide : loopSizesWrong t ≡ true → sizesWrong t ≡ true
+  unfolding sizesWrong
+  loops-decide e = go (outOfRange 2 1024 (blockCount t)) (outOfRange 1 64 (loopCount t)) (not (blockColumnsEqual t)) (not (loopColumnsEqual t)) e
+    where
+      go : (a b c d : Bool) → (b || d) ≡ true → (a || b || c || d) ≡ true
+      go true b c d e = refl
+      go false true c d e = refl
+      go false false true d e = refl
+      go false false false d e = e
+
+  pub neither-decides : blockSizesWrong t ≡ false → loopSizesWrong t ≡ false → sizesWrong t ≡ false
+  unfolding sizesWrong
+  neither-decides e f =
+      let p = or-false (outOfRange 2 1024 (blockCount t)) (not (blockColumnsEqual t)) e in
+      let q = or-false (outOfRange 1 64 (loopCount t)) (not (loopColumnsEqual t)) f in
+      rw (p .0, p .1, q .0, q .1)
+
 pub sizes-decide : {A : Type 0} (t : Routine) (passed : Reply A) → sizesWrong t ≡ true → refused 201 0 ≡ check (structureRules t) passed
 unfolding structureRules
 sizes-decide t passed e = sym (decides _ _ passed 0 (record { below = omega arith; passes = e; first = λ j h. absurd (omega arith) }))
@@ -51,15 +78,20 @@ sizes-clear t passed e = sym (hands-on _ _ passed (λ p h. e))
 
 -- ---- the whole check
 
-pub broken-checked : (t : Routine) (r : Structured) (f : StructureFault) → r .answer ≡ Broken f → refusal {A = Unit {0}} f ≡ check (structureRules t) (accepted tt) → StructureChecked t r
-broken-checked t r f e q = record {
-  replied = ap structureReply e ∙ q;
-  sets = λ s. absurd (let z : _≡_ {A = ℕ} 0 1 = cc in omega arith);
-}
+never-sound : (r : Structured) (f : StructureFault) → r .answer ≡ Broken f → r .answer ≡ Sound → ⊥
+never-sound r f e s = let z : _≡_ {A = ℕ} 0 1 = cc in omega arith
 
-pub sound-checked : (t : Routine) (answer : Structure) (around : List ℕ) → structureReply answer ≡ check (structureRules t) (accepted tt) → SetsAround (t .parents) around
-    → StructureChecked t (record { answer = answer; around = around })
-sound-checked t answer around e s = record { replied = e; sets = λ _. s }
+pub broken-checked : (t : Routine) (r : Structured) (f : StructureFault) → r .answer ≡ Broken f → refusal {A = Unit {0}} f ≡ check (structureRules t) (accepted tt) → StructureChecked t r
+broken-checked t r f e q = record { replied = ap structureReply e ∙ q; sets = λ s. absurd (never-sound r f e s) }
+
+pub broken-nesting : (t : Routine) (r : Structured) (f : StructureFault) → r .answer ≡ Broken f → refusal {A = Unit {0}} f ≡ check (drop 4 (structureRules t)) (accepted tt) → NestingChecked t r
+broken-nesting t r f e q = record { replied = ap structureReply e ∙ q; sets = λ s. absurd (never-sound r f e s) }
+
+-- what the nesting's columns are refused or accepted with, behind 201 to 204, the routine is
+pub nesting-checked : (t : Routine) (r : Structured) → NestingChecked (nestingColumns (t .costs) (t .loops) (t .firsts) (t .seconds) (t .parents) (t .headers)) r
+    → check (drop 4 (structureRules t)) (accepted (tt {0})) ≡ check (structureRules t) (accepted tt) → StructureChecked t r
+unfolding structureRules tooDeep entryOrExitEdge entersPastHeader someEdge inside
+nesting-checked t r N e = record { replied = N .replied ∙ e; sets = N .sets }
 
 -- ---- for who goes on
 

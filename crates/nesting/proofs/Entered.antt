@@ -2,40 +2,50 @@
 -- enters a loop enters its target's innermost one, so it keeps 207 where it enters none, or that one alone and at its header.
 -- Assumes nothing.
 use mathlib.Core.Path.{_≡_, refl, sym, _∙_, ap}
-use mathlib.Core.Bool.{Bool, true, false, not, _&&_}
+use mathlib.Core.Bool.{Bool, true, false, not, _&&_, _||_}
 use mathlib.Core.List.{List}
 use Prim.Native.Nat.{ℕ, suc, _≤_, _<_}
 use native.Mathlib.Decide.{ℕ-discrete}
 use native.Mathlib.Omega.{arith}
 use lib.Dec.{eqb, ltb}
-use borrow.Author.Tests.{eqb-true, ne-eqb}
-use Rattle.lists.specs.Search.{anyBelow, countBelow}
+use lib.ListN.{length, getD}
+use borrow.Author.Tests.{eqb-true, eq-eqb, ne-eqb}
+use Rattle.lists.specs.Search.{anyBelow, countBelow, firstBelow}
 use Rattle.lists.proofs.Tests.{both}
-use Rattle.lists.proofs.Search.{any-none, none-of, any-at, count-ext, count-beyond, count-none, none-counted, count-remove}
-use Rattle.wcet.specs.Table.{Routine, blockCount, loopCount, loopOf, header, around, inside}
-use Rattle.wcet.specs.Rules.{tooDeep, enters, isHeader}
+use Rattle.lists.proofs.Search.{any-none, none-of, any-at, first-ext, count-ext, count-beyond, count-none, none-counted, count-remove}
+use Rattle.wcet.specs.Table.{Routine, blockCount, loopCount, loopOf, header, someEdge, around, inside}
+use Rattle.wcet.specs.Rules.{tooDeep, enters, entersPastHeader, isHeader}
 use Rattle.wcet.proofs.Potential.{inside-own}
 use Rattle.wcet.proofs.Around.{around-above, entered-own}
 use Rattle.loopsets.specs.Sets.{member, setAt, SetsAround}
 use Rattle.loopsets.specs.declared.LoopSet.{LoopSet}
-use Rattle.nesting.specs.Columns.{Headed, pastHeader}
+use Rattle.nesting.specs.Columns.{Nestable, pastHeader, deepBySets, enteredBySets, pastBySets, anyPastBySets}
+use Rattle.nesting.proofs.Edges.{edges-ext}
 
-module _ (t : Routine) (sets : List ℕ) (H : Headed t) (S : SetsAround (t .parents) sets) where
+-- what the code counts: the loops of the target's set that the source's has not
+pub entered-count : (sets loops : List ℕ) (u v : ℕ) (to from s : LoopSet) (n : ℕ) → to ≡ setAt sets (getD loops v 0) → from ≡ setAt sets (getD loops u 0)
+    → ((k : ℕ) → k < 64 → member s k ≡ (member to k && not (member from k))) → n ≡ countBelow 64 (member s) → n ≡ enteredBySets sets loops u v
+entered-count sets loops u v to from s n p q e size = size ∙ count-ext 64 (member s) _ (λ k b. e k b ∙ rw (p, q))
+
+module _ (t : Routine) (sets : List ℕ) (N : Nestable t) (S : SetsAround (t .parents) sets) where
   -- a count over all 64 numbers is one over the loops
   few : (p : ℕ → Bool) → ((k : ℕ) → loopCount t ≤ k → p k ≡ false) → countBelow 64 p ≡ countBelow (loopCount t) p
-  few p none-above = count-beyond (loopCount t) 64 p (H .ranged .sized .few-loops) (λ k a b. none-above k a)
+  few p none-above = count-beyond (loopCount t) 64 p (omega (arith, N .innermost .few, N .headers)) (λ k a b. none-above k a)
 
   above : (l k : ℕ) → l < loopCount t → loopCount t ≤ k → around (t .parents) (loopCount t) l k ≡ false
-  above l k b h = around-above (t .parents) (H .ranged .parents .root) (H .ranged .parents .below) (loopCount t) l k (omega arith)
+  above l k b h = around-above (t .parents) (N .parents .root) (N .parents .below) (loopCount t) l k (omega arith)
+
+  loop-below : (u : ℕ) → u < blockCount t → loopOf t u < loopCount t
+  loop-below u b = omega (arith, N .innermost .below u (omega (arith, N .loops)), N .headers)
 
   -- ---- 205
-  pub depth : (l : ℕ) → l < loopCount t → tooDeep t l ≡ ltb 16 (countBelow 64 (member (setAt sets l)))
+  depth : (l : ℕ) → l < loopCount t → deepBySets sets l ≡ tooDeep t l
   unfolding tooDeep inside
   depth l b =
       ap (ltb 16)
-      (count-ext (loopCount t) (inside t (header t l)) (around (t .parents) (loopCount t) l) (λ k c. ap (λ (x : ℕ). around (t .parents) (loopCount t) x k) (H .own l b))
-      ∙ sym (count-ext 64 (member (setAt sets l)) (around (t .parents) (loopCount t) l) (λ k c. S .each l k b)
-      ∙ few (around (t .parents) (loopCount t) l) (λ k h. above l k b h)))
+      (count-ext 64 (member (setAt sets l)) (around (t .parents) (loopCount t) l) (λ k c. S .each l k b)
+      ∙ few (around (t .parents) (loopCount t) l) (λ k h. above l k b h)
+      ∙ sym (count-ext (loopCount t) (inside t (header t l)) (around (t .parents) (loopCount t) l) (λ k c. ap (λ (x : ℕ). around (t .parents) (loopCount t) x k) (N .own l b))))
 
   -- ---- 207
   module _ (u v : ℕ) (ub : u < blockCount t) (vb : v < blockCount t) where
@@ -43,22 +53,20 @@ module _ (t : Routine) (sets : List ℕ) (H : Headed t) (S : SetsAround (t .pare
     into = enters t u v
 
     own-below : loopOf t v < loopCount t
-    own-below = H .ranged .loop-below v vb
+    own-below = loop-below v vb
 
     -- how many loops the target's set has that the source's has not is how many are entered
-    pub entered : (to from s : LoopSet) (n : ℕ) → to ≡ setAt sets (loopOf t v) → from ≡ setAt sets (loopOf t u)
-        → ((k : ℕ) → k < 64 → member s k ≡ (member to k && not (member from k))) → n ≡ countBelow 64 (member s) → n ≡ countBelow (loopCount t) into
+    entered : enteredBySets sets (t .loops) u v ≡ countBelow (loopCount t) into
     unfolding inside
-    entered to from s n p q e size =
-        size
-        ∙ count-ext 64 (member s) into (λ k b. e k b ∙ rw (p, q, S .each (loopOf t v) k own-below, S .each (loopOf t u) k (H .ranged .loop-below u ub)))
+    entered =
+        count-ext 64 (λ k. member (setAt sets (loopOf t v)) k && not (member (setAt sets (loopOf t u)) k)) into (λ k b. rw (S .each (loopOf t v) k own-below, S .each (loopOf t u) k (loop-below u ub)))
         ∙ few into (λ k h. rw (above (loopOf t v) k own-below h))
 
     -- the target's innermost loop is entered if any is
     none-but-own : into (loopOf t v) ≡ false → (l : ℕ) → into l ≡ false
     unfolding inside
     none-but-own e l =
-        entered-own (t .parents) (H .ranged .parents .root) (H .ranged .parents .below) (loopOf t u) (loopOf t v) l (H .ranged .loop-below u ub)
+        entered-own (t .parents) (N .parents .root) (N .parents .below) (loopOf t u) (loopOf t v) l (loop-below u ub)
         (inside-it (inside t u (loopOf t v)) refl)
       where
         inside-it : (b : Bool) → inside t u (loopOf t v) ≡ b → inside t u (loopOf t v) ≡ true
@@ -80,11 +88,11 @@ module _ (t : Routine) (sets : List ℕ) (H : Headed t) (S : SetsAround (t .pare
     unfolding others
     counted some = count-remove (loopCount t) (loopOf t v) into own-below (own-entered some)
 
-    pub enters-none : countBelow (loopCount t) into ≡ 0 → pastHeader t u v ≡ false
+    enters-none : countBelow (loopCount t) into ≡ 0 → pastHeader t u v ≡ false
     unfolding pastHeader
     enters-none e = any-none (loopCount t) (λ l. into l && not (eqb (header t l) v)) (λ l b. rw (none-counted (loopCount t) into e l b))
 
-    pub enters-more : (countBelow (loopCount t) into ≡ 0 → ⊥) → (countBelow (loopCount t) into ≡ 1 → ⊥) → pastHeader t u v ≡ true
+    enters-more : (countBelow (loopCount t) into ≡ 0 → ⊥) → (countBelow (loopCount t) into ≡ 1 → ⊥) → pastHeader t u v ≡ true
     unfolding pastHeader others
     enters-more some more = go (anyBelow (loopCount t) past) refl
       where
@@ -98,13 +106,13 @@ module _ (t : Routine) (sets : List ℕ) (H : Headed t) (S : SetsAround (t .pare
             by : (i : Bool) → into l ≡ i → Dec (l ≡ loopOf t v) → (i && not (eqb l (loopOf t v))) ≡ false
             by false i d = refl
             by true i (yes q) = rw (borrow.Author.Tests.eq-eqb l (loopOf t v) q)
-            by true i (no ne) = absurd (ne (sym (H .own l b) ∙ ap (loopOf t) (eqb-true (header t l) v (borrow.Author.Tests.not-false _ (rw i at e)))))
+            by true i (no ne) = absurd (ne (sym (N .own l b) ∙ ap (loopOf t) (eqb-true (header t l) v (borrow.Author.Tests.not-false _ (rw i at e)))))
 
         go : (b : Bool) → anyBelow (loopCount t) past ≡ b → anyBelow (loopCount t) past ≡ true
         go true q = q
         go false q = absurd (more (counted some ∙ ap suc (count-none (loopCount t) others (λ l b. away l b (none-of (loopCount t) past q l b)))))
 
-    pub enters-its : countBelow (loopCount t) into ≡ 1 → pastHeader t u v ≡ not (isHeader t v)
+    enters-its : countBelow (loopCount t) into ≡ 1 → pastHeader t u v ≡ not (isHeader t v)
     unfolding pastHeader others
     enters-its e = go (isHeader t v) refl
       where
@@ -131,3 +139,24 @@ module _ (t : Routine) (sets : List ℕ) (H : Headed t) (S : SetsAround (t .pare
             by l b (yes q) = rw (q, h) (mathlib.Core.Bool.and-false (into (loopOf t v)))
             by l b (no ne) = rw (alone l b ne)
         go false h = any-at (loopCount t) past (loopOf t v) own-below (both (own-entered some) (rw h))
+
+    past : pastBySets sets (t .loops) (t .headers) u v ≡ pastHeader t u v
+    unfolding pastBySets
+    past = rw entered (go (ℕ-discrete (countBelow (loopCount t) into) 0) (ℕ-discrete (countBelow (loopCount t) into) 1))
+      where
+        go : Dec (countBelow (loopCount t) into ≡ 0) → Dec (countBelow (loopCount t) into ≡ 1)
+            → (not (eqb (countBelow (loopCount t) into) 0) && (not (eqb (countBelow (loopCount t) into) 1) || not (isHeader t v))) ≡ pastHeader t u v
+        go (yes z) d = rw (eq-eqb _ 0 z) (sym (enters-none z))
+        go (no z) (yes o) = rw (ne-eqb _ 0 z, eq-eqb _ 1 o) (sym (enters-its o))
+        go (no z) (no o) = rw (ne-eqb _ 0 z, ne-eqb _ 1 o) (sym (enters-more z o))
+
+  any-past : (u : ℕ) → u < blockCount t → anyPastBySets sets (t .loops) (t .firsts) (t .seconds) (t .headers) u ≡ entersPastHeader t u
+  unfolding entersPastHeader pastHeader someEdge
+  any-past u b = edges-ext t u (pastBySets sets (t .loops) (t .headers) u) (pastHeader t u) (λ h. past u _ b (N .linked .first-names u b h)) (λ h. past u _ b (N .linked .second-names u b h))
+
+  -- ---- the places
+  pub deep-places : firstBelow (loopCount t) (deepBySets sets) ≡ firstBelow (loopCount t) (tooDeep t)
+  deep-places = first-ext (loopCount t) (deepBySets sets) (tooDeep t) depth
+
+  pub past-places : firstBelow (length (t .loops)) (anyPastBySets sets (t .loops) (t .firsts) (t .seconds) (t .headers)) ≡ firstBelow (blockCount t) (entersPastHeader t)
+  past-places = rw (N .loops) (first-ext (blockCount t) (anyPastBySets sets (t .loops) (t .firsts) (t .seconds) (t .headers)) (entersPastHeader t) any-past)

@@ -13,7 +13,7 @@ use Rattle.integers.proofs.Laws.{ints}
 use Rattle.wcet.specs.Table.{Routine, blockCount, loopCount, missing, cost, loopOf, first, second, figure, parent, header, limit, multiplier}
 use Rattle.wcet.specs.Rules.{outOfRange, sized, blockColumnsEqual, loopColumnsEqual, sizesWrong, loopWrong, blockWrong, headerElsewhere, structureRules}
 use Rattle.wcet.specs.Claim.{AllHold}
-use Rattle.nesting.specs.Columns.{Sized, Names, ofEdge, Ranged, Headed}
+use Rattle.nesting.specs.Columns.{loopColumns, blockColumns, nestingColumns, BlocksSized, LoopsSized, Sized, Names, ofEdge, Ranged, Headed, HeadersNamed, Innermost, Linked, Nestable}
 use Rattle.nesting.proofs.Loops.{root-rule, inner-rule}
 use Rattle.nesting.proofs.Edges.{block-rule}
 
@@ -50,6 +50,13 @@ module _ (t : Routine) where
         few-loops = m .1;
       }
 
+  -- of it, what the functions of 202 and 203 ask for
+  pub loops-sized : Sized t → LoopsSized (loopColumns (t .costs) (t .parents) (t .headers) (t .limits) (t .multipliers))
+  loops-sized S = record { headers = S .headers; limits = S .limits; multipliers = S .multipliers; some-loop = S .some-loop; few-loops = S .few-loops }
+
+  pub blocks-sized : Sized t → BlocksSized (blockColumns (t .costs) (t .loops) (t .firsts) (t .seconds) (t .figures) (t .parents))
+  blocks-sized S = record { loops = S .loops; firsts = S .firsts; seconds = S .seconds; figures = S .figures; some-block = S .some-block; few-blocks = S .few-blocks }
+
   -- 202, of one loop
   record LoopKept (l : ℕ) : Type 0 where
     parent-kept : (l ≡ 0 → parent t l ≡ 0) × (0 < l → parent t l < l)
@@ -82,11 +89,11 @@ module _ (t : Routine) where
   record BlockKept (u : ℕ) : Type 0 where
     cost-kept : cost t u ≤ 1000000
     loop-of-kept : loopOf t u < loopCount t
-    first-kept : Names t (first t u)
-    second-kept : Names t (second t u)
+    first-kept : Names (blockCount t) (first t u)
+    second-kept : Names (blockCount t) (second t u)
     figure-kept : (negℤ (pos (2 ^ 60)) ≤ℤ figure t u) × (figure t u ≤ℤ pos (2 ^ 60))
 
-  names : (v : ℕ) → ofEdge v (λ x. not (ltb x (blockCount t))) ≡ false → Names t v
+  names : (v : ℕ) → ofEdge v (λ x. not (ltb x (blockCount t))) ≡ false → Names (blockCount t) v
   names v e ne = ltb-true v (blockCount t) (not-false _ (rw (ne-eqb v missing ne) at e))
 
   block-kept : (u : ℕ) → blockWrong t u ≡ false → BlockKept u
@@ -145,10 +152,38 @@ module _ (t : Routine) where
           go true e = loop l (ltb-true l (loopCount t) e) .parent-kept .1 z
           go false e = omega (arith, List·getD-eq-default (t .parents) 0 {n = l} (ltb-false l (loopCount t) e))
 
+  -- of it, what the functions of 204 to 208 ask for
+  pub headers-named : Ranged t → HeadersNamed (t .loops) (t .headers)
+  headers-named R = record {
+    few = omega (arith, R .sized .headers, R .sized .few-loops);
+    below = λ l b. omega (arith, R .header-below l (omega (arith, R .sized .headers)), R .sized .loops);
+  }
+
+  pub innermost : Ranged t → Innermost (t .loops) (t .headers)
+  innermost R = record {
+    few = omega (arith, R .sized .headers, R .sized .few-loops);
+    below = λ u b. omega (arith, R .loop-below u (omega (arith, R .sized .loops)), R .sized .headers);
+  }
+
+  pub linked : Ranged t → Linked (blockCount t) (t .firsts) (t .seconds)
+  linked R = record { few = R .sized .few-blocks; first-size = R .sized .firsts; second-size = R .sized .seconds; first-names = R .first-names; second-names = R .second-names }
+
   -- 204
   pub heads : Ranged t → ((l : ℕ) → l < loopCount t → headerElsewhere t l ≡ false) → Headed t
   unfolding headerElsewhere
   heads R H = record { ranged = R; own = λ l b. eqb-true (loopOf t (header t l)) l (not-false _ (H l b)) }
+
+  pub nestable : Headed t → Nestable (nestingColumns (t .costs) (t .loops) (t .firsts) (t .seconds) (t .parents) (t .headers))
+  nestable H = record {
+    some-block = H .ranged .sized .some-block;
+    some-loop = H .ranged .sized .some-loop;
+    loops = H .ranged .sized .loops;
+    headers = H .ranged .sized .headers;
+    parents = H .ranged .parents;
+    innermost = innermost (H .ranged);
+    linked = linked (H .ranged);
+    own = H .own;
+  }
 
   -- all of them, for who goes on from tables that keep 201 to 207
   pub headed : AllHold (structureRules t) → Headed t

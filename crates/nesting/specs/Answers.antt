@@ -2,6 +2,7 @@
 use Prim.Native.Nat.{ℕ}
 use mathlib.Core.Path.{_≡_}
 use mathlib.Core.Option.{Option, none, some}
+use lib.ListN.{drop}
 use Rattle.wcet.specs.Table.{Routine}
 use Rattle.wcet.specs.Rules.{Reply, accepted, refused, check, structureRules}
 use Rattle.loopsets.specs.Sets.{SetsAround}
@@ -35,4 +36,9 @@ structureReply (Broken f) = refusal f
 -- what the structure check ensures: its answer is the rules' 201 to 207, and where they hold, its sets are those of the loops around each loop
 pub record StructureChecked (t : Routine) (r : Structured) : Type 0 where
   pub replied : structureReply (r .answer) ≡ check (structureRules t) (accepted tt)
+  pub sets : r .answer ≡ Sound → SetsAround (t .parents) (r .around)
+
+-- the same of 205 to 207, where 201 to 204 hold
+pub record NestingChecked (t : Routine) (r : Structured) : Type 0 where
+  pub replied : structureReply (r .answer) ≡ check (drop 4 (structureRules t)) (accepted tt)
   pub sets : r .answer ≡ Sound → SetsAround (t .parents) (r .around)

@@ -1,17 +1,17 @@
--- The routine of the nine columns that a caller lends, and what one rule leaves to the next: requirements of functions that are no
--- public entry.
+-- The routine of the nine columns that a caller lends, and for functions that are no public entry: the routine of some of its columns,
+-- what one rule leaves to the next, and 205 and 207 as they are read off the loop sets.
 use Prim.Native.Nat.{ℕ, _^_, _≤_, _<_}
 use mathlib.Core.Path.{_≡_}
-use mathlib.Core.Bool.{Bool, not, _&&_}
-use mathlib.Core.List.{List}
-use lib.Dec.{eqb}
+use mathlib.Core.Bool.{Bool, not, _&&_, _||_}
+use mathlib.Core.List.{List, []}
+use lib.Dec.{eqb, ltb}
 use lib.IntN.{ℤ, pos, negℤ}
-use lib.ListN.{length}
+use lib.ListN.{length, getD}
 use lib.Signed.{_≤ℤ_}
-use Rattle.lists.specs.Search.{anyBelow}
-use Rattle.wcet.specs.Table.{Routine, blockCount, loopCount, missing, cost, loopOf, first, second, figure, header, limit, multiplier}
-use Rattle.wcet.specs.Rules.{enters}
-use Rattle.loopsets.specs.Sets.{Parents}
+use Rattle.lists.specs.Search.{anyBelow, countBelow}
+use Rattle.wcet.specs.Table.{Routine, blockCount, loopCount, missing, cost, loopOf, first, second, figure, header, limit, multiplier, someEdge}
+use Rattle.wcet.specs.Rules.{outOfRange, blockColumnsEqual, loopColumnsEqual, enters}
+use Rattle.loopsets.specs.Sets.{member, setAt, Parents}
 
 -- the routine of nine columns, in the order in which every function takes them
 abbrev pub routine : (costs loops firsts seconds : List ℕ) (figures : List ℤ) (parents headers limits multipliers : List ℕ) → Routine
@@ -27,7 +27,46 @@ routine costs loops firsts seconds figures parents headers limits multipliers = 
   multipliers = multipliers;
 }
 
+-- The columns that a rule reads, the others left empty: of such a routine the rule says what it says of the whole one. Of the costs 202
+-- and 206 read the number of blocks alone, of the parents 203 the number of loops.
+abbrev pub loopColumns : (costs parents headers limits multipliers : List ℕ) → Routine
+loopColumns costs parents headers limits multipliers = routine costs [] [] [] [] parents headers limits multipliers
+
+abbrev pub blockColumns : (costs loops firsts seconds : List ℕ) (figures : List ℤ) (parents : List ℕ) → Routine
+blockColumns costs loops firsts seconds figures parents = routine costs loops firsts seconds figures parents [] [] []
+
+abbrev pub headerColumns : (loops headers : List ℕ) → Routine
+headerColumns loops headers = routine [] loops [] [] [] [] headers [] []
+
+abbrev pub edgeColumns : (costs firsts seconds : List ℕ) → Routine
+edgeColumns costs firsts seconds = routine costs [] firsts seconds [] [] [] [] []
+
+abbrev pub nestingColumns : (costs loops firsts seconds parents headers : List ℕ) → Routine
+nestingColumns costs loops firsts seconds parents headers = routine costs loops firsts seconds [] parents headers [] []
+
+-- 201, of either table
+abbrev pub blockSizesWrong : Routine → Bool
+blockSizesWrong t = outOfRange 2 1024 (blockCount t) || not (blockColumnsEqual t)
+
+abbrev pub loopSizesWrong : Routine → Bool
+loopSizesWrong t = outOfRange 1 64 (loopCount t) || not (loopColumnsEqual t)
+
 -- what 201 leaves: columns that fit each other, and counts within their limits
+pub record BlocksSized (t : Routine) : Type 0 where
+  pub loops : length (t .loops) ≡ blockCount t
+  pub firsts : length (t .firsts) ≡ blockCount t
+  pub seconds : length (t .seconds) ≡ blockCount t
+  pub figures : length (t .figures) ≡ blockCount t
+  pub some-block : 0 < blockCount t
+  pub few-blocks : blockCount t ≤ 1024
+
+pub record LoopsSized (t : Routine) : Type 0 where
+  pub headers : length (t .headers) ≡ loopCount t
+  pub limits : length (t .limits) ≡ loopCount t
+  pub multipliers : length (t .multipliers) ≡ loopCount t
+  pub some-loop : 0 < loopCount t
+  pub few-loops : loopCount t ≤ 64
+
 pub record Sized (t : Routine) : Type 0 where
   pub loops : length (t .loops) ≡ blockCount t
   pub firsts : length (t .firsts) ≡ blockCount t
@@ -45,9 +84,9 @@ pub record Sized (t : Routine) : Type 0 where
 abbrev pub ofEdge : ℕ → (ℕ → Bool) → Bool
 ofEdge v p = not (eqb v missing) && p v
 
--- a successor that is a block where it is present
-abbrev pub Names : Routine → ℕ → Type 0
-Names t v = (v ≡ missing → ⊥) → v < blockCount t
+-- a successor that is one of n blocks where it is present
+abbrev pub Names : ℕ → ℕ → Type 0
+Names n v = (v ≡ missing → ⊥) → v < n
 
 -- what 202 and 203 leave: every value in its range
 pub record Ranged (t : Routine) : Type 0 where
@@ -59,8 +98,8 @@ pub record Ranged (t : Routine) : Type 0 where
   pub multiplier-most : (l : ℕ) → l < loopCount t → multiplier t l ≤ 2 ^ 40
   pub cost-most : (u : ℕ) → u < blockCount t → cost t u ≤ 1000000
   pub loop-below : (u : ℕ) → u < blockCount t → loopOf t u < loopCount t
-  pub first-names : (u : ℕ) → u < blockCount t → Names t (first t u)
-  pub second-names : (u : ℕ) → u < blockCount t → Names t (second t u)
+  pub first-names : (u : ℕ) → u < blockCount t → Names (blockCount t) (first t u)
+  pub second-names : (u : ℕ) → u < blockCount t → Names (blockCount t) (second t u)
   pub figure-least : (u : ℕ) → u < blockCount t → negℤ (pos (2 ^ 60)) ≤ℤ figure t u
   pub figure-most : (u : ℕ) → u < blockCount t → figure t u ≤ℤ pos (2 ^ 60)
 
@@ -69,6 +108,52 @@ pub record Headed (t : Routine) : Type 0 where
   pub ranged : Ranged t
   pub own : (l : ℕ) → l < loopCount t → loopOf t (header t l) ≡ l
 
+-- of these, for who reads some of the columns: each header is a block
+pub record HeadersNamed (loops headers : List ℕ) : Type 0 where
+  pub few : length headers ≤ 64
+  pub below : (l : ℕ) → l < length headers → getD headers l 0 < length loops
+
+-- each block's innermost loop is a loop
+pub record Innermost (loops headers : List ℕ) : Type 0 where
+  pub few : length headers ≤ 64
+  pub below : (u : ℕ) → u < length loops → getD loops u 0 < length headers
+
+-- each successor of n blocks that is present is a block
+pub record Linked (n : ℕ) (firsts seconds : List ℕ) : Type 0 where
+  pub few : n ≤ 1024
+  pub first-size : length firsts ≡ n
+  pub second-size : length seconds ≡ n
+  pub first-names : (u : ℕ) → u < n → Names n (getD firsts u 0)
+  pub second-names : (u : ℕ) → u < n → Names n (getD seconds u 0)
+
+-- what 205 to 207 ask for
+pub record Nestable (t : Routine) : Type 0 where
+  pub some-block : 0 < blockCount t
+  pub some-loop : 0 < loopCount t
+  pub loops : length (t .loops) ≡ blockCount t
+  pub headers : length (t .headers) ≡ loopCount t
+  pub parents : Parents (t .parents)
+  pub innermost : Innermost (t .loops) (t .headers)
+  pub linked : Linked (blockCount t) (t .firsts) (t .seconds)
+  pub own : (l : ℕ) → l < loopCount t → loopOf t (header t l) ≡ l
+
 -- 207, of an edge from u to v
 unfoldable pub pastHeader : Routine → ℕ → ℕ → Bool
 pastHeader t u v = anyBelow (loopCount t) (λ l. enters t u v l && not (eqb (header t l) v))
+
+-- 205, read off the sets: the set of loop l has more than 16 loops
+abbrev pub deepBySets : List ℕ → ℕ → Bool
+deepBySets sets l = ltb 16 (countBelow 64 (member (setAt sets l)))
+
+-- 207, of an edge from u to v, read off the sets: it enters a loop, and not only its target's innermost one at its header
+abbrev pub enteredBySets : (sets loops : List ℕ) → ℕ → ℕ → ℕ
+enteredBySets sets loops u v = countBelow 64 (λ l. member (setAt sets (getD loops v 0)) l && not (member (setAt sets (getD loops u 0)) l))
+
+unfoldable pub pastBySets : (sets loops headers : List ℕ) → ℕ → ℕ → Bool
+pastBySets sets loops headers u v =
+    not (eqb (enteredBySets sets loops u v) 0)
+    && (not (eqb (enteredBySets sets loops u v) 1) || not (eqb (getD headers (getD loops v 0) 0) v))
+
+-- of either edge of block u
+abbrev pub anyPastBySets : (sets loops firsts seconds headers : List ℕ) → ℕ → Bool
+anyPastBySets sets loops firsts seconds headers u = someEdge (edgeColumns [] firsts seconds) u (pastBySets sets loops headers u)

@@ -1,19 +1,19 @@
 // Rules 201 to 207: whether two tables have the sizes, the ranges and the loop nesting that everything above leans on. One function for each
 // rule finds the lowest place that breaks it.
 ghost use mathlib.Core.Path.{_≡_};
-ghost use mathlib.Core.Bool.{true, false, not, _&&_, _||_};
-ghost use Prim.Native.Nat.{ℕ, _-_, _^_, _≤_, _<_};
+ghost use mathlib.Core.Bool.{not, _&&_, _||_};
+ghost use mathlib.Core.List.{[]};
+ghost use Prim.Native.Nat.{_^_, _≤_, _<_};
 ghost use lib.Dec.{eqb, ltb};
 ghost use lib.IntN.{pos, negℤ};
 ghost use lib.Signed.{ltZ};
-ghost use lib.ListN.{length, drop};
+ghost use lib.ListN.{length};
 ghost use Rattle.lists.specs.Search.{firstBelow};
-ghost use Rattle.wcet.specs.Table.{missing, blockCount, loopCount, exit};
-ghost use Rattle.wcet.specs.Rules.{accepted, check, structureRules, outOfRange, sizesWrong, loopWrong, blockWrong, headerElsewhere, tooDeep, entryOrExitEdge, entersPastHeader};
-ghost use Rattle.loopsets.specs.Sets.{SetsAround};
-ghost use Rattle.nesting.specs.Columns.{routine, Sized, Names, Ranged, Headed, ofEdge, pastHeader};
-ghost use Rattle.nesting.specs.Answers.{placeOf, structureReply, StructureChecked};
+ghost use Rattle.wcet.specs.Rules.{outOfRange, loopWrong, blockWrong, headerElsewhere, entryOrExitEdge};
+ghost use Rattle.nesting.specs.Columns.{routine, loopColumns, blockColumns, headerColumns, edgeColumns, nestingColumns, blockSizesWrong, loopSizesWrong, BlocksSized, LoopsSized, HeadersNamed, Innermost, Linked, Nestable, Names, ofEdge, deepBySets, pastBySets, anyPastBySets};
+ghost use Rattle.nesting.specs.Answers.{placeOf, StructureChecked, NestingChecked};
 ghost use Rattle.nesting.specs.declared.Structure.the-variants.{Broken};
+use loopsets::Sets;
 
 // The lowest place that breaks a rule, or none.
 pub enum Place {
@@ -40,7 +40,7 @@ pub enum Structure {
 // The answer, and beside it the sets of the loops around each loop, made once for whoever goes on.
 pub struct Structured {
     pub answer: Structure,
-    pub around: [u64; 64],
+    pub around: Sets,
 }
 
 // ---- 201
@@ -54,60 +54,45 @@ fn out_of_range(lo: usize, hi: usize, x: usize) -> bool
     hi < x
 }
 
-// Whether one of the other block columns is not n long.
-fn block_lengths_differ(n: usize, loops: usize, first: usize, second: usize, figure: usize) -> bool
-    ensures { λ r. ⌜ r ≡ not (eqb loops n && eqb first n && eqb second n && eqb figure n) ⌝ }
-{
-    if loops != n {
-        return true;
-    }
-    if first != n {
-        return true;
-    }
-    if second != n {
-        return true;
-    }
-    figure != n
-}
-
-// Whether one of the other loop columns is not m long.
-fn loop_lengths_differ(m: usize, header: usize, limit: usize, multiplier: usize) -> bool
-    ensures { λ r. ⌜ r ≡ not (eqb header m && eqb limit m && eqb multiplier m) ⌝ }
-{
-    if header != m {
-        return true;
-    }
-    if limit != m {
-        return true;
-    }
-    multiplier != m
-}
-
-fn sizes_wrong(
+fn block_sizes_wrong(
     cost: &[u32],
     loops: &[u16],
     first: &[u16],
     second: &[u16],
     figure: &[i64],
-    parent: &[u16],
-    header: &[u16],
-    limit: &[u32],
-    multiplier: &[u64],
 ) -> bool
-    ensures { λ r. ⌜ r ≡ sizesWrong (routine (now (cost .entry)) (now (loops .entry)) (now (first .entry)) (now (second .entry)) (now (figure .entry)) (now (parent .entry)) (now (header .entry)) (now (limit .entry)) (now (multiplier .entry))) ⌝ }
+    ensures { λ r. ⌜ r ≡ blockSizesWrong (blockColumns (now (cost .entry)) (now (loops .entry)) (now (first .entry)) (now (second .entry)) (now (figure .entry)) []) ⌝ }
 {
     let n = cost.len();
-    let m = parent.len();
     if out_of_range(2, 1024, n) {
         return true;
     }
+    if loops.len() != n {
+        return true;
+    }
+    if first.len() != n {
+        return true;
+    }
+    if second.len() != n {
+        return true;
+    }
+    figure.len() != n
+}
+
+fn loop_sizes_wrong(parent: &[u16], header: &[u16], limit: &[u32], multiplier: &[u64]) -> bool
+    ensures { λ r. ⌜ r ≡ loopSizesWrong (loopColumns [] (now (parent .entry)) (now (header .entry)) (now (limit .entry)) (now (multiplier .entry))) ⌝ }
+{
+    let m = parent.len();
     if out_of_range(1, 64, m) {
         return true;
     }
-    if block_lengths_differ(n, loops.len(), first.len(), second.len(), figure.len()) {
+    if header.len() != m {
         return true;
     }
-    loop_lengths_differ(m, header.len(), limit.len(), multiplier.len())
+    if limit.len() != m {
+        return true;
+    }
+    multiplier.len() != m
 }
 
 // ---- 202
@@ -149,17 +134,13 @@ fn inner_wrong(l: usize, n: usize, parent: u16, header: u16, limit: u32, multipl
 
 fn first_wrong_loop(
     cost: &[u32],
-    loops: &[u16],
-    first: &[u16],
-    second: &[u16],
-    figure: &[i64],
     parent: &[u16],
     header: &[u16],
     limit: &[u32],
     multiplier: &[u64],
 ) -> Place
-    requires { ⌜ Sized (routine (now cost) (now loops) (now first) (now second) (now figure) (now parent) (now header) (now limit) (now multiplier)) ⌝ }
-    ensures { λ r. ⌜ placeOf r ≡ firstBelow (length (now (parent .entry))) (loopWrong (routine (now (cost .entry)) (now (loops .entry)) (now (first .entry)) (now (second .entry)) (now (figure .entry)) (now (parent .entry)) (now (header .entry)) (now (limit .entry)) (now (multiplier .entry)))) ⌝ }
+    requires { ⌜ LoopsSized (loopColumns (now cost) (now parent) (now header) (now limit) (now multiplier)) ⌝ }
+    ensures { λ r. ⌜ placeOf r ≡ firstBelow (length (now (parent .entry))) (loopWrong (loopColumns (now (cost .entry)) (now (parent .entry)) (now (header .entry)) (now (limit .entry)) (now (multiplier .entry)))) ⌝ }
 {
     if root_wrong(parent[0], header[0], limit[0], multiplier[0]) {
         return Place::At(0);
@@ -223,12 +204,9 @@ fn first_wrong_block(
     second: &[u16],
     figure: &[i64],
     parent: &[u16],
-    header: &[u16],
-    limit: &[u32],
-    multiplier: &[u64],
 ) -> Place
-    requires { ⌜ Sized (routine (now cost) (now loops) (now first) (now second) (now figure) (now parent) (now header) (now limit) (now multiplier)) ⌝ }
-    ensures { λ r. ⌜ placeOf r ≡ firstBelow (length (now (cost .entry))) (blockWrong (routine (now (cost .entry)) (now (loops .entry)) (now (first .entry)) (now (second .entry)) (now (figure .entry)) (now (parent .entry)) (now (header .entry)) (now (limit .entry)) (now (multiplier .entry)))) ⌝ }
+    requires { ⌜ BlocksSized (blockColumns (now cost) (now loops) (now first) (now second) (now figure) (now parent)) ⌝ }
+    ensures { λ r. ⌜ placeOf r ≡ firstBelow (length (now (cost .entry))) (blockWrong (blockColumns (now (cost .entry)) (now (loops .entry)) (now (first .entry)) (now (second .entry)) (now (figure .entry)) (now (parent .entry)))) ⌝ }
 {
     let n = cost.len();
     let m = parent.len();
@@ -244,19 +222,9 @@ fn first_wrong_block(
 
 // ---- 204
 
-fn first_header_elsewhere(
-    cost: &[u32],
-    loops: &[u16],
-    first: &[u16],
-    second: &[u16],
-    figure: &[i64],
-    parent: &[u16],
-    header: &[u16],
-    limit: &[u32],
-    multiplier: &[u64],
-) -> Place
-    requires { ⌜ Ranged (routine (now cost) (now loops) (now first) (now second) (now figure) (now parent) (now header) (now limit) (now multiplier)) ⌝ }
-    ensures { λ r. ⌜ placeOf r ≡ firstBelow (length (now (parent .entry))) (headerElsewhere (routine (now (cost .entry)) (now (loops .entry)) (now (first .entry)) (now (second .entry)) (now (figure .entry)) (now (parent .entry)) (now (header .entry)) (now (limit .entry)) (now (multiplier .entry)))) ⌝ }
+fn first_header_elsewhere(loops: &[u16], header: &[u16]) -> Place
+    requires { ⌜ HeadersNamed (now loops) (now header) ⌝ }
+    ensures { λ r. ⌜ placeOf r ≡ firstBelow (length (now (header .entry))) (headerElsewhere (headerColumns (now (loops .entry)) (now (header .entry)))) ⌝ }
 {
     let m = header.len();
     let mut l = 0;
@@ -272,22 +240,10 @@ fn first_header_elsewhere(
 
 // ---- 205
 
-fn first_too_deep(
-    around: &[u64; 64],
-    cost: &[u32],
-    loops: &[u16],
-    first: &[u16],
-    second: &[u16],
-    figure: &[i64],
-    parent: &[u16],
-    header: &[u16],
-    limit: &[u32],
-    multiplier: &[u64],
-) -> Place
-    requires { ⌜ Headed (routine (now cost) (now loops) (now first) (now second) (now figure) (now parent) (now header) (now limit) (now multiplier)) × SetsAround (now parent) (now around) ⌝ }
-    ensures { λ r. ⌜ placeOf r ≡ firstBelow (length (now (parent .entry))) (tooDeep (routine (now (cost .entry)) (now (loops .entry)) (now (first .entry)) (now (second .entry)) (now (figure .entry)) (now (parent .entry)) (now (header .entry)) (now (limit .entry)) (now (multiplier .entry)))) ⌝ }
+fn first_too_deep(around: &Sets, m: usize) -> Place
+    requires { ⌜ m ≤ 64 ⌝ }
+    ensures { λ r. ⌜ placeOf r ≡ firstBelow m (deepBySets (now (around .entry))) ⌝ }
 {
-    let m = parent.len();
     let mut l = 0;
     while l < m {
         let set = loopsets::set_at(around, l);
@@ -314,19 +270,9 @@ fn entry_or_exit(v: u16, u: usize, exit: usize) -> bool
     u == exit
 }
 
-fn first_entry_or_exit_edge(
-    cost: &[u32],
-    loops: &[u16],
-    first: &[u16],
-    second: &[u16],
-    figure: &[i64],
-    parent: &[u16],
-    header: &[u16],
-    limit: &[u32],
-    multiplier: &[u64],
-) -> Place
-    requires { ⌜ Sized (routine (now cost) (now loops) (now first) (now second) (now figure) (now parent) (now header) (now limit) (now multiplier)) ⌝ }
-    ensures { λ r. ⌜ placeOf r ≡ firstBelow (length (now (cost .entry))) (entryOrExitEdge (routine (now (cost .entry)) (now (loops .entry)) (now (first .entry)) (now (second .entry)) (now (figure .entry)) (now (parent .entry)) (now (header .entry)) (now (limit .entry)) (now (multiplier .entry)))) ⌝ }
+fn first_entry_or_exit_edge(cost: &[u32], first: &[u16], second: &[u16]) -> Place
+    requires { ⌜ (0 < length (now cost)) × Linked (length (now cost)) (now first) (now second) ⌝ }
+    ensures { λ r. ⌜ placeOf r ≡ firstBelow (length (now (cost .entry))) (entryOrExitEdge (edgeColumns (now (cost .entry)) (now (first .entry)) (now (second .entry)))) ⌝ }
 {
     let n = cost.len();
     let exit = n - 1;
@@ -347,22 +293,9 @@ fn first_entry_or_exit_edge(
 
 // Whether an edge from block u to v enters a loop elsewhere than at its header. It enters its target's innermost loop if it enters any, so
 // it may enter that one, at its header, and no second.
-fn past_header(
-    around: &[u64; 64],
-    cost: &[u32],
-    loops: &[u16],
-    first: &[u16],
-    second: &[u16],
-    figure: &[i64],
-    parent: &[u16],
-    header: &[u16],
-    limit: &[u32],
-    multiplier: &[u64],
-    u: usize,
-    v: u16,
-) -> bool
-    requires { ⌜ Headed (routine (now cost) (now loops) (now first) (now second) (now figure) (now parent) (now header) (now limit) (now multiplier)) × SetsAround (now parent) (now around) × (u < length (now cost)) × Names (routine (now cost) (now loops) (now first) (now second) (now figure) (now parent) (now header) (now limit) (now multiplier)) v ⌝ }
-    ensures { λ r. ⌜ r ≡ ofEdge v (pastHeader (routine (now (cost .entry)) (now (loops .entry)) (now (first .entry)) (now (second .entry)) (now (figure .entry)) (now (parent .entry)) (now (header .entry)) (now (limit .entry)) (now (multiplier .entry))) u) ⌝ }
+fn past_header(around: &Sets, loops: &[u16], header: &[u16], u: usize, v: u16) -> bool
+    requires { ⌜ Innermost (now loops) (now header) × (u < length (now loops)) × Names (length (now loops)) v ⌝ }
+    ensures { λ r. ⌜ r ≡ ofEdge v (pastBySets (now (around .entry)) (now (loops .entry)) (now (header .entry)) u) ⌝ }
 {
     if v == 65535 {
         return false;
@@ -381,53 +314,22 @@ fn past_header(
 }
 
 fn first_past_header(
-    around: &[u64; 64],
-    cost: &[u32],
+    around: &Sets,
     loops: &[u16],
     first: &[u16],
     second: &[u16],
-    figure: &[i64],
-    parent: &[u16],
     header: &[u16],
-    limit: &[u32],
-    multiplier: &[u64],
 ) -> Place
-    requires { ⌜ Headed (routine (now cost) (now loops) (now first) (now second) (now figure) (now parent) (now header) (now limit) (now multiplier)) × SetsAround (now parent) (now around) ⌝ }
-    ensures { λ r. ⌜ placeOf r ≡ firstBelow (length (now (cost .entry))) (entersPastHeader (routine (now (cost .entry)) (now (loops .entry)) (now (first .entry)) (now (second .entry)) (now (figure .entry)) (now (parent .entry)) (now (header .entry)) (now (limit .entry)) (now (multiplier .entry)))) ⌝ }
+    requires { ⌜ Innermost (now loops) (now header) × Linked (length (now loops)) (now first) (now second) ⌝ }
+    ensures { λ r. ⌜ placeOf r ≡ firstBelow (length (now (loops .entry))) (anyPastBySets (now (around .entry)) (now (loops .entry)) (now (first .entry)) (now (second .entry)) (now (header .entry))) ⌝ }
 {
-    let n = cost.len();
+    let n = loops.len();
     let mut u = 0;
     while u < n {
-        if past_header(
-            around,
-            cost,
-            loops,
-            first,
-            second,
-            figure,
-            parent,
-            header,
-            limit,
-            multiplier,
-            u,
-            first[u],
-        ) {
+        if past_header(around, loops, header, u, first[u]) {
             return Place::At(u);
         }
-        if past_header(
-            around,
-            cost,
-            loops,
-            first,
-            second,
-            figure,
-            parent,
-            header,
-            limit,
-            multiplier,
-            u,
-            second[u],
-        ) {
+        if past_header(around, loops, header, u, second[u]) {
             return Place::At(u);
         }
         u += 1;
@@ -447,67 +349,35 @@ fn broken(fault: StructureFault) -> Structured
     }
 }
 
-// 205 to 207, which are read off the sets.
-fn nesting_fault(
-    around: &[u64; 64],
+// 205 to 207, which are read off the sets of the loops around each loop.
+fn check_nesting(
     cost: &[u32],
     loops: &[u16],
     first: &[u16],
     second: &[u16],
-    figure: &[i64],
     parent: &[u16],
     header: &[u16],
-    limit: &[u32],
-    multiplier: &[u64],
-) -> Structure
-    requires { ⌜ Headed (routine (now cost) (now loops) (now first) (now second) (now figure) (now parent) (now header) (now limit) (now multiplier)) × SetsAround (now parent) (now around) ⌝ }
-    ensures { λ r. ⌜ structureReply r ≡ check (drop 4 (structureRules (routine (now (cost .entry)) (now (loops .entry)) (now (first .entry)) (now (second .entry)) (now (figure .entry)) (now (parent .entry)) (now (header .entry)) (now (limit .entry)) (now (multiplier .entry))))) (accepted tt) ⌝ }
+) -> Structured
+    requires { ⌜ Nestable (nestingColumns (now cost) (now loops) (now first) (now second) (now parent) (now header)) ⌝ }
+    ensures { λ r. ⌜ NestingChecked (nestingColumns (now (cost .entry)) (now (loops .entry)) (now (first .entry)) (now (second .entry)) (now (parent .entry)) (now (header .entry))) r ⌝ }
 {
-    let deep = first_too_deep(
-        around,
-        cost,
-        loops,
-        first,
-        second,
-        figure,
-        parent,
-        header,
-        limit,
-        multiplier,
-    );
+    let around = loopsets::sets_around(parent);
+    let deep = first_too_deep(&around, parent.len());
     if let Place::At(l) = deep {
-        return Structure::Broken(StructureFault::Depth(l));
+        return broken(StructureFault::Depth(l));
     }
-    let ends = first_entry_or_exit_edge(
-        cost,
-        loops,
-        first,
-        second,
-        figure,
-        parent,
-        header,
-        limit,
-        multiplier,
-    );
+    let ends = first_entry_or_exit_edge(cost, first, second);
     if let Place::At(u) = ends {
-        return Structure::Broken(StructureFault::EntryOrExit(u));
+        return broken(StructureFault::EntryOrExit(u));
     }
-    let past = first_past_header(
-        around,
-        cost,
-        loops,
-        first,
-        second,
-        figure,
-        parent,
-        header,
-        limit,
-        multiplier,
-    );
+    let past = first_past_header(&around, loops, first, second, header);
     if let Place::At(u) = past {
-        return Structure::Broken(StructureFault::PastHeader(u));
+        return broken(StructureFault::PastHeader(u));
     }
-    Structure::Sound
+    Structured {
+        answer: Structure::Sound,
+        around,
+    }
 }
 
 // The structure check: the first broken rule of 201 to 207, or none and the sets of the loops around each loop.
@@ -524,73 +394,23 @@ pub fn check_structure(
 ) -> Structured
     ensures { λ r. ⌜ StructureChecked (routine (now (cost .entry)) (now (loops .entry)) (now (first .entry)) (now (second .entry)) (now (figure .entry)) (now (parent .entry)) (now (header .entry)) (now (limit .entry)) (now (multiplier .entry))) r ⌝ }
 {
-    if sizes_wrong(
-        cost,
-        loops,
-        first,
-        second,
-        figure,
-        parent,
-        header,
-        limit,
-        multiplier,
-    ) {
+    if block_sizes_wrong(cost, loops, first, second, figure) {
         return broken(StructureFault::Sizes);
     }
-    let l = first_wrong_loop(
-        cost,
-        loops,
-        first,
-        second,
-        figure,
-        parent,
-        header,
-        limit,
-        multiplier,
-    );
+    if loop_sizes_wrong(parent, header, limit, multiplier) {
+        return broken(StructureFault::Sizes);
+    }
+    let l = first_wrong_loop(cost, parent, header, limit, multiplier);
     if let Place::At(l) = l {
         return broken(StructureFault::Loop(l));
     }
-    let u = first_wrong_block(
-        cost,
-        loops,
-        first,
-        second,
-        figure,
-        parent,
-        header,
-        limit,
-        multiplier,
-    );
+    let u = first_wrong_block(cost, loops, first, second, figure, parent);
     if let Place::At(u) = u {
         return broken(StructureFault::Block(u));
     }
-    let h = first_header_elsewhere(
-        cost,
-        loops,
-        first,
-        second,
-        figure,
-        parent,
-        header,
-        limit,
-        multiplier,
-    );
+    let h = first_header_elsewhere(loops, header);
     if let Place::At(l) = h {
         return broken(StructureFault::Header(l));
     }
-    let around = loopsets::sets_around(parent);
-    let answer = nesting_fault(
-        &around,
-        cost,
-        loops,
-        first,
-        second,
-        figure,
-        parent,
-        header,
-        limit,
-        multiplier,
-    );
-    Structured { answer, around }
+    check_nesting(cost, loops, first, second, parent, header)
 }

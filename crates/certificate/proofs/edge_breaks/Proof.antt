@@ -1,16 +1,14 @@
 use mathlib.Core.Bool.{not}
 use Rattle.certificate.specs.Figures.{Figure}
 use Rattle.certificate.proofs.Figures.{figure-fits}
-use Rattle.certificate.proofs.Edge.{edge-inequality, figure-of, inside-read}
-use mathlib.Core.Path.{_≡_, sym, _∙_, ap}
+use Rattle.certificate.specs.Columns.{brokenBySets}
+use mathlib.Core.Path.{ap}
 use Prim.Native.Nat.{_<_}
 use native.Mathlib.Omega.{arith}
 use borrow.Author.Tests.{eq-eqb, ne-eqb}
 use lib.IntN.{pos}
 use lib.ListN.{length, getD}
 use mir.Facts.{toZ-ofZ}
-use Rattle.wcet.specs.Table.{Routine, inside}
-use Rattle.nesting.specs.Columns.{routine}
 use borrow.Author.Needs.{needs}
 use Rattle.certificate.proofs.edge_breaks.Statement.{statement}
 use Rattle.certificate.proofs.edge_breaks.Tie as tie
@@ -20,17 +18,12 @@ use Rattle.certificate.proofs.inequality_holds.Reads as inequality-hold
 use Rattle.loopsets.proofs.LoopSet.contains.Reads as contains-reads
 use Rattle.loopsets.proofs.set_at.Reads as set-at-reads
 
-abbrev at-entry : tie.Start → Routine
-at-entry start =
-    let a = start .args in
-    routine (a .cost .now) (a .loops .now) (a .first .now) (a .second .now) (a .figure .now) (a .parent .now) (a .header .now) (a .limit .now) (a .multiplier .now)
-
 -- the target is a block, and its innermost loop a loop
-present : (c : tie.Else1) → c .before .before .before .before .before .before .before .before .before .args .v < length (c .before .before .before .before .before .before .before .before .before .args .cost .now)
-present c = c .before .before .before .before .before .before .before .before .before .pre .3 (c .if1 .left)
+present : (c : tie.Else1) → c .before .before .before .before .before .before .args .v < length (c .before .before .before .before .before .before .args .cost .now)
+present c = c .before .before .before .before .before .before .pre .2 (c .if1 .left)
 
-loop-low : (c : tie.Else1) → getD (c .before .before .before .before .before .before .before .before .before .args .loops .now) (c .before .before .before .before .before .before .before .before .before .args .v) 0 < length (c .before .before .before .before .before .before .before .before .before .args .parent .now)
-loop-low c = c .before .before .before .before .before .before .before .before .before .pre .0 .ranged .loop-below (c .before .before .before .before .before .before .before .before .before .args .v) (present c)
+loop-low : (c : tie.Else1) → getD (c .before .before .before .before .before .before .args .loops .now) (c .before .before .before .before .before .before .args .v) 0 < length (c .before .before .before .before .before .before .args .header .now)
+loop-low c = c .before .before .before .before .before .before .pre .0 .innermost .below (c .before .before .before .before .before .before .args .v) (omega (arith, present c, c .before .before .before .before .before .before .pre .0 .loops))
 
 -- src/lib.rt:98:9
 returns : tie.Need-returns
@@ -42,43 +35,43 @@ mul-l c = search needs
 
 -- src/lib.rt:101:13
 shared-slice-read-l : tie.Need-shared-slice-read-l
-shared-slice-read-l c = omega (arith, present (c .before), c .before .before .before .before .before .before .before .before .before .before .pre .0 .ranged .sized .loops)
+shared-slice-read-l c = omega (arith, present (c .before), c .before .before .before .before .before .before .before .pre .0 .loops)
 
 -- src/lib.rt:101:13
 cast-l : tie.Need-cast-l
-cast-l c = omega (arith, c .shared-slice-known9 .given (c .before .before .before .before .before .before .before .before .before .before .args .v))
+cast-l c = omega (arith, c .shared-slice-known6 .given (c .before .before .before .before .before .before .before .args .v))
 
 -- src/lib.rt:102:16
 mul-from : tie.Need-mul-from
-mul-from c = omega (arith, c .before .before .before .before .before .before .before .before .before .before .pre .2, present (c .before), c .before .before .before .before .before .before .before .before .before .before .pre .0 .ranged .sized .few-blocks)
+mul-from c = omega (arith, c .before .before .before .before .before .before .before .pre .1, present (c .before), c .before .before .before .before .before .before .before .pre .0 .few-blocks)
 
 -- src/lib.rt:102:16
 shared-slice-read-from : tie.Need-shared-slice-read-from
-shared-slice-read-from c = omega (arith, c .before .before .before .before .before .before .before .before .before .before .before .pre .2, present (c .before .before), c .before .before .before .before .before .before .before .before .before .before .before .pre .0 .ranged .sized .loops)
+shared-slice-read-from c = omega (arith, c .before .before .before .before .before .before .before .before .pre .1, present (c .before .before), c .before .before .before .before .before .before .before .before .pre .0 .loops)
 
 -- src/lib.rt:102:16
 cast-from : tie.Need-cast-from
-cast-from c = omega (arith, c .shared-slice-known10 .given (c .before .before .before .before .before .before .before .before .before .before .before .args .u), c .shared-slice-known10 .given (c .before .before .before .before .before .before .before .before .before .before .before .args .v))
+cast-from c = omega (arith, c .shared-slice-known7 .given (c .before .before .before .before .before .before .before .before .args .u), c .shared-slice-known7 .given (c .before .before .before .before .before .before .before .before .args .v))
 
 -- src/lib.rt:103:18
 set-at-requires : tie.Need-set-at-requires
-set-at-requires c κs = omega (arith, c .before .before .before .before .before .before .before .before .before .before .before .pre .0 .ranged .loop-below (c .before .before .before .before .before .before .before .before .before .before .before .args .u) (c .before .before .before .before .before .before .before .before .before .before .before .pre .2), loop-low (c .before .before), c .before .before .before .before .before .before .before .before .before .before .before .pre .0 .ranged .sized .few-loops)
+set-at-requires c κs = omega (arith, c .before .before .before .before .before .before .before .before .pre .0 .innermost .below (c .before .before .before .before .before .before .before .before .args .u) (omega (arith, c .before .before .before .before .before .before .before .before .pre .1, c .before .before .before .before .before .before .before .before .pre .0 .loops)), c .before .before .before .before .before .before .before .before .pre .0 .innermost .few)
 
 -- src/lib.rt:103:9
 contains-requires : tie.Need-contains-requires
-contains-requires c κs = omega (arith, loop-low (c .before .before .before), c .before .before .before .before .before .before .before .before .before .before .before .before .pre .0 .ranged .sized .few-loops)
+contains-requires c κs = omega (arith, loop-low (c .before .before .before), c .before .before .before .before .before .before .before .before .before .pre .0 .innermost .few)
 
 -- src/lib.rt:105:9
 mul-inequality-holds : tie.Need-mul-inequality-holds
-mul-inequality-holds c = omega (arith, loop-low (c .before .before .before .before), c .before .before .before .before .before .before .before .before .before .before .before .before .before .pre .0 .ranged .sized .few-loops)
+mul-inequality-holds c = omega (arith, loop-low (c .before .before .before .before), c .before .before .before .before .before .before .before .before .before .before .pre .0 .innermost .few)
 
 -- src/lib.rt:105:9
 shared-slice-read-inequality-holds : tie.Need-shared-slice-read-inequality-holds
-shared-slice-read-inequality-holds c = omega (arith, loop-low (c .before .before .before .before .before), c .before .before .before .before .before .before .before .before .before .before .before .before .before .before .pre .0 .ranged .sized .headers)
+shared-slice-read-inequality-holds c = omega (arith, loop-low (c .before .before .before .before .before), c .before .before .before .before .before .before .before .before .before .before .before .pre .0 .innermost .few)
 
 -- src/lib.rt:107:9
 mul-inequality-holds-2 : tie.Need-mul-inequality-holds-2
-mul-inequality-holds-2 c = omega (arith, present (c .before .before .before .before .before), c .before .before .before .before .before .before .before .before .before .before .before .before .before .before .pre .0 .ranged .sized .few-blocks)
+mul-inequality-holds-2 c = omega (arith, present (c .before .before .before .before .before), c .before .before .before .before .before .before .before .before .before .before .before .pre .0 .few-blocks)
 
 -- src/lib.rt:107:9
 shared-slice-read-inequality-holds-2 : tie.Need-shared-slice-read-inequality-holds-2
@@ -86,57 +79,57 @@ shared-slice-read-inequality-holds-2 c = omega (arith, present (c .before .befor
 
 -- src/lib.rt:108:9
 mul-inequality-holds-3 : tie.Need-mul-inequality-holds-3
-mul-inequality-holds-3 c = omega (arith, c .before .before .before .before .before .before .before .before .before .before .before .before .before .before .before .pre .2, c .before .before .before .before .before .before .before .before .before .before .before .before .before .before .before .pre .0 .ranged .sized .few-blocks)
+mul-inequality-holds-3 c = omega (arith, c .before .before .before .before .before .before .before .before .before .before .before .before .pre .1, c .before .before .before .before .before .before .before .before .before .before .before .before .pre .0 .few-blocks)
 
 -- src/lib.rt:108:9
 shared-slice-copy-out-inequality-holds : tie.Need-shared-slice-copy-out-inequality-holds
-shared-slice-copy-out-inequality-holds c = omega (arith, c .before .before .before .before .before .before .before .before .before .before .before .before .before .before .before .pre .2, c .before .before .before .before .before .before .before .before .before .before .before .before .before .before .before .pre .0 .ranged .sized .figures)
+shared-slice-copy-out-inequality-holds c = omega (arith, c .before .before .before .before .before .before .before .before .before .before .before .before .pre .1, c .before .before .before .before .before .before .before .before .before .before .before .before .pre .0 .figures)
 
 -- src/lib.rt:109:9
 mul-inequality-holds-4 : tie.Need-mul-inequality-holds-4
-mul-inequality-holds-4 c = omega (arith, present (c .before .before .before .before .before .before .before), c .before .before .before .before .before .before .before .before .before .before .before .before .before .before .before .before .pre .0 .ranged .sized .few-blocks)
+mul-inequality-holds-4 c = omega (arith, present (c .before .before .before .before .before .before .before), c .before .before .before .before .before .before .before .before .before .before .before .before .before .pre .0 .few-blocks)
 
 -- src/lib.rt:109:9
 shared-slice-copy-out-inequality-holds-2 : tie.Need-shared-slice-copy-out-inequality-holds-2
-shared-slice-copy-out-inequality-holds-2 c = omega (arith, present (c .before .before .before .before .before .before .before), c .before .before .before .before .before .before .before .before .before .before .before .before .before .before .before .before .pre .0 .ranged .sized .figures)
+shared-slice-copy-out-inequality-holds-2 c = omega (arith, present (c .before .before .before .before .before .before .before), c .before .before .before .before .before .before .before .before .before .before .before .before .before .pre .0 .figures)
 
 -- src/lib.rt:110:9
 mul-inequality-holds-5 : tie.Need-mul-inequality-holds-5
-mul-inequality-holds-5 c = omega (arith, loop-low (c .before .before .before .before .before .before .before .before), c .before .before .before .before .before .before .before .before .before .before .before .before .before .before .before .before .before .pre .0 .ranged .sized .few-loops)
+mul-inequality-holds-5 c = omega (arith, loop-low (c .before .before .before .before .before .before .before .before), c .before .before .before .before .before .before .before .before .before .before .before .before .before .before .pre .0 .innermost .few)
 
 -- src/lib.rt:110:9
 shared-slice-read-inequality-holds-3 : tie.Need-shared-slice-read-inequality-holds-3
-shared-slice-read-inequality-holds-3 c = omega (arith, loop-low (c .before .before .before .before .before .before .before .before .before), c .before .before .before .before .before .before .before .before .before .before .before .before .before .before .before .before .before .before .pre .0 .ranged .sized .multipliers)
+shared-slice-read-inequality-holds-3 c = omega (arith, loop-low (c .before .before .before .before .before .before .before .before .before), c .before .before .before .before .before .before .before .before .before .before .before .before .before .before .before .pre .0 .multipliers)
 
 -- src/lib.rt:111:9
 mul-inequality-holds-6 : tie.Need-mul-inequality-holds-6
-mul-inequality-holds-6 c = omega (arith, loop-low (c .before .before .before .before .before .before .before .before .before), c .before .before .before .before .before .before .before .before .before .before .before .before .before .before .before .before .before .before .pre .0 .ranged .sized .few-loops)
+mul-inequality-holds-6 c = omega (arith, loop-low (c .before .before .before .before .before .before .before .before .before), c .before .before .before .before .before .before .before .before .before .before .before .before .before .before .before .pre .0 .innermost .few)
 
 -- src/lib.rt:111:9
 shared-slice-read-inequality-holds-4 : tie.Need-shared-slice-read-inequality-holds-4
-shared-slice-read-inequality-holds-4 c = omega (arith, loop-low (c .before .before .before .before .before .before .before .before .before .before), c .before .before .before .before .before .before .before .before .before .before .before .before .before .before .before .before .before .before .before .pre .0 .ranged .sized .limits)
+shared-slice-read-inequality-holds-4 c = omega (arith, loop-low (c .before .before .before .before .before .before .before .before .before .before), c .before .before .before .before .before .before .before .before .before .before .before .before .before .before .before .before .pre .0 .limits)
 
 -- src/lib.rt:104:6
 inequality-holds-requires : tie.Need-inequality-holds-requires
 inequality-holds-requires c κs =
-    let s = c .before .before .before .before .before .before .before .before .before .before .before .before .before .before .before .before .before .before .before in
-    let R = s .pre .0 .ranged in
+    let s = c .before .before .before .before .before .before .before .before .before .before .before .before .before .before .before .before in
+    let W = s .pre .0 in
+    let b = present (c .before .before .before .before .before .before .before .before .before .before) in
     let l = loop-low (c .before .before .before .before .before .before .before .before .before .before) in
-    let fu : Figure (getD (s .args .figure .now) (s .args .u) (pos 0)) = figure-of (at-entry s) R (s .args .u) (s .pre .2) in
-    let fv : Figure (getD (s .args .figure .now) (s .args .v) (pos 0)) = figure-of (at-entry s) R (s .args .v) (present (c .before .before .before .before .before .before .before .before .before .before)) in
-    rw (toZ-ofZ (figure-fits _ fu), toZ-ofZ (figure-fits _ fv)) (R .cost-most (s .args .v) (present (c .before .before .before .before .before .before .before .before .before .before)), fu, fv, R .multiplier-most _ l, R .limit-least _ l, R .limit-most _ l)
+    let fu : Figure (getD (s .args .figure .now) (s .args .u) (pos 0)) = W .figure-range (s .args .u) (s .pre .1) in
+    let fv : Figure (getD (s .args .figure .now) (s .args .v) (pos 0)) = W .figure-range (s .args .v) b in
+    rw (toZ-ofZ (figure-fits _ fu), toZ-ofZ (figure-fits _ fv)) (W .cost-most (s .args .v) b, fu, fv, W .multiplier-most _ l, W .limit-least _ l, W .limit-most _ l)
 
 -- src/lib.rt:80:1
 returns-2 : tie.Need-returns-2
+unfolding brokenBySets
 returns-2 c =
-    let s = c .before .before .before .before .before .before .before .before .before .before .before .before .before .before .before .before .before .before .before .before in
-    let R = s .pre .0 .ranged in
-    let fu : Figure (getD (s .args .figure .now) (s .args .u) (pos 0)) = figure-of (at-entry s) R (s .args .u) (s .pre .2) in
-    let fv : Figure (getD (s .args .figure .now) (s .args .v) (pos 0)) = figure-of (at-entry s) R (s .args .v) (present (c .before .before .before .before .before .before .before .before .before .before .before)) in
-    let i : c .before .before .before .before .before .before .before .contains .result ≡ inside (at-entry s) (s .args .u) (getD (s .args .loops .now) (s .args .v) 0)
-    = inside-read (at-entry s) _ (s .pre .1) (s .args .u) _ (R .loop-below (s .args .u) (s .pre .2)) _ _ (c .before .before .before .before .before .before .before .before .set-at .ensures) (c .before .before .before .before .before .before .before .contains .ensures) in
+    let s = c .before .before .before .before .before .before .before .before .before .before .before .before .before .before .before .before .before in
+    let W = s .pre .0 in
+    let fu : Figure (getD (s .args .figure .now) (s .args .u) (pos 0)) = W .figure-range (s .args .u) (s .pre .1) in
+    let fv : Figure (getD (s .args .figure .now) (s .args .v) (pos 0)) = W .figure-range (s .args .v) (present (c .before .before .before .before .before .before .before .before .before .before .before)) in
     rw (ne-eqb _ _ (c .before .before .before .before .before .before .before .before .before .before .before .if1 .left))
-    (ap not (rw (toZ-ofZ (figure-fits _ fu), toZ-ofZ (figure-fits _ fv), i) at (c .inequality-holds .ensures) ∙ sym (edge-inequality (at-entry s) (s .args .u) (s .args .v))))
+    (ap not (rw (toZ-ofZ (figure-fits _ fu), toZ-ofZ (figure-fits _ fv), c .before .before .before .before .before .before .before .contains .ensures, c .before .before .before .before .before .before .before .before .set-at .ensures) at (c .inequality-holds .ensures)))
 
 pub edge-breaks-spec : {M : Type 1} → statement M
 edge-breaks-spec =

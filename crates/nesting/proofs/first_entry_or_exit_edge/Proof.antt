@@ -4,7 +4,7 @@ use native.Mathlib.Omega.{arith}
 use borrow.Author.Count.{below-more}
 use lib.ListN.{length}
 use Rattle.wcet.specs.Rules.{entryOrExitEdge}
-use Rattle.nesting.specs.Columns.{routine}
+use Rattle.nesting.specs.Columns.{edgeColumns}
 use Rattle.nesting.proofs.Scan.{Kept, stops, clear}
 use Rattle.nesting.proofs.Edges.{by-first, by-second, by-neither}
 use borrow.Author.Needs.{needs}
@@ -15,10 +15,10 @@ use Rattle.nesting.proofs.first_entry_or_exit_edge.Lts as lts
 use Rattle.nesting.proofs.entry_or_exit.Reads as entry-or-exit-reads
 
 abbrev Inv-loop : tie.InvT-loop
-Inv-loop cost loops first second figure parent header limit multiplier n exit u₀ u = (u ≤ length cost) × Kept (entryOrExitEdge (routine cost loops first second figure parent header limit multiplier)) u
+Inv-loop cost first second n exit u₀ u = (u ≤ length cost) × Kept (entryOrExitEdge (edgeColumns cost first second)) u
 
 abbrev μ-loop : tie.MeasureT-loop
-μ-loop cost loops first second figure parent header limit multiplier n exit u₀ u = length cost - u
+μ-loop cost first second n exit u₀ u = length cost - u
 
 -- src/lib.rt:264:16
 sub-exit : tie.Need-sub-exit Inv-loop μ-loop

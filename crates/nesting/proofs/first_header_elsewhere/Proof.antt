@@ -4,7 +4,7 @@ use native.Mathlib.Omega.{arith}
 use borrow.Author.Count.{below-more}
 use borrow.Author.Tests.{eq-eqb, ne-eqb}
 use Rattle.wcet.specs.Rules.{headerElsewhere}
-use Rattle.nesting.specs.Columns.{routine}
+use Rattle.nesting.specs.Columns.{headerColumns}
 use Rattle.nesting.proofs.Scan.{Kept, stops, clear}
 use borrow.Author.Needs.{needs}
 use Rattle.nesting.proofs.first_header_elsewhere.Statement.{statement}
@@ -13,10 +13,10 @@ use Rattle.nesting.proofs.first_header_elsewhere.Reads as reads
 use Rattle.nesting.proofs.first_header_elsewhere.Lts as lts
 
 abbrev Inv-loop : tie.InvT-loop
-Inv-loop cost loops first second figure parent header limit multiplier m l₀ l = (l ≤ length parent) × Kept (headerElsewhere (routine cost loops first second figure parent header limit multiplier)) l
+Inv-loop loops header m l₀ l = (l ≤ length header) × Kept (headerElsewhere (headerColumns loops header)) l
 
 abbrev μ-loop : tie.MeasureT-loop
-μ-loop cost loops first second figure parent header limit multiplier m l₀ l = length header - l
+μ-loop loops header m l₀ l = length header - l
 
 -- src/lib.rt:195:5
 loop-holds : tie.Need-loop-holds Inv-loop μ-loop
@@ -36,11 +36,11 @@ cast-h c = omega (arith, c .shared-slice-known .given (c .before .before .loop .
 
 -- src/lib.rt:197:12
 mul-if1 : tie.Need-mul-if1 Inv-loop μ-loop
-mul-if1 c = omega (arith, c .before .before .before .pre .header-below (c .before .before .loop .l) (omega arith))
+mul-if1 c = omega (arith, c .before .before .before .pre .below (c .before .before .loop .l) (omega arith))
 
 -- src/lib.rt:197:12
 shared-slice-read-if1 : tie.Need-shared-slice-read-if1 Inv-loop μ-loop
-shared-slice-read-if1 c = omega (arith, c .before .before .before .before .pre .header-below (c .before .before .before .loop .l) (omega arith))
+shared-slice-read-if1 c = omega (arith, c .before .before .before .before .pre .below (c .before .before .before .loop .l) (omega arith))
 
 -- src/lib.rt:197:12
 cast-if1 : tie.Need-cast-if1 Inv-loop μ-loop

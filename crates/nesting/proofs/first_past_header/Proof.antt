@@ -3,8 +3,7 @@ use mathlib.Core.Path.{sym, _∙_}
 use native.Mathlib.Omega.{arith}
 use borrow.Author.Count.{below-more}
 use lib.ListN.{length}
-use Rattle.wcet.specs.Rules.{entersPastHeader}
-use Rattle.nesting.specs.Columns.{routine, pastHeader}
+use Rattle.nesting.specs.Columns.{anyPastBySets}
 use Rattle.nesting.proofs.Scan.{Kept, stops, clear}
 use Rattle.nesting.proofs.Edges.{by-first, by-second, by-neither}
 use borrow.Author.Needs.{needs}
@@ -15,10 +14,10 @@ use Rattle.nesting.proofs.first_past_header.Lts as lts
 use Rattle.nesting.proofs.past_header.Reads as past-header-reads
 
 abbrev Inv-loop : tie.InvT-loop
-Inv-loop around cost loops first second figure parent header limit multiplier n u₀ u = (u ≤ length cost) × Kept (entersPastHeader (routine cost loops first second figure parent header limit multiplier)) u
+Inv-loop around loops first second header n u₀ u = (u ≤ length loops) × Kept (anyPastBySets around loops first second header) u
 
 abbrev μ-loop : tie.MeasureT-loop
-μ-loop around cost loops first second figure parent header limit multiplier n u₀ u = length cost - u
+μ-loop around loops first second header n u₀ u = length loops - u
 
 -- src/lib.rt:332:5
 loop-holds : tie.Need-loop-holds Inv-loop μ-loop
@@ -34,11 +33,10 @@ shared-slice-read-past-header c = search needs
 
 -- src/lib.rt:333:12
 past-header-requires : tie.Need-past-header-requires Inv-loop μ-loop
-past-header-requires c κs = (c .before .before .before .before .before .before .before .before .before .before .before .pre .0, c .before .before .before .before .before .before .before .before .before .before .before .pre .1, c .before .loop-test .taken, c .before .before .before .before .before .before .before .before .before .before .before .pre .0 .ranged .first-names (c .before .before .loop .u) (c .before .loop-test .taken))
+past-header-requires c κs = (c .before .before .before .before .before .before .before .pre .0, c .before .loop-test .taken, search (c .before .before .before .before .before .before .before .pre .1 .first-names (c .before .before .loop .u) (c .before .loop-test .taken), c .before .before .before .before .before .before .before .pre .1 .second-names (c .before .before .loop .u) (c .before .loop-test .taken)))
 
 -- src/lib.rt:347:13
 returns : tie.Need-returns Inv-loop μ-loop
-unfolding entersPastHeader pastHeader
 returns c = stops _ _ (c .before .before .before .before .loop .u) (omega arith) (c .before .before .before .before .loop .inv .1) (by-first _ (c .before .before .before .before .loop .u) _ (sym (c .before .past-header .ensures) ∙ c .if1 .taken))
 
 -- src/lib.rt:361:13
@@ -51,16 +49,15 @@ shared-slice-read-past-header-2 c = search needs
 
 -- src/lib.rt:349:12
 past-header-requires-2 : tie.Need-past-header-requires-2 Inv-loop μ-loop
-past-header-requires-2 c κs = (c .before .before .before .before .before .before .before .before .before .before .before .before .before .before .pre .0, c .before .before .before .before .before .before .before .before .before .before .before .before .before .before .pre .1, c .before .before .before .before .loop-test .taken, c .before .before .before .before .before .before .before .before .before .before .before .before .before .before .pre .0 .ranged .second-names (c .before .before .before .before .before .loop .u) (c .before .before .before .before .loop-test .taken))
+past-header-requires-2 c κs = (c .before .before .before .before .before .before .before .before .before .before .pre .0, c .before .before .before .before .loop-test .taken, search (c .before .before .before .before .before .before .before .before .before .before .pre .1 .first-names (c .before .before .before .before .before .loop .u) (c .before .before .before .before .loop-test .taken), c .before .before .before .before .before .before .before .before .before .before .pre .1 .second-names (c .before .before .before .before .before .loop .u) (c .before .before .before .before .loop-test .taken)))
 
 -- src/lib.rt:363:13
 returns-2 : tie.Need-returns-2 Inv-loop μ-loop
-unfolding entersPastHeader pastHeader
 returns-2 c = stops _ _ (c .before .before .before .before .before .before .before .loop .u) (omega arith) (c .before .before .before .before .before .before .before .loop .inv .1) (by-second _ (c .before .before .before .before .before .before .before .loop .u) _ (sym (c .before .past-header2 .ensures) ∙ c .if2 .taken))
 
 -- src/lib.rt:365:9
 add-u : tie.Need-add-u Inv-loop μ-loop
-add-u c = omega (arith, c .before .before .before .before .before .before .loop-test .taken, c .before .before .before .before .before .before .before .before .before .before .before .before .before .before .before .before .pre .0 .ranged .sized .few-blocks)
+add-u c = omega (arith, c .before .before .before .before .before .before .loop-test .taken, c .before .before .before .before .before .before .before .before .before .before .before .before .pre .1 .few)
 
 -- src/lib.rt:332:5
 loop-less : tie.Need-loop-less Inv-loop μ-loop
@@ -68,7 +65,6 @@ loop-less c = search needs
 
 -- src/lib.rt:332:5
 loop-again : tie.Need-loop-again Inv-loop μ-loop
-unfolding entersPastHeader pastHeader
 loop-again c = (omega arith, below-more _ (c .before .before .before .before .before .before .before .loop .u) (c .before .before .before .before .before .before .before .loop .inv .1) (by-neither _ (c .before .before .before .before .before .before .before .loop .u) _ (sym (c .before .before .before .before .past-header .ensures) ∙ c .before .before .before .if1 .left) (sym (c .before .past-header2 .ensures) ∙ c .if2 .left)))
 
 -- src/lib.rt:315:1

@@ -1,13 +1,9 @@
 use Prim.Native.Nat.{_-_, _≤_}
-use mathlib.Core.Path.{_∙_}
 use native.Mathlib.Omega.{arith}
 use borrow.Author.Count.{below-more}
 use borrow.Author.Tests.{lt-ltb, le-ltb}
-use lib.ListN.{length}
-use Rattle.wcet.specs.Rules.{tooDeep}
-use Rattle.nesting.specs.Columns.{routine}
+use Rattle.nesting.specs.Columns.{deepBySets}
 use Rattle.nesting.proofs.Scan.{Kept, stops, clear}
-use Rattle.nesting.proofs.Entered.{depth}
 use borrow.Author.Needs.{needs}
 use Rattle.nesting.proofs.first_too_deep.Statement.{statement}
 use Rattle.nesting.proofs.first_too_deep.Tie as tie
@@ -17,10 +13,10 @@ use Rattle.loopsets.proofs.LoopSet.size.Reads as size-reads
 use Rattle.loopsets.proofs.set_at.Reads as set-at-reads
 
 abbrev Inv-loop : tie.InvT-loop
-Inv-loop around cost loops first second figure parent header limit multiplier m l₀ l = (l ≤ length parent) × Kept (tooDeep (routine cost loops first second figure parent header limit multiplier)) l
+Inv-loop around m l₀ l = (l ≤ m) × Kept (deepBySets around) l
 
 abbrev μ-loop : tie.MeasureT-loop
-μ-loop around cost loops first second figure parent header limit multiplier m l₀ l = length parent - l
+μ-loop around m l₀ l = m - l
 
 -- src/lib.rt:224:5
 loop-holds : tie.Need-loop-holds Inv-loop μ-loop
@@ -36,7 +32,7 @@ size-requires c κs = search needs
 
 -- src/lib.rt:227:13
 returns : tie.Need-returns Inv-loop μ-loop
-returns c = stops _ _ (c .before .before .before .before .loop .l) (omega arith) (c .before .before .before .before .loop .inv .1) (depth _ _ (c .before .before .before .before .before .before .before .before .before .before .before .before .before .pre .0) (c .before .before .before .before .before .before .before .before .before .before .before .before .before .pre .1) (c .before .before .before .before .loop .l) (omega arith) ∙ rw (← c .before .before .set-at .ensures, ← c .before .size .ensures) (lt-ltb _ _ (c .if1 .taken)))
+returns c = stops _ _ (c .before .before .before .before .loop .l) (omega arith) (c .before .before .before .before .loop .inv .1) (rw (← c .before .before .set-at .ensures, ← c .before .size .ensures) (lt-ltb _ _ (c .if1 .taken)))
 
 -- src/lib.rt:229:9
 add-l : tie.Need-add-l Inv-loop μ-loop
@@ -48,7 +44,7 @@ loop-less c = search needs
 
 -- src/lib.rt:224:5
 loop-again : tie.Need-loop-again Inv-loop μ-loop
-loop-again c = (omega arith, below-more _ (c .before .before .before .before .loop .l) (c .before .before .before .before .loop .inv .1) (depth _ _ (c .before .before .before .before .before .before .before .before .before .before .before .before .before .pre .0) (c .before .before .before .before .before .before .before .before .before .before .before .before .before .pre .1) (c .before .before .before .before .loop .l) (omega arith) ∙ rw (← c .before .before .set-at .ensures, ← c .before .size .ensures) (le-ltb _ _ (c .if1 .left))))
+loop-again c = (omega arith, below-more _ (c .before .before .before .before .loop .l) (c .before .before .before .before .loop .inv .1) (rw (← c .before .before .set-at .ensures, ← c .before .size .ensures) (le-ltb _ _ (c .if1 .left))))
 
 -- src/lib.rt:207:1
 returns-2 : tie.Need-returns-2 Inv-loop μ-loop

@@ -8,7 +8,7 @@ use mir.Syntax.{w64}
 use mir.Val.{SFits}
 use mir.Facts.{toZ-ofZ}
 use Rattle.wcet.specs.Rules.{blockWrong}
-use Rattle.nesting.specs.Columns.{routine}
+use Rattle.nesting.specs.Columns.{blockColumns}
 use Rattle.nesting.proofs.Scan.{Kept, stops, clear}
 use Rattle.nesting.proofs.Edges.{block-rule}
 use borrow.Author.Needs.{needs}
@@ -19,10 +19,10 @@ use Rattle.nesting.proofs.first_wrong_block.Lts as lts
 use Rattle.nesting.proofs.block_wrong.Reads as block-wrong-reads
 
 abbrev Inv-loop : tie.InvT-loop
-Inv-loop cost loops first second figure parent header limit multiplier n m u₀ u = (u ≤ length cost) × Kept (blockWrong (routine cost loops first second figure parent header limit multiplier)) u
+Inv-loop cost loops first second figure parent n m u₀ u = (u ≤ length cost) × Kept (blockWrong (blockColumns cost loops first second figure parent)) u
 
 abbrev μ-loop : tie.MeasureT-loop
-μ-loop cost loops first second figure parent header limit multiplier n m u₀ u = length cost - u
+μ-loop cost loops first second figure parent n m u₀ u = length cost - u
 
 -- src/lib.rt:168:5
 loop-holds : tie.Need-loop-holds Inv-loop μ-loop
@@ -75,7 +75,7 @@ block-wrong-requires c κs = search needs
 -- src/lib.rt:170:13
 returns : tie.Need-returns Inv-loop μ-loop
 returns c =
-    let f : SFits w64 (getD (c .before .before .before .before .before .before .before .before .before .before .before .before .before .before .before .before .before .args .figure .now) (c .before .before .before .before .before .before .before .before .loop .u) (pos 0)) = search needs in
+    let f : SFits w64 (getD (c .before .before .before .before .before .before .before .before .before .before .before .before .before .before .args .figure .now) (c .before .before .before .before .before .before .before .before .loop .u) (pos 0)) = search needs in
     stops _ _ (c .before .before .before .before .before .before .before .before .loop .u) (omega arith) (c .before .before .before .before .before .before .before .before .loop .inv .1) (block-rule _ (c .before .before .before .before .before .before .before .before .loop .u) ∙ sym (rw (toZ-ofZ f) at (c .before .block-wrong .ensures)) ∙ c .if1 .taken)
 
 -- src/lib.rt:172:9
@@ -89,7 +89,7 @@ loop-less c = search needs
 -- src/lib.rt:168:5
 loop-again : tie.Need-loop-again Inv-loop μ-loop
 loop-again c =
-    let f : SFits w64 (getD (c .before .before .before .before .before .before .before .before .before .before .before .before .before .before .before .before .before .args .figure .now) (c .before .before .before .before .before .before .before .before .loop .u) (pos 0)) = search needs in
+    let f : SFits w64 (getD (c .before .before .before .before .before .before .before .before .before .before .before .before .before .before .args .figure .now) (c .before .before .before .before .before .before .before .before .loop .u) (pos 0)) = search needs in
     (omega arith, below-more _ (c .before .before .before .before .before .before .before .before .loop .u) (c .before .before .before .before .before .before .before .before .loop .inv .1) (block-rule _ (c .before .before .before .before .before .before .before .before .loop .u) ∙ sym (rw (toZ-ofZ f) at (c .before .block-wrong .ensures)) ∙ c .if1 .left))
 
 -- src/lib.rt:151:1

@@ -4,7 +4,7 @@ use native.Mathlib.Omega.{arith}
 use borrow.Author.Count.{below-more}
 use lib.ListN.{length}
 use Rattle.wcet.specs.Rules.{loopWrong}
-use Rattle.nesting.specs.Columns.{routine}
+use Rattle.nesting.specs.Columns.{loopColumns}
 use Rattle.nesting.proofs.Scan.{Kept, stops, clear}
 use Rattle.nesting.proofs.Loops.{root-rule, inner-rule}
 use borrow.Author.Needs.{needs}
@@ -16,10 +16,10 @@ use Rattle.nesting.proofs.inner_wrong.Reads as inner-wrong-reads
 use Rattle.nesting.proofs.root_wrong.Reads as root-wrong-reads
 
 abbrev Inv-loop : tie.InvT-loop
-Inv-loop cost loops first second figure parent header limit multiplier n l₀ l = (1 ≤ l) × (l ≤ length parent) × Kept (loopWrong (routine cost loops first second figure parent header limit multiplier)) l
+Inv-loop cost parent header limit multiplier n l₀ l = (1 ≤ l) × (l ≤ length parent) × Kept (loopWrong (loopColumns cost parent header limit multiplier)) l
 
 abbrev μ-loop : tie.MeasureT-loop
-μ-loop cost loops first second figure parent header limit multiplier n l₀ l = length parent - l
+μ-loop cost parent header limit multiplier n l₀ l = length parent - l
 
 -- src/lib.rt:95:19
 shared-slice-read-root-wrong : tie.Need-shared-slice-read-root-wrong Inv-loop μ-loop

@@ -1,13 +1,10 @@
-use Rattle.lists.specs.Search.{countBelow}
-use Rattle.wcet.specs.Table.{Routine}
-use Rattle.wcet.specs.Rules.{enters}
-use Rattle.nesting.specs.Columns.{routine}
 use mathlib.Core.Path.{_≡_, sym, _∙_}
 use Prim.Native.Nat.{_<_}
 use native.Mathlib.Omega.{arith}
 use borrow.Author.Tests.{eq-eqb, ne-eqb}
 use lib.ListN.{length}
-use Rattle.nesting.proofs.Entered.{entered, enters-none, enters-more, enters-its}
+use Rattle.nesting.specs.Columns.{enteredBySets, pastBySets}
+use Rattle.nesting.proofs.Entered.{entered-count}
 use borrow.Author.Needs.{needs}
 use Rattle.nesting.proofs.past_header.Statement.{statement}
 use Rattle.nesting.proofs.past_header.Tie as tie
@@ -17,93 +14,80 @@ use Rattle.loopsets.proofs.LoopSet.size.Reads as size-reads
 use Rattle.loopsets.proofs.LoopSet.without.Reads as without-reads
 use Rattle.loopsets.proofs.set_at.Reads as set-at-reads
 
-abbrev at-entry : tie.Start → Routine
-at-entry start =
-    let a = start .args in
-    routine (a .cost .now) (a .loops .now) (a .first .now) (a .second .now) (a .figure .now) (a .parent .now) (a .header .now) (a .limit .now) (a .multiplier .now)
-
 -- the target is a block
-present : (c : tie.Else1) → c .before .before .before .before .before .before .before .before .before .args .v < length (c .before .before .before .before .before .before .before .before .before .args .cost .now)
-present c = c .before .before .before .before .before .before .before .before .before .pre .3 (c .if1 .left)
+present : (c : tie.Else1) → c .before .before .before .args .v < length (c .before .before .before .args .loops .now)
+present c = c .before .before .before .pre .2 (c .if1 .left)
 
 -- how many loops the edge enters
-counted : (c : tie.After-size) → c .size .result ≡ countBelow (length (c .before .before .before .before .before .before .before .before .before .before .before .before .before .before .before .args .parent .now)) (enters (at-entry (c .before .before .before .before .before .before .before .before .before .before .before .before .before .before .before)) (c .before .before .before .before .before .before .before .before .before .before .before .before .before .before .before .args .u) (c .before .before .before .before .before .before .before .before .before .before .before .before .before .before .before .args .v))
-counted c =
-    let start = c .before .before .before .before .before .before .before .before .before .before .before .before .before .before .before in
-    entered (at-entry start) _ (start .pre .0) (start .pre .1) (start .args .u) (start .args .v) (start .pre .2) (present (c .before .before .before .before .before .before))
-    (c .before .before .before .set-at .result) (c .before .before .set-at2 .result) (c .before .without .result) (c .size .result) (c .before .before .before .set-at .ensures) (c .before .before .set-at2 .ensures) (c .before .without .ensures) (c .size .ensures)
+counted : (c : tie.After-size) → c .size .result ≡ enteredBySets (c .before .before .before .before .before .before .before .before .before .args .around .now) (c .before .before .before .before .before .before .before .before .before .args .loops .now) (c .before .before .before .before .before .before .before .before .before .args .u) (c .before .before .before .before .before .before .before .before .before .args .v)
+counted c = entered-count _ (c .before .before .before .before .before .before .before .before .before .args .loops .now) (c .before .before .before .before .before .before .before .before .before .args .u) (c .before .before .before .before .before .before .before .before .before .args .v) _ _ _ _ (c .before .before .before .set-at .ensures) (c .before .before .set-at2 .ensures) (c .before .without .ensures) (c .size .ensures)
 
--- src/lib.rt:300:9
+-- src/lib.rt:301:9
 returns : tie.Need-returns
 returns c = rw (eq-eqb _ _ (c .if1 .taken))
 
--- src/lib.rt:302:16
+-- src/lib.rt:303:16
 mul-from : tie.Need-mul-from
 mul-from c = search needs
 
--- src/lib.rt:302:16
+-- src/lib.rt:303:16
 shared-slice-read-from : tie.Need-shared-slice-read-from
 shared-slice-read-from c = search needs
 
--- src/lib.rt:302:16
+-- src/lib.rt:303:16
 cast-from : tie.Need-cast-from
-cast-from c = omega (arith, c .shared-slice-known9 .given (c .before .before .before .before .before .before .before .before .before .before .args .u))
+cast-from c = omega (arith, c .shared-slice-known3 .given (c .before .before .before .before .args .u))
 
--- src/lib.rt:303:14
+-- src/lib.rt:304:14
 mul-to : tie.Need-mul-to
 mul-to c = search needs
 
--- src/lib.rt:303:14
+-- src/lib.rt:304:14
 shared-slice-read-to : tie.Need-shared-slice-read-to
-shared-slice-read-to c = omega (arith, c .before .before .before .before .before .before .before .before .before .before .before .pre .3 (c .before .before .if1 .left))
+shared-slice-read-to c = omega (arith, present (c .before .before))
 
--- src/lib.rt:303:14
+-- src/lib.rt:304:14
 cast-to : tie.Need-cast-to
-cast-to c = omega (arith, c .shared-slice-known10 .given (c .before .before .before .before .before .before .before .before .before .before .before .args .v))
+cast-to c = omega (arith, c .shared-slice-known4 .given (c .before .before .before .before .before .args .v))
 
--- src/lib.rt:304:9
+-- src/lib.rt:305:9
 set-at-requires : tie.Need-set-at-requires
-set-at-requires c κs = omega (arith, c .before .before .before .before .before .before .before .before .before .before .before .pre .0 .ranged .loop-below (c .before .before .before .before .before .before .before .before .before .before .before .args .v) (present (c .before .before)))
+set-at-requires c κs = omega (arith, c .before .before .before .before .before .pre .0 .few, c .before .before .before .before .before .pre .0 .below (c .before .before .before .before .before .args .v) (present (c .before .before)))
 
--- src/lib.rt:305:34
+-- src/lib.rt:306:34
 set-at-requires-2 : tie.Need-set-at-requires-2
-set-at-requires-2 c κs = omega (arith, c .before .before .before .before .before .before .before .before .before .before .before .before .pre .0 .ranged .loop-below (c .before .before .before .before .before .before .before .before .before .before .before .before .args .u) (c .before .before .before .before .before .before .before .before .before .before .before .before .pre .2))
+set-at-requires-2 c κs = omega (arith, c .before .before .before .before .before .before .pre .0 .few, c .before .before .before .before .before .before .pre .0 .below (c .before .before .before .before .before .before .args .u) (c .before .before .before .before .before .before .pre .1))
 
--- src/lib.rt:305:19
+-- src/lib.rt:306:19
 without-requires : tie.Need-without-requires
 without-requires c κs = search needs
 
--- src/lib.rt:305:9
+-- src/lib.rt:306:9
 size-requires : tie.Need-size-requires
 size-requires c κs = search needs
 
--- src/lib.rt:307:9
+-- src/lib.rt:308:9
 returns-2 : tie.Need-returns-2
-returns-2 c =
-    let s = c .before .before .before .before .before .before .before .before .before .before .before .before .before .before .before .before in
-    rw (ne-eqb _ _ (c .before .before .before .before .before .before .before .if1 .left)) (sym (enters-none (at-entry s) _ (s .pre .0) (s .pre .1) (s .args .u) (s .args .v) (s .pre .2) (present (c .before .before .before .before .before .before .before)) (sym (counted (c .before)) ∙ c .if2 .taken)))
+unfolding pastBySets
+returns-2 c = rw (ne-eqb _ _ (c .before .before .before .before .before .before .before .if1 .left), eq-eqb _ 0 (sym (counted (c .before)) ∙ c .if2 .taken))
 
--- src/lib.rt:310:9
+-- src/lib.rt:311:9
 returns-3 : tie.Need-returns-3
-returns-3 c =
-    let s = c .before .before .before .before .before .before .before .before .before .before .before .before .before .before .before .before .before in
-    rw (ne-eqb _ _ (c .before .before .before .before .before .before .before .before .if1 .left))
-    (sym (enters-more (at-entry s) _ (s .pre .0) (s .pre .1) (s .args .u) (s .args .v) (s .pre .2) (present (c .before .before .before .before .before .before .before .before)) (λ e. c .before .if2 .left (counted (c .before .before) ∙ e)) (λ e. c .if3 .taken (counted (c .before .before) ∙ e))))
+unfolding pastBySets
+returns-3 c = rw (ne-eqb _ _ (c .before .before .before .before .before .before .before .before .if1 .left), ne-eqb _ 0 (λ e. c .before .if2 .left (counted (c .before .before) ∙ e)), ne-eqb _ 1 (λ e. c .if3 .taken (counted (c .before .before) ∙ e)))
 
--- src/lib.rt:312:5
+-- src/lib.rt:313:5
 mul-result : tie.Need-mul-result
-mul-result c = omega (arith, c .before .before .before .before .before .before .before .before .before .before .before .before .before .before .before .before .before .pre .0 .ranged .loop-below (c .before .before .before .before .before .before .before .before .before .before .before .before .before .before .before .before .before .args .v) (present (c .before .before .before .before .before .before .before .before)), c .before .before .before .before .before .before .before .before .before .before .before .before .before .before .before .before .before .pre .0 .ranged .sized .few-loops)
+mul-result c = omega (arith, c .before .before .before .before .before .before .before .before .before .before .before .pre .0 .few, c .before .before .before .before .before .before .before .before .before .before .before .pre .0 .below (c .before .before .before .before .before .before .before .before .before .before .before .args .v) (present (c .before .before .before .before .before .before .before .before)))
 
--- src/lib.rt:312:5
+-- src/lib.rt:313:5
 shared-slice-read-result : tie.Need-shared-slice-read-result
-shared-slice-read-result c = omega (arith, c .before .before .before .before .before .before .before .before .before .before .before .before .before .before .before .before .before .before .pre .0 .ranged .loop-below (c .before .before .before .before .before .before .before .before .before .before .before .before .before .before .before .before .before .before .args .v) (present (c .before .before .before .before .before .before .before .before .before)), c .before .before .before .before .before .before .before .before .before .before .before .before .before .before .before .before .before .before .pre .0 .ranged .sized .headers)
+shared-slice-read-result c = omega (arith, c .before .before .before .before .before .before .before .before .before .before .before .before .pre .0 .below (c .before .before .before .before .before .before .before .before .before .before .before .before .args .v) (present (c .before .before .before .before .before .before .before .before .before)))
 
--- src/lib.rt:282:1
+-- src/lib.rt:296:1
 returns-4 : tie.Need-returns-4
-returns-4 c =
-    let s = c .before .before .before .before .before .before .before .before .before .before .before .before .before .before .before .before .before .before in
-    rw (ne-eqb _ _ (c .before .before .before .before .before .before .before .before .before .if1 .left))
-    (sym (enters-its (at-entry s) _ (s .pre .0) (s .pre .1) (s .args .u) (s .args .v) (s .pre .2) (present (c .before .before .before .before .before .before .before .before .before)) (sym (counted (c .before .before .before)) ∙ c .before .if3 .left)))
+unfolding pastBySets
+returns-4 c = rw (ne-eqb _ _ (c .before .before .before .before .before .before .before .before .before .if1 .left), ne-eqb _ 0 (λ e. c .before .before .if2 .left (counted (c .before .before .before) ∙ e)), eq-eqb _ 1 (sym (counted (c .before .before .before)) ∙ c .before .if3 .left))
 
 pub past-header-spec : {M : Type 1} → statement M
 past-header-spec =

@@ -1,0 +1,50 @@
+-- The columns that 208 and the bound are about, and 208 as it is read off the loop sets: for functions that are no public entry.
+use Prim.Native.Nat.{ℕ, _^_, _≤_, _<_}
+use mathlib.Core.Path.{_≡_}
+use mathlib.Core.Bool.{Bool, not}
+use mathlib.Core.List.{List, []}
+use lib.IntN.{ℤ}
+use lib.ListN.{length}
+use Rattle.wcet.specs.Table.{Routine, blockCount, exit, cost, loopOf, figure, limit, multiplier, someEdge}
+use Rattle.wcet.specs.Rules.{isHeader}
+use Rattle.loopsets.specs.Sets.{member, setAt}
+use Rattle.nesting.specs.Columns.{routine, edgeColumns, Innermost}
+use Rattle.certificate.specs.Figures.{Figure, inequality}
+
+-- what the inequality of an edge is read off, beside the sets; and the bound
+abbrev pub weightColumns : (costs loops : List ℕ) (figures : List ℤ) (headers limits multipliers : List ℕ) → Routine
+weightColumns costs loops figures headers limits multipliers = routine costs loops [] [] figures [] headers limits multipliers
+
+abbrev pub priceColumns : (costs : List ℕ) (figures : List ℤ) → Routine
+priceColumns costs figures = routine costs [] [] [] figures [] [] [] []
+
+-- what 201 to 203 leave of them
+pub record Weighed (t : Routine) : Type 0 where
+  pub few-blocks : blockCount t ≤ 1024
+  pub loops : length (t .loops) ≡ blockCount t
+  pub figures : length (t .figures) ≡ blockCount t
+  pub limits : length (t .limits) ≡ length (t .headers)
+  pub multipliers : length (t .multipliers) ≡ length (t .headers)
+  pub innermost : Innermost (t .loops) (t .headers)
+  pub cost-most : (u : ℕ) → u < blockCount t → cost t u ≤ 1000000
+  pub figure-range : (u : ℕ) → u < blockCount t → Figure (figure t u)
+  pub limit-least : (l : ℕ) → l < length (t .headers) → 1 ≤ limit t l
+  pub limit-most : (l : ℕ) → l < length (t .headers) → limit t l ≤ 65535
+  pub multiplier-most : (l : ℕ) → l < length (t .headers) → multiplier t l ≤ 2 ^ 40
+
+pub record Priced (t : Routine) : Type 0 where
+  pub some-block : 0 < blockCount t
+  pub few-blocks : blockCount t ≤ 1024
+  pub figures : length (t .figures) ≡ blockCount t
+  pub cost-most : cost t 0 ≤ 1000000
+  pub entry-range : Figure (figure t 0)
+  pub exit-range : Figure (figure t (exit t))
+
+-- the inequality of an edge from u to v is broken: whether u is inside the target's loop is read off its set
+unfoldable pub brokenBySets : (sets : List ℕ) (t : Routine) → ℕ → ℕ → Bool
+brokenBySets sets t u v =
+    not (inequality (isHeader t v) (member (setAt sets (loopOf t u)) (loopOf t v)) (cost t v) (figure t u) (figure t v) (multiplier t (loopOf t v)) (limit t (loopOf t v)))
+
+-- of either edge of block u
+abbrev pub anyBrokenBySets : (sets firsts seconds : List ℕ) (t : Routine) → ℕ → Bool
+anyBrokenBySets sets firsts seconds t u = someEdge (edgeColumns [] firsts seconds) u (brokenBySets sets t u)
