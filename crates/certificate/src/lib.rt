@@ -162,7 +162,7 @@ fn bound_at_exit(cost: &[u32], figure: &[i64]) -> i64
     bound_of(cost[0], figure[0], figure[exit])
 }
 
-// 208 and the bound, behind the structure check.
+// 208 and the bound, behind the structure check. Its contract is about the whole routine, for which it takes the parents too.
 fn certify(
     structured: Structured,
     cost: &[u32],

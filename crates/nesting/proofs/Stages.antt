@@ -75,7 +75,7 @@ module _ (t : Routine) where
   loop-kept S (suc l) e =
       let low = not (ltb (parent t (suc l)) (suc l)) in
       let inn = not (ltb (header t (suc l)) (blockCount t)) in
-      let p = or-false (low || inn || outOfRange 1 65535 (limit t (suc l))) (ltb (2 ^ 40) (multiplier t (suc l))) (sym (inner-rule t (suc l) (omega arith)) ∙ e) in
+      let p = or-false (low || inn || outOfRange 1 65535 (limit t (suc l))) (ltb (2 ^ 40) (multiplier t (suc l))) (sym (inner-rule t l) ∙ e) in
       let q = or-false (low || inn) (outOfRange 1 65535 (limit t (suc l))) (p .0) in
       let r = or-false low inn (q .0) in
       record {

@@ -8,7 +8,7 @@ ghost use lib.Dec.{eqb, ltb};
 ghost use lib.IntN.{pos, negℤ};
 ghost use lib.Signed.{ltZ};
 ghost use lib.ListN.{length};
-ghost use Rattle.lists.specs.Search.{firstBelow};
+ghost use Rattle.lists.specs.Search.{if_then_else_, firstBelow};
 ghost use Rattle.wcet.specs.Rules.{outOfRange, loopWrong, blockWrong, headerElsewhere, entryOrExitEdge};
 ghost use Rattle.nesting.specs.Columns.{routine, loopColumns, blockColumns, headerColumns, edgeColumns, nestingColumns, blockSizesWrong, loopSizesWrong, BlocksSized, LoopsSized, HeadersNamed, Innermost, Linked, Nestable, Names, ofEdge, deepBySets, pastBySets, anyPastBySets};
 ghost use Rattle.nesting.specs.Answers.{placeOf, StructureChecked, NestingChecked};
@@ -132,6 +132,16 @@ fn inner_wrong(l: usize, n: usize, parent: u16, header: u16, limit: u32, multipl
     1099511627776 < multiplier
 }
 
+// Whether a value of loop l is out of its range, among n blocks.
+fn loop_wrong(l: usize, n: usize, parent: u16, header: u16, limit: u32, multiplier: u64) -> bool
+    ensures { λ r. ⌜ r ≡ (if eqb l 0 then not (eqb parent 0 && eqb header 0 && eqb limit 1 && eqb multiplier 0) else (not (ltb parent l) || not (ltb header n) || outOfRange 1 65535 limit || ltb (2 ^ 40) multiplier)) ⌝ }
+{
+    if l == 0 {
+        return root_wrong(parent, header, limit, multiplier);
+    }
+    inner_wrong(l, n, parent, header, limit, multiplier)
+}
+
 fn first_wrong_loop(
     cost: &[u32],
     parent: &[u16],
@@ -142,13 +152,11 @@ fn first_wrong_loop(
     requires { ⌜ LoopsSized (loopColumns (now cost) (now parent) (now header) (now limit) (now multiplier)) ⌝ }
     ensures { λ r. ⌜ placeOf r ≡ firstBelow (length (now (parent .entry))) (loopWrong (loopColumns (now (cost .entry)) (now (parent .entry)) (now (header .entry)) (now (limit .entry)) (now (multiplier .entry)))) ⌝ }
 {
-    if root_wrong(parent[0], header[0], limit[0], multiplier[0]) {
-        return Place::At(0);
-    }
     let n = cost.len();
-    let mut l = 1;
-    while l < parent.len() {
-        if inner_wrong(l, n, parent[l], header[l], limit[l], multiplier[l]) {
+    let m = parent.len();
+    let mut l = 0;
+    while l < m {
+        if loop_wrong(l, n, parent[l], header[l], limit[l], multiplier[l]) {
             return Place::At(l);
         }
         l += 1;

@@ -55,7 +55,7 @@ cast-from c = omega (arith, c .shared-slice-known7 .given (c .before .before .be
 
 -- src/lib.rt:103:18
 set-at-requires : tie.Need-set-at-requires
-set-at-requires c κs = omega (arith, c .before .before .before .before .before .before .before .before .pre .0 .innermost .below (c .before .before .before .before .before .before .before .before .args .u) (omega (arith, c .before .before .before .before .before .before .before .before .pre .1, c .before .before .before .before .before .before .before .before .pre .0 .loops)), c .before .before .before .before .before .before .before .before .pre .0 .innermost .few)
+set-at-requires c κs = omega (arith, c .before .before .before .before .before .before .before .before .pre .0 .innermost .below (c .before .before .before .before .before .before .before .before .args .u) (omega (arith, c .before .before .before .before .before .before .before .before .pre .1, c .before .before .before .before .before .before .before .before .pre .0 .loops)), loop-low (c .before .before), c .before .before .before .before .before .before .before .before .pre .0 .innermost .few)
 
 -- src/lib.rt:103:9
 contains-requires : tie.Need-contains-requires

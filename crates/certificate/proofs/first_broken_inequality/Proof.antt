@@ -30,6 +30,7 @@ mul-v c = omega (arith, c .loop-test .taken, c .before .before .before .before .
 shared-slice-read-v : tie.Need-shared-slice-read-v Inv-loop μ-loop
 shared-slice-read-v c = omega (arith, c .before .loop-test .taken, c .before .before .before .before .before .before .before .before .before .before .pre .1 .first-size)
 
+-- a successor of either column is a block where it is present: which of the two is read shows in the reply
 -- src/lib.rt:135:12
 edge-breaks-requires : tie.Need-edge-breaks-requires Inv-loop μ-loop
 edge-breaks-requires c κs = (c .before .before .before .before .before .before .before .before .before .before .pre .0, c .before .loop-test .taken, search (c .before .before .before .before .before .before .before .before .before .before .pre .1 .first-names (c .before .before .loop .u) (c .before .loop-test .taken), c .before .before .before .before .before .before .before .before .before .before .pre .1 .second-names (c .before .before .loop .u) (c .before .loop-test .taken)))

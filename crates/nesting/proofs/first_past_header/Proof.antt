@@ -31,6 +31,7 @@ mul-past-header c = search needs
 shared-slice-read-past-header : tie.Need-shared-slice-read-past-header Inv-loop μ-loop
 shared-slice-read-past-header c = search needs
 
+-- a successor of either column is a block where it is present: which of the two is read shows in the reply
 -- src/lib.rt:333:12
 past-header-requires : tie.Need-past-header-requires Inv-loop μ-loop
 past-header-requires c κs = (c .before .before .before .before .before .before .before .pre .0, c .before .loop-test .taken, search (c .before .before .before .before .before .before .before .pre .1 .first-names (c .before .before .loop .u) (c .before .loop-test .taken), c .before .before .before .before .before .before .before .pre .1 .second-names (c .before .before .loop .u) (c .before .loop-test .taken)))

@@ -56,7 +56,7 @@ set-at-requires c κs = omega (arith, c .before .before .before .before .before 
 
 -- src/lib.rt:306:34
 set-at-requires-2 : tie.Need-set-at-requires-2
-set-at-requires-2 c κs = omega (arith, c .before .before .before .before .before .before .pre .0 .few, c .before .before .before .before .before .before .pre .0 .below (c .before .before .before .before .before .before .args .u) (c .before .before .before .before .before .before .pre .1))
+set-at-requires-2 c κs = omega (arith, c .before .before .before .before .before .before .pre .0 .few, c .before .before .before .before .before .before .pre .0 .below (c .before .before .before .before .before .before .args .u) (c .before .before .before .before .before .before .pre .1), c .before .before .before .before .before .before .pre .0 .below (c .before .before .before .before .before .before .args .v) (present (c .before .before .before)))
 
 -- src/lib.rt:306:19
 without-requires : tie.Need-without-requires
