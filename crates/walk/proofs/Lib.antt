@@ -1,5 +1,6 @@
 pub mod Facts
-pub mod Resets
+pub mod Counts
+pub mod Recounts
 pub mod Steps
 pub mod Walks
 pub mod Replies

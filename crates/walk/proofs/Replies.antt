@@ -1,16 +1,17 @@
 -- The reply of the whole walk from what is looked at in turn: the tables, the length, the first block, the others. Assumes nothing.
-use mathlib.Core.Path.{_≡_, sym, _∙_, ap}
-use mathlib.Core.Bool.{true, or-true}
+use mathlib.Core.Path.{_≡_, refl, sym, _∙_, ap}
+use mathlib.Core.Bool.{Bool, true, false, not}
 use mathlib.Core.List.{List, [], _∷_}
 use Prim.Native.Nat.{ℕ, _≤_, _<_}
 use native.Mathlib.Omega.{arith}
-use lib.Dec.{ltb}
-use borrow.Author.Tests.{eq-eqb, ne-eqb, lt-ltb, le-ltb}
+use lib.Dec.{eqb, ltb}
+use borrow.Author.Tests.{eqb-true, ltb-false, not-false}
 use lib.ListN.{length, getD, drop}
 use lib.Seq.{drop-cons}
-use Rattle.lists.proofs.Tests.{neither}
+use Rattle.lists.specs.Search.{if_then_else_}
+use Rattle.lists.proofs.Tests.{or-false}
 use Rattle.wcet.specs.Table.{Routine, blockCount}
-use Rattle.wcet.specs.Rules.{Reply, accepted, check, structureRules}
+use Rattle.wcet.specs.Rules.{Reply, accepted, refused, check, outOfRange, structureRules}
 use Rattle.wcet.specs.Run.{start}
 use Rattle.wcet.specs.Walk.{Walked, walked, longestWalk, lengthRule, walkFrom, walkBlocks, walkReply}
 use Rattle.wcet.specs.Claim.{AllHold}
@@ -21,14 +22,40 @@ use Rattle.nesting.specs.declared.StructureFault.{StructureFault}
 use Rattle.nesting.specs.declared.Structure.the-variants.{Sound, Broken}
 use Rattle.nesting.specs.declared.Structured.{Structured}
 use Rattle.nesting.proofs.Chain.{refusal-stands, sound-holds}
+use Rattle.walk.specs.declared.Entry.{Entry}
+use Rattle.walk.specs.declared.Entry.the-variants as entry
 use Rattle.walk.specs.declared.WalkReply.{WalkReply}
 use Rattle.walk.specs.declared.WalkReply.the-variants.{Structure, Length, NoBlock, NotEntry}
-use Rattle.walk.specs.Reply.{meaning, WalkAnswered}
+use Rattle.walk.specs.Reply.{meaning, entryAnswer, WalkAnswered}
 use Rattle.walk.specs.Step.{Walkable}
 use Rattle.walk.proofs.Facts.{walkable}
 
 pub answered : (t : Routine) (w : List ℕ) (r : Reply Walked) → r ≡ walkReply t w → WalkAnswered t w r
 answered t w r e = record { replied = e; accepts = λ h k x. rw e (walks-exactly t h w k x) }
+
+-- what the answer to the first block makes of the reply
+abbrev opens : Entry → Reply Walked → Reply Walked
+opens entry.Entered rest = rest
+opens entry.Length rest = refused 301 0
+opens entry.NoBlock rest = refused 302 0
+opens entry.NotEntry rest = refused 303 0
+
+-- 301 does not apply
+in-length : (w : List ℕ) → outOfRange 1 longestWalk (length w) ≡ false → (1 ≤ length w) × (length w ≤ longestWalk)
+in-length w e = let q = or-false (ltb (length w) 1) (ltb longestWalk (length w)) e in (ltb-false (length w) 1 (q .0), ltb-false longestWalk (length w) (q .1))
+
+-- the walk starts at block 0
+pub starts : (n : ℕ) (w : List ℕ) → entryAnswer n w ≡ entry.Entered → (0 < length w) × (length w ≤ longestWalk) × (getD w 0 0 ≡ 0)
+unfolding entryAnswer
+starts n w = go (outOfRange 1 longestWalk (length w)) refl (ltb (getD w 0 0) n) (eqb (getD w 0 0) 0) refl
+  where
+    go : (a : Bool) → outOfRange 1 longestWalk (length w) ≡ a → (b d : Bool) → eqb (getD w 0 0) 0 ≡ d
+        → (if a then entry.Length else if not b then entry.NoBlock else if not d then entry.NotEntry else entry.Entered) ≡ entry.Entered
+        → (0 < length w) × (length w ≤ longestWalk) × (getD w 0 0 ≡ 0)
+    go false p true true q e = (in-length w p .0, in-length w p .1, eqb-true (getD w 0 0) 0 q)
+    go true p b d q e = absurd (let z : _≡_ {A = ℕ} 0 1 = cc in omega arith)
+    go false p false d q e = absurd (let z : _≡_ {A = ℕ} 0 1 = cc in omega arith)
+    go false p true false q e = absurd (let z : _≡_ {A = ℕ} 0 1 = cc in omega arith)
 
 -- ---- the tables
 
@@ -44,41 +71,44 @@ module _ (t : Routine) (w : List ℕ) (s : Structured) (checked : StructureCheck
     pub keeps : Walkable t (s .around)
     keeps = walkable t (s .around) rules (checked .sets sound)
 
-    -- ---- the length
+    -- ---- the length and the first block
+
+    abbrev rest : Reply Walked
+    rest = walkFrom t start 1 (drop 1 w) (accepted (walked t w))
 
     behind : walkReply t w ≡ check (lengthRule w ∷ []) (walkBlocks t w (accepted (walked t w)))
     unfolding walkReply
     behind = behind-all (structureRules t) (lengthRule w ∷ []) (walkBlocks t w (accepted (walked t w))) rules
 
-    length-breaks : lengthRule w .broken 0 ≡ true → WalkAnswered t w (meaning Length)
-    length-breaks e = answered t w (meaning Length)
-        (sym (behind ∙ decides (lengthRule w) [] (walkBlocks t w (accepted (walked t w))) 0 (record { below = omega arith; passes = e; first = λ j h. absurd (omega arith) })))
+    opened : walkReply t w ≡ opens (entryAnswer (blockCount t) w) rest
+    unfolding entryAnswer walkBlocks check
+    opened = behind ∙ go (outOfRange 1 longestWalk (length w)) refl
+      where
+        first : (b d : Bool) → (if not b then refused 302 0 else if not d then refused 303 0 else rest) ≡ opens (if not b then entry.NoBlock else if not d then entry.NotEntry else entry.Entered) rest
+        first true true = refl
+        first true false = refl
+        first false d = refl
 
-    pub reply-empty : length w < 1 → WalkAnswered t w (meaning Length)
-    reply-empty h = length-breaks (rw (lt-ltb (length w) 1 h))
+        go : (a : Bool) → outOfRange 1 longestWalk (length w) ≡ a → check (lengthRule w ∷ []) (walkBlocks t w (accepted (walked t w)))
+            ≡ opens (if a then entry.Length else if not (ltb (getD w 0 0) (blockCount t)) then entry.NoBlock else if not (eqb (getD w 0 0) 0) then entry.NotEntry else entry.Entered) rest
+        go true e = decides (lengthRule w) [] (walkBlocks t w (accepted (walked t w))) 0 (record { below = omega arith; passes = e; first = λ j h. absurd (omega arith) })
+        go false e =
+            hands-on (lengthRule w) [] (walkBlocks t w (accepted (walked t w))) (λ p h. e)
+            ∙ ap (λ (x : List ℕ). walkBlocks t x (accepted (walked t w))) (drop-cons w 0 0 (in-length w e .0))
+            ∙ first (ltb (getD w 0 0) (blockCount t)) (eqb (getD w 0 0) 0)
 
-    pub reply-long : longestWalk < length w → WalkAnswered t w (meaning Length)
-    reply-long h = length-breaks (rw (lt-ltb longestWalk (length w) h) (or-true (ltb (length w) 1)))
+    module _ (a : Entry) (found : a ≡ entryAnswer (blockCount t) w) where
+      replies : (b : Entry) → a ≡ b → opens b rest ≡ walkReply t w
+      replies b e = sym (opened ∙ ap (λ (x : Entry). opens x rest) (sym found ∙ e))
 
-    module _ (low : 1 ≤ length w) (high : length w ≤ longestWalk) where
-      -- ---- the first block
+      pub reply-length : a ≡ entry.Length → WalkAnswered t w (meaning Length)
+      reply-length e = answered t w (meaning Length) (replies entry.Length e)
 
-      first-block : walkReply t w ≡ walkBlocks t (getD w 0 0 ∷ drop 1 w) (accepted (walked t w))
-      unfolding check
-      first-block =
-          behind
-          ∙ hands-on (lengthRule w) [] (walkBlocks t w (accepted (walked t w))) (λ p h. neither (le-ltb (length w) 1 low) (le-ltb longestWalk (length w) high))
-          ∙ ap (λ (x : List ℕ). walkBlocks t x (accepted (walked t w))) (drop-cons w 0 0 low)
+      pub reply-no-block : a ≡ entry.NoBlock → WalkAnswered t w (meaning (NoBlock 0))
+      reply-no-block e = answered t w (meaning (NoBlock 0)) (replies entry.NoBlock e)
 
-      pub reply-no-block : blockCount t ≤ getD w 0 0 → WalkAnswered t w (meaning (NoBlock 0))
-      unfolding walkBlocks
-      reply-no-block h = answered t w (meaning (NoBlock 0)) (sym (first-block ∙ rw (le-ltb (getD w 0 0) (blockCount t) h)))
+      pub reply-not-entry : a ≡ entry.NotEntry → WalkAnswered t w (meaning NotEntry)
+      reply-not-entry e = answered t w (meaning NotEntry) (replies entry.NotEntry e)
 
-      module _ (block : getD w 0 0 < blockCount t) where
-        pub reply-not-entry : (getD w 0 0 ≡ 0 → ⊥) → WalkAnswered t w (meaning NotEntry)
-        unfolding walkBlocks
-        reply-not-entry ne = answered t w (meaning NotEntry) (sym (first-block ∙ rw (lt-ltb (getD w 0 0) (blockCount t) block, ne-eqb (getD w 0 0) 0 ne)))
-
-        pub reply-follow : getD w 0 0 ≡ 0 → (r : WalkReply) → meaning r ≡ walkFrom t start 1 (drop 1 w) (accepted (walked t w)) → WalkAnswered t w (meaning r)
-        unfolding walkBlocks
-        reply-follow z r e = answered t w (meaning r) (e ∙ sym (first-block ∙ rw (lt-ltb (getD w 0 0) (blockCount t) block, eq-eqb (getD w 0 0) 0 z)))
+      pub reply-follow : a ≡ entry.Entered → (r : WalkReply) → meaning r ≡ rest → WalkAnswered t w (meaning r)
+      reply-follow e r q = answered t w (meaning r) (q ∙ replies entry.Entered e)

@@ -1,31 +1,33 @@
 -- What the code finds out in a step, and what the definition says of it. Assumes nothing.
 use mathlib.Core.Path.{_≡_, refl, sym, _∙_, ap, ap₂, fun-ext}
 use mathlib.Core.Bool.{Bool, true, false, not, _&&_, _||_, and-false}
-use mathlib.Core.List.{List, _∷_}
-use Prim.Native.Nat.{ℕ, zero, suc, _+_, _*_, _≤_, _<_}
+use mathlib.Core.List.{List}
+use mathlib.Core.Logic.{_⊎_, inl, inr}
+use Prim.Native.Nat.{ℕ, zero, suc, _+_, _-_, _*_, _≤_, _<_}
 use native.Mathlib.Decide.{ℕ-discrete}
 use native.Mathlib.Omega.{arith}
-use lib.Dec.{eqb, ltb, eqb·suc-zero}
-use borrow.Author.Tests.{eq-eqb, ne-eqb, lt-ltb, le-ltb, ltb-true, ltb-false, not-false}
-use lib.ListN.{length, getD, set, replicate, length-set, List·getD-eq-default}
-use lib.Seq.{getD-set-same, getD-set-other}
+use lib.Dec.{eqb, ltb}
+use borrow.Author.Tests.{eq-eqb, ne-eqb, lt-ltb, le-ltb, eqb-false, ltb-true, ltb-false}
+use lib.ListN.{length, List·getD-eq-default}
+use denote.Enum.Declared.{tagOf}
 use Rattle.lists.specs.Search.{if_then_else_}
-use Rattle.lists.specs.InPlace.{mapFrom}
-use Rattle.lists.proofs.InPlace.{mapped-alike}
 use Rattle.wcet.specs.Table.{Routine, blockCount, loopCount, exit, missing, cost, loopOf, first, second, header, limit, someEdge, edge, inside}
 use Rattle.wcet.specs.Rules.{isHeader}
-use Rattle.wcet.specs.Run.{start, leaves, nextCount, next, passesLimit}
+use Rattle.wcet.specs.Run.{State, leaves, nextCount, next, passesLimit}
 use Rattle.wcet.specs.Walk.{longestWalk}
 use Rattle.wcet.proofs.Potential.{inside-own}
 use Rattle.wcet.proofs.Around.{header-of}
-use Rattle.wcet.proofs.Limits.{WithinLimits, limits-kept}
+use Rattle.wcet.proofs.Limits.{limits-kept}
 use Rattle.wcet.proofs.Steps.{limit-at-header}
 use Rattle.loopsets.specs.Sets.{member, setAt}
 use Rattle.loopsets.specs.declared.LoopSet.{LoopSet}
 use Rattle.walk.specs.declared.Run.{Run}
+use Rattle.walk.specs.declared.Answer.{Answer}
 use Rattle.walk.specs.declared.Answer.the-variants.{Moved, NoBlock, AfterExit, NoEdge, OverLimit}
-use Rattle.walk.specs.Step.{stateOf, refusing, stepped, visitsAfter, zeroIn, Walkable, Standing}
+use Rattle.walk.specs.Step.{countIn, Outcome, refusing, stepped, edgeAnswer, headerVisits, countAfter, Walkable, Standing}
+use Rattle.walk.proofs.Answer.{the-type}
 use Rattle.walk.proofs.Facts.{nesting, not-entry}
+use Rattle.walk.proofs.Counts.{past-loops}
 
 -- ---- the edge
 
@@ -43,12 +45,11 @@ edge-is t u v h = ap₂ _||_ (present (first t u)) (present (second t u))
 
 -- ---- the counts
 
-module _ (t : Routine) (sets : List ℕ) (S : Walkable t sets) (u v : ℕ) (block : u < blockCount t) (there : edge t u v ≡ true) where
-  -- the loop that the step ends in is not left
-  pub visits-next : (c : ℕ) → visitsAfter c (eqb (header t (loopOf t v)) v) (inside t u (loopOf t v)) ≡ nextCount t u v (loopOf t v) c
-  unfolding nextCount
-  visits-next c = rw (inside-own t v, and-false (inside t u (loopOf t v)))
+-- the visits to the header of the loop that a step from s to v ends in
+abbrev pub visitsTo : Routine → State → ℕ → ℕ
+visitsTo t s v = headerVisits (s .count (loopOf t v)) (eqb (header t (loopOf t v)) v) (inside t (s .block) (loopOf t v))
 
+module _ (t : Routine) (sets : List ℕ) (S : Walkable t sets) (u v : ℕ) (block : u < blockCount t) (there : edge t u v ≡ true) where
   -- another loop is not entered, and its header not visited: a loop by 204, a number that is none by 206
   other-header : (l : ℕ) → (l ≡ loopOf t v → ⊥) → header t l ≡ v → ⊥
   other-header l ne e = go (ltb l (loopCount t)) refl
@@ -71,124 +72,154 @@ module _ (t : Routine) (sets : List ℕ) (S : Walkable t sets) (u v : ℕ) (bloc
         left-is l h
         ∙ rw (p, q, S .sets-around .each (loopOf t u) l (nesting t sets S .innermost u block), S .sets-around .each (loopOf t v) l (nesting t sets S .innermost v (nesting t sets S .target u v block there)))
 
-    -- k are the visits to the header of the loop that the step ends in
-    pub counts-next : (counts : List ℕ) (k : ℕ) → length counts ≡ 64 → k ≡ nextCount t u v (loopOf t v) (getD counts (loopOf t v) 0)
-        → mapFrom (zeroIn left) 0 (set counts (loopOf t v) k) ≡ mapFrom (nextCount t u v) 0 counts
-    counts-next counts k size e = mapped-alike (zeroIn left) (nextCount t u v) after counts (length-set counts (loopOf t v) k)
-        (λ j h. at j (omega (arith, length-set counts (loopOf t v) k)) (ℕ-discrete j (loopOf t v)))
+    -- the loop that the step ends in is not left
+    own-next : (c k : ℕ) → k ≡ headerVisits c (eqb (header t (loopOf t v)) v) (inside t u (loopOf t v)) → loopOf t v < 64
+        → countAfter left (loopOf t v) k (loopOf t v) c ≡ nextCount t u v (loopOf t v) c
+    unfolding nextCount
+    own-next c k e h =
+        rw (left-leaves (loopOf t v) h, inside-own t v, and-false (inside t u (loopOf t v)), eq-eqb (loopOf t v) (loopOf t v) refl, e)
+        (go (eqb (header t (loopOf t v)) v) (inside t u (loopOf t v)))
       where
-        after : List ℕ
-        after = set counts (loopOf t v) k
+        go : (heading inner : Bool) → let n = headerVisits c heading inner in
+            (if not (eqb n 0) && true then n else c) ≡ (if not heading then c else if inner then c + 1 else 1)
+        go true true = rw (ne-eqb (c + 1) 0 (λ q. omega arith))
+        go true false = refl
+        go false b = refl
 
-        at : (j : ℕ) → j < length counts → Dec (j ≡ loopOf t v) → zeroIn left j (getD after j 0) ≡ nextCount t u v j (getD counts j 0)
-        at j a (yes z) =
-            rw (z, left-leaves (loopOf t v) (omega arith), inside-own t v, and-false (inside t u (loopOf t v)))
-            (getD-set-same counts (loopOf t v) k 0 (omega arith) ∙ e)
-        at j a (no ne) = rw (left-leaves j (omega arith), getD-set-other counts (loopOf t v) j k 0 ne) (other-next j (getD counts j 0) ne)
+    -- a number that is no loop stands at 0 and stays there
+    past-next : (l : ℕ) → 64 ≤ l → 0 ≡ nextCount t u v l 0
+    past-next l h =
+        none (leaves t u v l)
+        ∙ other-next l 0 (λ q. let into : loopOf t v < loopCount t = nesting t sets S .innermost v (nesting t sets S .target u v block there) in omega (arith, S .ranged .sized .few-loops))
+      where
+        none : (b : Bool) → _≡_ {A = ℕ} 0 (if b then 0 else 0)
+        none true = refl
+        none false = refl
+
+    -- k are the visits to the header of the loop that the step ends in
+    pub counts-next : (words after : List ℕ) (k : ℕ) → length words ≡ 16 → length after ≡ 16
+        → k ≡ headerVisits (countIn words (loopOf t v)) (eqb (header t (loopOf t v)) v) (inside t u (loopOf t v))
+        → ((j : ℕ) → j < 64 → countIn after j ≡ countAfter left (loopOf t v) k j (countIn words j))
+        → (j : ℕ) → countIn after j ≡ nextCount t u v j (countIn words j)
+    counts-next words after k size still e each j = go (ltb j 64) refl (ℕ-discrete j (loopOf t v))
+      where
+        go : (b : Bool) → ltb j 64 ≡ b → Dec (j ≡ loopOf t v) → countIn after j ≡ nextCount t u v j (countIn words j)
+        go false p d = rw (past-loops after j still (ltb-false j 64 p), past-loops words j size (ltb-false j 64 p)) (past-next j (ltb-false j 64 p))
+        go true p (yes z) = each j (ltb-true j 64 p) ∙ rw z (own-next (countIn words (loopOf t v)) k e (omega (arith, ltb-true j 64 p)))
+        go true p (no ne) =
+            each j (ltb-true j 64 p)
+            ∙ rw (ne-eqb (loopOf t v) j (λ q. ne (sym q)), and-false (not (eqb k 0)), left-leaves j (ltb-true j 64 p)) (other-next j (countIn words j) ne)
 
 -- ---- the limit
 
--- the count of the loop that a step to v ends in
-abbrev pub visitsAt : Routine → Run → ℕ → ℕ
-visitsAt t r v = nextCount t (r .at) v (loopOf t v) (getD (r .counts) (loopOf t v) 0)
-
-module _ (t : Routine) (sets : List ℕ) (S : Walkable t sets) (r : Run) (v : ℕ) (stands : Standing t r) (there : edge t (r .at) v ≡ true) where
-  within : WithinLimits t (stateOf r)
-  within = limits-kept t (stateOf r) (stands .within)
-
-  v-block : v < blockCount t
-  v-block = nesting t sets S .target (r .at) v (stands .at-block) there
-
-  -- 313 is asked of the loop that the step ends in alone; where its header is not visited, its count stays within the limit
-  limit-next : passesLimit t (next t (stateOf r) v) ≡ ltb (limit t (loopOf t v)) (visitsAt t r v)
-  unfolding next
-  limit-next = limit-at-header t (nesting t sets S) (stateOf r) v (stands .at-block) within there ∙ go (isHeader t v) refl
+module _ (t : Routine) (sets : List ℕ) (S : Walkable t sets) (s : State) (v : ℕ) (block : s .block < blockCount t) (there : edge t (s .block) v ≡ true) where
+  -- 313 is asked of the loop that the step ends in alone, and only where its header is visited
+  pub limit-next : passesLimit t s ≡ false → passesLimit t (next t s v) ≡ ltb (limit t (loopOf t v)) (visitsTo t s v)
+  unfolding next nextCount
+  limit-next kept =
+      limit-at-header t (nesting t sets S) s v block (limits-kept t s kept) there
+      ∙ rw (inside-own t v, and-false (inside t (s .block) (loopOf t v))) (go (isHeader t v) (inside t (s .block) (loopOf t v)))
     where
-      go : (b : Bool) → isHeader t v ≡ b → (b && ltb (limit t (loopOf t v)) (visitsAt t r v)) ≡ ltb (limit t (loopOf t v)) (visitsAt t r v)
-      go true e = refl
-      go false e = sym (le-ltb (limit t (loopOf t v)) (visitsAt t r v) (rw (← visits-next t sets S (r .at) v (stands .at-block) there (getD (r .counts) (loopOf t v) 0), e) (within (loopOf t v) (nesting t sets S .innermost v v-block))))
+      most : ℕ
+      most = limit t (loopOf t v)
+
+      c : ℕ
+      c = s .count (loopOf t v)
+
+      go : (heading inner : Bool) → (heading && ltb most (if not heading then c else if inner then c + 1 else 1)) ≡ ltb most (headerVisits c heading inner)
+      go true inner = refl
+      go false inner = sym (le-ltb most 0 (omega arith))
 
   -- the visits as the code finds them: by the set of the present block's loop
-  pub visits-found : (here : LoopSet) (b : Bool) (k : ℕ) → here ≡ setAt sets (loopOf t (r .at)) → b ≡ member here (loopOf t v)
-      → k ≡ visitsAfter (getD (r .counts) (loopOf t v) 0) (eqb (header t (loopOf t v)) v) b → k ≡ visitsAt t r v
+  pub visits-found : (here : LoopSet) (b : Bool) (k : ℕ) → here ≡ setAt sets (loopOf t (s .block)) → b ≡ member here (loopOf t v)
+      → k ≡ headerVisits (s .count (loopOf t v)) (eqb (header t (loopOf t v)) v) b → k ≡ visitsTo t s v
   unfolding inside
-  visits-found here b k p q e =
-      e
-      ∙ rw (q, p, S .sets-around .each (loopOf t (r .at)) (loopOf t v) (nesting t sets S .innermost (r .at) (stands .at-block)))
-      (visits-next t sets S (r .at) v (stands .at-block) there (getD (r .counts) (loopOf t v) 0))
+  visits-found here b k p q e = e ∙ rw (q, p, S .sets-around .each (loopOf t (s .block)) (loopOf t v) (nesting t sets S .innermost (s .block) block))
 
-  pub over-limit : (k : ℕ) → k ≡ visitsAt t r v → limit t (loopOf t v) < k → passesLimit t (next t (stateOf r) v) ≡ true
-  over-limit k e h = limit-next ∙ rw (← e) (lt-ltb (limit t (loopOf t v)) k h)
+-- ---- the five answers
 
-  pub within-limit : (k : ℕ) → k ≡ visitsAt t r v → k ≤ limit t (loopOf t v) → passesLimit t (next t (stateOf r) v) ≡ false
-  within-limit k e h = limit-next ∙ rw (← e) (le-ltb (limit t (loopOf t v)) k h)
+-- an edge that is there
+pub record OnEdge (t : Routine) (u v : ℕ) : Type 0 where
+  pub block : v < blockCount t
+  pub on : u ≡ exit t → ⊥
+  pub there : edge t u v ≡ true
+
+-- the variant of an answer is another than `Moved`, in the code's numbers
+abbrev pub Refuses : ℕ → Type 0
+Refuses n = (n ≡ 1) ⊎ ((n ≡ 2) ⊎ ((n ≡ 3) ⊎ (n ≡ 4)))
+
+not-moved : (n : ℕ) → Refuses n → n ≡ 0 → ⊥
+not-moved n (inl e) z = omega arith
+not-moved n (inr (inl e)) z = omega arith
+not-moved n (inr (inr (inl e))) z = omega arith
+not-moved n (inr (inr (inr e))) z = omega arith
+
+module _ (t : Routine) (few : blockCount t ≤ 1024) (s : State) (c v : ℕ) where
+  pub on-edge : edgeAnswer (blockCount t) (first t (s .block)) (second t (s .block)) (s .block) v ≡ Moved → OnEdge t (s .block) v
+  unfolding edgeAnswer
+  on-edge = go (ltb v (blockCount t)) refl (eqb (s .block) (exit t)) refl (eqb (first t (s .block)) v || eqb (second t (s .block)) v) refl
+    where
+      go : (a : Bool) → ltb v (blockCount t) ≡ a → (b : Bool) → eqb (s .block) (exit t) ≡ b → (d : Bool) → (eqb (first t (s .block)) v || eqb (second t (s .block)) v) ≡ d
+          → (if not a then NoBlock else if b then AfterExit else if not d then NoEdge else Moved) ≡ Moved → OnEdge t (s .block) v
+      go true p false q true r e = record {
+        block = ltb-true v (blockCount t) p;
+        on = eqb-false (s .block) (exit t) q;
+        there = edge-is t (s .block) v (omega (arith, ltb-true v (blockCount t) p)) ∙ r;
+      }
+      go false p b q d r e = absurd (let z : _≡_ {A = ℕ} 0 1 = cc in omega arith)
+      go true p true q d r e = absurd (let z : _≡_ {A = ℕ} 0 1 = cc in omega arith)
+      go true p false q false r e = absurd (let z : _≡_ {A = ℕ} 0 1 = cc in omega arith)
+
+  pub step-refused : (a : Answer) → a ≡ edgeAnswer (blockCount t) (first t (s .block)) (second t (s .block)) (s .block) v → Refuses (tagOf the-type a) → refusing s c a ≡ stepped t s c v
+  unfolding edgeAnswer stepped
+  step-refused a e f = go (ltb v (blockCount t)) refl (eqb (s .block) (exit t)) (eqb (first t (s .block)) v || eqb (second t (s .block)) v) refl e
+    where
+      further : Outcome
+      further = if passesLimit t (next t s v) then refusing s c OverLimit else record { state = next t s v; spent = c + cost t v; answer = Moved }
+
+      go : (x : Bool) → ltb v (blockCount t) ≡ x → (b d : Bool) → (eqb (first t (s .block)) v || eqb (second t (s .block)) v) ≡ d
+          → a ≡ (if not x then NoBlock else if b then AfterExit else if not d then NoEdge else Moved)
+          → refusing s c a ≡ (if not x then refusing s c NoBlock else if b then refusing s c AfterExit else if not (edge t (s .block) v) then refusing s c NoEdge else further)
+      go false p b d r e = rw e
+      go true p true d r e = rw e
+      go true p false false r e = rw (e, edge-is t (s .block) v (omega (arith, ltb-true v (blockCount t) p)), r)
+      go true p false true r e = absurd (not-moved (tagOf the-type a) f (ap (λ (x : Answer). tagOf the-type x) e))
 
 -- what is known once the edge is found
 pub record InStep (t : Routine) (r : Run) (v : ℕ) : Type 0 where
   pub block : v < blockCount t
+  pub loops : length (t .loops) ≡ blockCount t
+  pub headers : length (t .headers) ≡ loopCount t
+  pub limits : length (t .limits) ≡ loopCount t
   pub few-blocks : blockCount t ≤ 1024
-  pub there : edge t (r .at) v ≡ true
+  pub few-loops : loopCount t ≤ 64
   pub into : loopOf t v < loopCount t
   pub from : loopOf t (r .at) < loopCount t
-  pub visits : getD (r .counts) (loopOf t v) 0 ≤ 65535
+  pub limit-most : limit t (loopOf t v) ≤ 65535
   pub price : cost t v ≤ 1000000
   pub room : r .cost ≤ 1000000 * longestWalk
 
-pub in-step : (t : Routine) (sets : List ℕ) → Walkable t sets → (r : Run) (v : ℕ) → Standing t r → v < blockCount t
-    → (b : Bool) → b ≡ (eqb (first t (r .at)) v || eqb (second t (r .at)) v) → not b ≡ false → InStep t r v
-in-step t sets S r v stands block b found e = record {
-  block = block;
+pub in-step : (t : Routine) (sets : List ℕ) → Walkable t sets → (r : Run) (v : ℕ) → Standing t r → OnEdge t (r .at) v → InStep t r v
+in-step t sets S r v stands E = record {
+  block = E .block;
+  loops = S .ranged .sized .loops;
+  headers = S .ranged .sized .headers;
+  limits = S .ranged .sized .limits;
   few-blocks = S .ranged .sized .few-blocks;
-  there = edge-is t (r .at) v (omega (arith, S .ranged .sized .few-blocks)) ∙ sym found ∙ not-false b e;
-  into = into;
+  few-loops = S .ranged .sized .few-loops;
+  into = nesting t sets S .innermost v (E .block);
   from = nesting t sets S .innermost (r .at) (stands .at-block);
-  visits = omega (arith, S .ranged .limit-most (loopOf t v) into, limits-kept t (stateOf r) (stands .within) (loopOf t v) into);
-  price = S .ranged .cost-most v block;
+  limit-most = S .ranged .limit-most (loopOf t v) (nesting t sets S .innermost v (E .block));
+  price = S .ranged .cost-most v (E .block);
   room = stands .room;
 }
-  where
-    into : loopOf t v < loopCount t
-    into = nesting t sets S .innermost v block
 
--- ---- the five answers
-
-module _ (t : Routine) (r : Run) (v : ℕ) where
-  pub step-no-block : blockCount t ≤ v → refusing r NoBlock ≡ stepped t r v
+module _ (t : Routine) (s : State) (c v : ℕ) (E : OnEdge t (s .block) v) where
+  pub step-over-limit : passesLimit t (next t s v) ≡ true → refusing s c OverLimit ≡ stepped t s c v
   unfolding stepped
-  step-no-block h = rw (le-ltb v (blockCount t) h)
+  step-over-limit e = rw (lt-ltb v (blockCount t) (E .block), ne-eqb (s .block) (exit t) (E .on), E .there, e)
 
-  module _ (block : v < blockCount t) where
-    pub step-after-exit : r .at ≡ exit t → refusing r AfterExit ≡ stepped t r v
-    unfolding stepped
-    step-after-exit e = rw (lt-ltb v (blockCount t) block, eq-eqb (r .at) (exit t) e)
-
-    module _ (on : r .at ≡ exit t → ⊥) where
-      pub step-no-edge : (sets : List ℕ) → Walkable t sets → (b : Bool) → b ≡ (eqb (first t (r .at)) v || eqb (second t (r .at)) v) → not b ≡ true
-          → refusing r NoEdge ≡ stepped t r v
-      unfolding stepped
-      step-no-edge sets S b found e = rw (lt-ltb v (blockCount t) block, ne-eqb (r .at) (exit t) on, edge-is t (r .at) v (omega (arith, S .ranged .sized .few-blocks)), ← found, e)
-
-      module _ (there : edge t (r .at) v ≡ true) where
-        pub step-over-limit : passesLimit t (next t (stateOf r) v) ≡ true → refusing r OverLimit ≡ stepped t r v
-        unfolding stepped
-        step-over-limit e = rw (lt-ltb v (blockCount t) block, ne-eqb (r .at) (exit t) on, there, e)
-
-        pub step-moved : passesLimit t (next t (stateOf r) v) ≡ false → (counts : List ℕ) → counts ≡ mapFrom (nextCount t (r .at) v) 0 (r .counts)
-            → record { run = record { at = v; cost = r .cost + cost t v; counts = counts }; answer = Moved } ≡ stepped t r v
-        unfolding stepped
-        step-moved e counts q = rw (lt-ltb v (blockCount t) block, ne-eqb (r .at) (exit t) on, there, e, q)
-
--- ---- the first block
-
-zeros : (n l : ℕ) → _≡_ {A = ℕ} (getD (replicate n 0) l 0) 0
-zeros zero l = refl
-zeros (suc n) zero = refl
-zeros (suc n) (suc l) = zeros n l
-
-pub start-is : (c : ℕ) → stateOf (record { at = 0; cost = c; counts = 1 ∷ replicate 63 0 }) ≡ start
-unfolding start
-start-is c = ap (λ (f : ℕ → ℕ). record { block = 0; count = f }) (fun-ext (λ l. at l))
-  where
-    at : (l : ℕ) → _≡_ {A = ℕ} (getD (1 ∷ replicate 63 0) l 0) (if eqb l 0 then 1 else 0)
-    at zero = refl
-    at (suc l) = zeros 63 l ∙ rw (eqb·suc-zero l)
+  pub step-moved : passesLimit t (next t s v) ≡ false → (a : Answer) → a ≡ Moved → (counts : ℕ → ℕ) → ((l : ℕ) → counts l ≡ nextCount t (s .block) v l (s .count l))
+      → record { state = record { block = v; count = counts }; spent = c + cost t v; answer = a } ≡ stepped t s c v
+  unfolding stepped next
+  step-moved e a m counts each = rw (lt-ltb v (blockCount t) (E .block), ne-eqb (s .block) (exit t) (E .on), E .there, e, m) (ap (λ (f : ℕ → ℕ). record { state = record { block = v; count = f }; spent = c + cost t v; answer = Moved }) (fun-ext each))

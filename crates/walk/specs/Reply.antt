@@ -1,20 +1,24 @@
 -- The number, the place and the values that document 01 gives each reply to a walk, and what the reply says of the walk.
-use Prim.Native.Nat.{ℕ, _-_, _≤_}
+use Prim.Native.Nat.{ℕ, _-_, _≤_, _<_}
 use mathlib.Core.Bool.{not}
 use mathlib.Core.Path.{_≡_}
 use mathlib.Core.Logic.{_↔_}
 use mathlib.Core.List.{List}
-use lib.Dec.{eqb}
-use lib.ListN.{length}
+use lib.Dec.{eqb, ltb}
+use lib.ListN.{length, getD, drop}
 use Rattle.lists.specs.Search.{if_then_else_}
 use Rattle.wcet.specs.Table.{Routine}
-use Rattle.wcet.specs.Rules.{Reply, accepted, refused, structureRules}
-use Rattle.wcet.specs.Walk.{Walked, walked, longestWalk, walkReply}
+use Rattle.wcet.specs.Rules.{Reply, accepted, refused, outOfRange, structureRules}
+use Rattle.wcet.specs.Run.{start}
+use Rattle.wcet.specs.Walk.{Walked, walked, longestWalk, walkFrom, walkReply}
 use Rattle.wcet.specs.Claim.{AllHold, FinishedRun}
 use Rattle.nesting.specs.Answers.{refusal}
 use Rattle.walk.specs.declared.Run.{Run}
+use Rattle.walk.specs.declared.Entry.{Entry}
+use Rattle.walk.specs.declared.Entry.the-variants as entry
 use Rattle.walk.specs.declared.WalkReply.{WalkReply}
 use Rattle.walk.specs.declared.WalkReply.the-variants.{Accepted, Structure, Length, NoBlock, NotEntry, AfterExit, NoEdge, OverLimit, Unfinished}
+use Rattle.walk.specs.Step.{Walkable, Unread}
 
 -- 201 to 207 are those of the structure check
 abbrev pub meaning : WalkReply → Reply Walked
@@ -31,6 +35,26 @@ meaning (Unfinished n) = refused 314 n
 -- the reply where a walk of this length ends in state r, in a routine of n blocks
 unfoldable pub endOf : Run → ℕ → ℕ → WalkReply
 endOf r n length = if not (eqb (r .at) (n - 1)) then Unfinished length else Accepted (r .cost) (length - 1)
+
+-- 301, 302 and 303 of the walk w in a routine of n blocks
+unfoldable pub entryAnswer : ℕ → List ℕ → Entry
+entryAnswer n w =
+    if outOfRange 1 longestWalk (length w) then entry.Length else
+    if not (ltb (getD w 0 0) n) then entry.NoBlock else
+    if not (eqb (getD w 0 0) 0) then entry.NotEntry else
+    entry.Entered
+
+-- what the loop over the blocks requires: the walk w is as long as a walk may be and starts at block 0
+pub record Enters (t : Unread → Routine) (sets w : List ℕ) : Type 0 where
+  pub unread : Unread
+  pub walkable : Walkable (t unread) sets
+  pub some : 0 < length w
+  pub short : length w ≤ longestWalk
+  pub first : getD w 0 0 ≡ 0
+
+-- what it ensures: with any columns that it does not read, its reply is that of the definition behind the first block
+abbrev pub Follows : (Unread → Routine) → (sets w : List ℕ) → Reply Walked → Type 0
+Follows t sets w r = (x : Unread) → Walkable (t x) sets → r ≡ walkFrom (t x) start 1 (drop 1 w) (accepted (walked (t x) w))
 
 -- Demand 2, of the reply r to the walk w over t: it is the one of the definition; and "A walk within the length limit, over tables that keep
 -- those ranges and rules, is accepted exactly when it is a finished counted run, with its true cost".

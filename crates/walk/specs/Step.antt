@@ -1,18 +1,18 @@
 -- The state of a run as the code has it, and what one block more makes of it.
-use Prim.Native.Nat.{ℕ, _+_, _*_, _≤_, _<_}
+use Prim.Native.Nat.{ℕ, _+_, _-_, _*_, _/_, _%_, _^_, _≤_, _<_}
 use mathlib.Core.Path.{_≡_}
-use mathlib.Core.Bool.{Bool, false, not}
+use mathlib.Core.Bool.{Bool, not, _&&_, _||_, false}
 use mathlib.Core.List.{List}
 use lib.Dec.{eqb, ltb}
+use lib.IntN.{ℤ}
 use lib.ListN.{getD}
 use Rattle.lists.specs.Search.{if_then_else_}
-use Rattle.lists.specs.InPlace.{mapFrom}
 use Rattle.wcet.specs.Table.{Routine, blockCount, exit, cost, edge}
 use Rattle.wcet.specs.Rules.{structureRules}
-use Rattle.wcet.specs.Run.{State, nextCount, next, passesLimit}
+use Rattle.wcet.specs.Run.{State, next, passesLimit}
 use Rattle.wcet.specs.Walk.{longestWalk}
 use Rattle.wcet.specs.Claim.{AllHold}
-use Rattle.nesting.specs.Columns.{Ranged}
+use Rattle.nesting.specs.Columns.{routine, Ranged}
 use Rattle.loopsets.specs.Sets.{member, SetsAround}
 use Rattle.loopsets.specs.declared.LoopSet.{LoopSet}
 use Rattle.walk.specs.declared.Run.{Run}
@@ -20,36 +20,54 @@ use Rattle.walk.specs.declared.Answer.{Answer}
 use Rattle.walk.specs.declared.Answer.the-variants.{Moved, NoBlock, AfterExit, NoEdge, OverLimit}
 use Rattle.walk.specs.declared.Stepped.{Stepped}
 
--- where the run stands, in the terms of document 01's definition
-abbrev pub stateOf : Run → State
-stateOf r = record { block = r .at; count = λ l. getD (r .counts) l 0 }
+-- the count of loop l: four counts of 16 bits to a word, the lowest loop in the lowest bits
+unfoldable pub countIn : List ℕ → ℕ → ℕ
+countIn words l = getD words (l / 4) 0 / 2 ^ (16 * (l % 4)) % 65536
 
--- the state at v: the cost of v added, and each loop's count as it is after the edge to v
-abbrev pub moved : Routine → Run → ℕ → Run
-moved t r v = record { at = v; cost = r .cost + cost t v; counts = mapFrom (nextCount t (r .at) v) 0 (r .counts) }
+-- where the run stands, in the terms of document 01's definition: its block, and the count of every loop
+abbrev pub stateOf : Run → State
+stateOf r = record { block = r .at; count = countIn (r .counts) }
+
+-- a state, the cost of the run up to it, and the answer of the step that led to it
+pub record Outcome : Type 0 where
+  pub state : State
+  pub spent : ℕ
+  pub answer : Answer
+
+abbrev pub outcome : Stepped → Outcome
+outcome s = record { state = stateOf (s .run); spent = s .run .cost; answer = s .answer }
 
 -- a refused step leaves the state as it was
-abbrev pub refusing : Run → Answer → Stepped
-refusing r a = record { run = r; answer = a }
+abbrev pub refusing : State → ℕ → Answer → Outcome
+refusing s c a = record { state = s; spent = c; answer = a }
 
--- What block v makes of the state r: "at one index 302, 303, 311, 312, 313" (303 is asked of the first block only, which is no step).
-unfoldable pub stepped : Routine → Run → ℕ → Stepped
-stepped t r v =
-    if not (ltb v (blockCount t)) then refusing r NoBlock else
-    if eqb (r .at) (exit t) then refusing r AfterExit else
-    if not (edge t (r .at) v) then refusing r NoEdge else
-    if passesLimit t (next t (stateOf r) v) then refusing r OverLimit else
-    record { run = moved t r v; answer = Moved }
+-- What block v makes of the state s, the run's cost being c: "at one index 302, 303, 311, 312, 313" (303 is asked of the first block only,
+-- which is no step).
+unfoldable pub stepped : Routine → State → ℕ → ℕ → Outcome
+stepped t s c v =
+    if not (ltb v (blockCount t)) then refusing s c NoBlock else
+    if eqb (s .block) (exit t) then refusing s c AfterExit else
+    if not (edge t (s .block) v) then refusing s c NoEdge else
+    if passesLimit t (next t s v) then refusing s c OverLimit else
+    record { state = next t s v; spent = c + cost t v; answer = Moved }
 
 -- ---- what a step is asked to do in turn
 
--- the count of a loop that the step ends in
-abbrev pub visitsAfter : ℕ → Bool → Bool → ℕ
-visitsAfter count heading inside = if not heading then count else if inside then count + 1 else 1
+-- 302, 311 and 312 of a step from u, with these two successors, to v, in a routine of n blocks
+unfoldable pub edgeAnswer : ℕ → ℕ → ℕ → ℕ → ℕ → Answer
+edgeAnswer n first second u v =
+    if not (ltb v n) then NoBlock else
+    if eqb u (n - 1) then AfterExit else
+    if not (eqb first v || eqb second v) then NoEdge else
+    Moved
 
--- the count c of loop l, where the loops of `left` are left
-abbrev pub zeroIn : LoopSet → ℕ → ℕ → ℕ
-zeroIn left l c = if member left l then 0 else c
+-- the visits to the header of the loop that the step ends in, and 0 where it ends at another block
+abbrev pub headerVisits : ℕ → Bool → Bool → ℕ
+headerVisits count heading inside = if not heading then 0 else if inside then count + 1 else 1
+
+-- the count c of loop k, where the loops of `left` are left and loop l's header has these visits
+abbrev pub countAfter : LoopSet → ℕ → ℕ → ℕ → ℕ → ℕ
+countAfter left l visits k c = if not (eqb visits 0) && eqb l k then visits else if member left k then 0 else c
 
 -- ---- what a step may rely on
 
@@ -64,3 +82,24 @@ pub record Standing (t : Routine) (r : Run) : Type 0 where
   pub at-block : r .at < blockCount t
   pub within : passesLimit t (stateOf r) ≡ false
   pub room : r .cost ≤ 1000000 * longestWalk
+
+-- ---- the columns that a walk does not read
+
+pub record Unread : Type 0 where
+  pub figures : List ℤ
+  pub parents : List ℕ
+  pub multipliers : List ℕ
+
+-- the routine of the columns that a walk reads, whatever the others are
+abbrev pub reading : (costs loops firsts seconds headers limits : List ℕ) → Unread → Routine
+reading costs loops firsts seconds headers limits x = routine costs loops firsts seconds (x .figures) (x .parents) headers limits (x .multipliers)
+
+-- what a step requires: some such columns there are
+pub record Stands (t : Unread → Routine) (sets : List ℕ) (r : Run) : Type 0 where
+  pub unread : Unread
+  pub walkable : Walkable (t unread) sets
+  pub standing : Standing (t unread) r
+
+-- what a step ensures: with any such columns, it is the step of the definition
+abbrev pub Steps : (Unread → Routine) → List ℕ → Run → ℕ → Stepped → Type 0
+Steps t sets r v s = (x : Unread) → Walkable (t x) sets → Standing (t x) r → outcome s ≡ stepped (t x) (stateOf r) (r .cost) v

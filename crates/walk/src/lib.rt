@@ -1,17 +1,16 @@
 // A walk (a trace of blocks) through a routine: accepted exactly where it is a finished counted run, with its cost. A step is a few word
 // operations: of the 64 counts only those of the loops that are left, and of the loop that is stepped into, are touched.
 ghost use mathlib.Core.Path.{_≡_};
-ghost use mathlib.Core.Bool.{_||_};
-ghost use Prim.Native.Nat.{_<_, _≤_};
+ghost use mathlib.Core.Bool.{not, _&&_, _||_};
+ghost use Prim.Native.Nat.{ℕ, _<_, _≤_};
 ghost use lib.Dec.{eqb};
-ghost use lib.ListN.{length, getD, drop};
-ghost use Rattle.lists.specs.InPlace.{mapFrom};
-ghost use Rattle.wcet.specs.Rules.{accepted};
+ghost use lib.ListN.{length, getD, set};
+ghost use Rattle.lists.specs.Search.{if_then_else_};
 ghost use Rattle.wcet.specs.Run.{start};
-ghost use Rattle.wcet.specs.Walk.{walked, longestWalk, walkFrom};
 ghost use Rattle.nesting.specs.Columns.{routine};
-ghost use Rattle.walk.specs.Step.{stateOf, stepped, visitsAfter, zeroIn, Walkable, Standing};
-ghost use Rattle.walk.specs.Reply.{meaning, endOf, WalkAnswered};
+ghost use Rattle.loopsets.specs.Sets.{member};
+ghost use Rattle.walk.specs.Step.{stateOf, countIn, edgeAnswer, headerVisits, countAfter, reading, Stands, Steps};
+ghost use Rattle.walk.specs.Reply.{meaning, endOf, entryAnswer, Enters, Follows, WalkAnswered};
 use loopsets::LoopSet;
 use nesting::Structure;
 use nesting::StructureFault;
@@ -19,11 +18,20 @@ use nesting::StructureFault;
 // The longest walk that is accepted, in blocks.
 const LONGEST_WALK: usize = 1048576;
 
-// The state of a run: the block it stands at, the cost of its blocks, and for each loop the visits to its header in the present stay.
+// The state of a run: the block it stands at, the cost of its blocks, and for each loop the visits to its header in the present stay: four
+// counts of 16 bits to a word, loops 0 to 3 in the first, the lowest loop in the lowest bits.
 struct Run {
     at: u16,
     cost: u64,
-    counts: [u32; 64],
+    counts: [u64; 16],
+}
+
+// What the first block answers.
+enum Entry {
+    Entered,
+    Length,
+    NoBlock,
+    NotEntry,
 }
 
 // What a step answers.
@@ -64,29 +72,104 @@ fn has_edge(first: &[u16], second: &[u16], u: usize, v: u16) -> bool
     second[u] == v
 }
 
-// The count of a loop that a step ends in: at its header one visit more, and the first of a new stay where the step comes from outside.
-fn visits_after(count: u32, heading: bool, inside: bool) -> u32
-    requires { ⌜ count ≤ 65535 ⌝ }
-    ensures { λ r. ⌜ r ≡ visitsAfter count heading inside ⌝ }
+// What 302, 311 and 312 say of a step from one block to another, in a routine of n blocks.
+fn edge_answer(n: usize, first: &[u16], second: &[u16], from: usize, v: u16) -> Answer
+    requires { ⌜ (0 < n) × (from < length (now first)) × (from < length (now second)) ⌝ }
+    ensures { λ r. ⌜ r ≡ edgeAnswer n (getD (now (first .entry)) from 0) (getD (now (second .entry)) from 0) from v ⌝ }
 {
-    if heading {
-        if inside { count + 1 } else { 1 }
-    } else {
-        count
+    if n <= v as usize {
+        return Answer::NoBlock;
+    }
+    if from == n - 1 {
+        return Answer::AfterExit;
+    }
+    if !has_edge(first, second, from, v) {
+        return Answer::NoEdge;
+    }
+    Answer::Moved
+}
+
+// Word k of the counts. Here and in `put_word` a loop over all sixteen words, which the compiler unrolls, takes the place of `counts[k]`: so
+// it keeps each word by itself, and a state that is handed on by value is not copied.
+fn word_at(counts: &[u64; 16], k: usize) -> u64
+    requires { ⌜ k < 16 ⌝ }
+    ensures { λ r. ⌜ r ≡ getD (now (counts .entry)) k 0 ⌝ }
+{
+    let mut word = 0;
+    let mut j = 0;
+    while j < 16 {
+        if j == k {
+            word = counts[j];
+        }
+        j += 1;
+    }
+    word
+}
+
+fn put_word(counts: &mut [u64; 16], k: usize, word: u64)
+    requires { ⌜ k < 16 ⌝ }
+    ensures { λ r. ⌜ now (counts .exit) ≡ set (now (counts .entry)) k word ⌝ }
+{
+    let mut j = 0;
+    while j < 16 {
+        if j == k {
+            counts[j] = word;
+        }
+        j += 1;
     }
 }
 
-// Sets the counts of the loops that are left to 0.
-fn reset(counts: &mut [u32; 64], left: LoopSet)
-    requires { ⌜ length (now counts) ≡ 64 ⌝ }
-    ensures { λ r. ⌜ now (counts .exit) ≡ mapFrom (zeroIn left) 0 (now (counts .entry)) ⌝ }
+// The count of loop l.
+fn count_of(counts: &[u64; 16], l: usize) -> u32
+    requires { ⌜ l < 64 ⌝ }
+    ensures { λ r. ⌜ r ≡ countIn (now (counts .entry)) l ⌝ }
 {
-    let mut rest = left;
-    let mut l = rest.lowest();
-    while l < 64 {
-        counts[l] = 0;
-        rest = rest.without_loop(l);
-        l = rest.lowest();
+    ((word_at(counts, l / 4) >> (16 * (l % 4))) % 65536) as u32
+}
+
+fn set_count(counts: &mut [u64; 16], l: usize, count: u32)
+    requires { ⌜ (length (now counts) ≡ 16) × (l < 64) × (count ≤ 65535) ⌝ }
+    ensures { λ r. ⌜ (length (now (counts .exit)) ≡ 16) × ((k : ℕ) → countIn (now (counts .exit)) k ≡ (if eqb k l then count else countIn (now (counts .entry)) k)) ⌝ }
+{
+    let word = word_at(counts, l / 4);
+    let shift = 16 * (l % 4);
+    let old = (word >> shift) % 65536;
+    let new = word - (old << shift) + ((count as u64) << shift);
+    put_word(counts, l / 4, new);
+}
+
+// The visits to the header of loop l in this stay, after a step to it: one more, and the first of a new stay where the step comes from
+// outside. 0 after a step to another block.
+fn header_visits(counts: &[u64; 16], l: usize, heading: bool, inside: bool) -> u32
+    requires { ⌜ l < 64 ⌝ }
+    ensures { λ r. ⌜ r ≡ headerVisits (countIn (now (counts .entry)) l) heading inside ⌝ }
+{
+    if !heading {
+        return 0;
+    }
+    if inside { count_of(counts, l) + 1 } else { 1 }
+}
+
+// The loops whose count changes: those that are left, and l where its header is visited.
+fn recounted(left: LoopSet, l: usize, visits: u32) -> LoopSet
+    requires { ⌜ l < 64 ⌝ }
+    ensures { λ r. ⌜ ((k : ℕ) → member r k ≡ ((not (eqb visits 0) && eqb l k) || member left k)) ⌝ }
+{
+    if visits == 0 { left } else { left.with(l) }
+}
+
+// Sets the counts of the loops that are left to 0, and the count of loop l, where its header is visited, to these visits.
+fn recount(counts: &mut [u64; 16], left: LoopSet, l: usize, visits: u32)
+    requires { ⌜ (length (now counts) ≡ 16) × (l < 64) × (visits ≤ 65535) ⌝ }
+    ensures { λ r. ⌜ (length (now (counts .exit)) ≡ 16) × ((k : ℕ) → k < 64 → countIn (now (counts .exit)) k ≡ countAfter left l visits k (countIn (now (counts .entry)) k)) ⌝ }
+{
+    let mut rest = recounted(left, l, visits);
+    let mut k = rest.lowest();
+    while k < 64 {
+        let count = if k == l { visits } else { 0 };
+        set_count(counts, k, count);
+        rest = rest.without_loop(k);
+        k = rest.lowest();
     }
 }
 
@@ -95,7 +178,7 @@ impl Run {
     fn start(cost: u32) -> Run
         ensures { λ r. ⌜ (stateOf r ≡ start) × (r .cost ≡ cost) ⌝ }
     {
-        let mut counts = [0u32; 64];
+        let mut counts = [0u64; 16];
         counts[0] = 1;
         Run {
             at: 0,
@@ -118,52 +201,60 @@ impl Run {
         WalkReply::Accepted { cost, steps }
     }
 
-    // One block more. The contract speaks of the routine, so it takes all nine columns.
+    // One block more. What it promises holds whatever the columns are that it does not take.
     fn step(
         mut self,
         cost: &[u32],
         loops: &[u16],
         first: &[u16],
         second: &[u16],
-        figure: &[i64],
-        parent: &[u16],
         header: &[u16],
         limit: &[u32],
-        multiplier: &[u64],
         around: &[u64; 64],
         v: u16,
     ) -> Stepped
-        requires { ⌜ Walkable (routine (now cost) (now loops) (now first) (now second) (now figure) (now parent) (now header) (now limit) (now multiplier)) (now around) × Standing (routine (now cost) (now loops) (now first) (now second) (now figure) (now parent) (now header) (now limit) (now multiplier)) self ⌝ }
-        ensures { λ r. ⌜ r ≡ stepped (routine (now (cost .entry)) (now (loops .entry)) (now (first .entry)) (now (second .entry)) (now (figure .entry)) (now (parent .entry)) (now (header .entry)) (now (limit .entry)) (now (multiplier .entry))) self v ⌝ }
+        requires { ⌜ Stands (reading (now cost) (now loops) (now first) (now second) (now header) (now limit)) (now around) self ⌝ }
+        ensures { λ r. ⌜ Steps (reading (now (cost .entry)) (now (loops .entry)) (now (first .entry)) (now (second .entry)) (now (header .entry)) (now (limit .entry))) (now (around .entry)) self v r ⌝ }
     {
         let from = self.at as usize;
         let to = v as usize;
-        if cost.len() <= to {
-            let answer = Answer::NoBlock;
+        let answer = edge_answer(cost.len(), first, second, from, v);
+        let Answer::Moved = answer else {
             return Stepped { run: self, answer };
-        }
-        if from == cost.len() - 1 {
-            let answer = Answer::AfterExit;
-            return Stepped { run: self, answer };
-        }
-        if !has_edge(first, second, from, v) {
-            let answer = Answer::NoEdge;
-            return Stepped { run: self, answer };
-        }
+        };
         let l = loops[to] as usize;
         let here = loopsets::set_at(around, loops[from] as usize);
-        let visits = visits_after(self.counts[l], header[l] == v, here.contains(l));
+        let visits = header_visits(&self.counts, l, header[l] == v, here.contains(l));
         if limit[l] < visits {
             let answer = Answer::OverLimit;
             return Stepped { run: self, answer };
         }
-        self.counts[l] = visits;
-        reset(&mut self.counts, here.without(loopsets::set_at(around, l)));
+        let left = here.without(loopsets::set_at(around, l));
+        recount(&mut self.counts, left, l, visits);
         self.at = v;
         self.cost += cost[to] as u64;
-        let answer = Answer::Moved;
         Stepped { run: self, answer }
     }
+}
+
+// What 301, 302 and 303 say of the first block of a walk, in a routine of n blocks.
+fn first_block(n: usize, blocks: &[u16]) -> Entry
+    ensures { λ r. ⌜ r ≡ entryAnswer n (now (blocks .entry)) ⌝ }
+{
+    if blocks.len() < 1 {
+        return Entry::Length;
+    }
+    if LONGEST_WALK < blocks.len() {
+        return Entry::Length;
+    }
+    let entry = blocks[0] as usize;
+    if n <= entry {
+        return Entry::NoBlock;
+    }
+    if entry != 0 {
+        return Entry::NotEntry;
+    }
+    Entry::Entered
 }
 
 // The reply to a walk that starts at block 0, over tables that keep 201 to 207.
@@ -172,16 +263,13 @@ fn follow(
     loops: &[u16],
     first: &[u16],
     second: &[u16],
-    figure: &[i64],
-    parent: &[u16],
     header: &[u16],
     limit: &[u32],
-    multiplier: &[u64],
     around: &[u64; 64],
     blocks: &[u16],
 ) -> WalkReply
-    requires { ⌜ Walkable (routine (now cost) (now loops) (now first) (now second) (now figure) (now parent) (now header) (now limit) (now multiplier)) (now around) × (0 < length (now blocks)) × (length (now blocks) ≤ longestWalk) × (getD (now blocks) 0 0 ≡ 0) ⌝ }
-    ensures { λ r. ⌜ meaning r ≡ walkFrom (routine (now (cost .entry)) (now (loops .entry)) (now (first .entry)) (now (second .entry)) (now (figure .entry)) (now (parent .entry)) (now (header .entry)) (now (limit .entry)) (now (multiplier .entry))) start 1 (drop 1 (now (blocks .entry))) (accepted (walked (routine (now (cost .entry)) (now (loops .entry)) (now (first .entry)) (now (second .entry)) (now (figure .entry)) (now (parent .entry)) (now (header .entry)) (now (limit .entry)) (now (multiplier .entry))) (now (blocks .entry)))) ⌝ }
+    requires { ⌜ Enters (reading (now cost) (now loops) (now first) (now second) (now header) (now limit)) (now around) (now blocks) ⌝ }
+    ensures { λ r. ⌜ Follows (reading (now (cost .entry)) (now (loops .entry)) (now (first .entry)) (now (second .entry)) (now (header .entry)) (now (limit .entry))) (now (around .entry)) (now (blocks .entry)) (meaning r) ⌝ }
 {
     let run = Run::start(cost[0]);
     let answer = Answer::Moved;
@@ -189,19 +277,7 @@ fn follow(
     let mut i = 1;
     while i < blocks.len() {
         let run = last.run;
-        last = run.step(
-            cost,
-            loops,
-            first,
-            second,
-            figure,
-            parent,
-            header,
-            limit,
-            multiplier,
-            around,
-            blocks[i],
-        );
+        last = run.step(cost, loops, first, second, header, limit, around, blocks[i]);
         let answer = last.answer;
         match answer {
             Answer::Moved => {}
@@ -246,31 +322,13 @@ pub fn walk(
     if let Structure::Broken(fault) = answer {
         return WalkReply::Structure(fault);
     }
-    if blocks.len() < 1 {
-        return WalkReply::Length;
-    }
-    if LONGEST_WALK < blocks.len() {
-        return WalkReply::Length;
-    }
-    let entry = blocks[0] as usize;
-    if cost.len() <= entry {
-        return WalkReply::NoBlock(0);
-    }
-    if entry != 0 {
-        return WalkReply::NotEntry;
+    let entry = first_block(cost.len(), blocks);
+    match entry {
+        Entry::Entered => {}
+        Entry::Length => return WalkReply::Length,
+        Entry::NoBlock => return WalkReply::NoBlock(0),
+        Entry::NotEntry => return WalkReply::NotEntry,
     }
     let around = checked.around;
-    follow(
-        cost,
-        loops,
-        first,
-        second,
-        figure,
-        parent,
-        header,
-        limit,
-        multiplier,
-        &around,
-        blocks,
-    )
+    follow(cost, loops, first, second, header, limit, &around, blocks)
 }

@@ -1,8 +1,10 @@
-use Prim.Native.Nat.{_-_}
-use native.Mathlib.Omega.{arith}
-use lib.ListN.{length}
-use Rattle.nesting.specs.Columns.{routine}
+use Rattle.walk.specs.Step.{stateOf, outcome, stepped, Walkable, Unread, reading}
+use Rattle.wcet.specs.Table.{Routine}
+use lib.ListN.{length, getD}
+use Prim.Native.Nat.{_-_, _<_}
+use mathlib.Core.Path.{_≡_}
 use Rattle.walk.proofs.Walks.{Underway, underway-first, underway-next, standing, end-reply, stop-no-block, stop-after-exit, stop-no-edge, stop-over-limit}
+use native.Mathlib.Omega.{arith}
 use borrow.Author.Needs.{needs}
 use Rattle.walk.proofs.follow.Statement.{statement}
 use Rattle.walk.proofs.follow.Tie as tie
@@ -13,89 +15,138 @@ use Rattle.walk.proofs.Run.start.Reads as start-reads
 use Rattle.walk.proofs.Run.step.Reads as step-reads
 
 abbrev Inv-loop : tie.InvT-loop
-Inv-loop cost loops first second figure parent header limit multiplier around blocks last₀ i₀ last i = Underway (routine cost loops first second figure parent header limit multiplier) blocks (last .run) i
+Inv-loop cost loops first second header limit around blocks last₀ i₀ last i =
+    (x : Unread) → Walkable (reading cost loops first second header limit x) around → Underway (reading cost loops first second header limit x) blocks (last .run) i
 
 abbrev μ-loop : tie.MeasureT-loop
-μ-loop cost loops first second figure parent header limit multiplier around blocks last₀ i₀ last i = length blocks - i
+μ-loop cost loops first second header limit around blocks last₀ i₀ last i = length blocks - i
 
--- src/lib.rt:183:26
+-- the routine of the columns that are read, and of others
+abbrev table : tie.Start Inv-loop μ-loop → Unread → Routine
+table s = let a = s .args in reading (a .cost .now) (a .loops .now) (a .first .now) (a .second .now) (a .header .now) (a .limit .now)
+
+-- where a step has answered
+abbrev entry : tie.After-step Inv-loop μ-loop → tie.Start Inv-loop μ-loop
+entry c = c .before .before .before .before .before .before .before .before .before .before .before .before .before .before
+
+in-walk : (c : tie.After-step Inv-loop μ-loop) → c .before .before .before .before .loop .i < length (entry c .args .blocks .now)
+in-walk c = c .before .before .before .loop-test .taken
+
+module _ (c : tie.After-step Inv-loop μ-loop) (x : Unread) (S : Walkable (table (entry c) x) (entry c .args .around .now)) where
+  before-step : Underway (table (entry c) x) (entry c .args .blocks .now) (c .before .before .before .before .loop .last .run) (c .before .before .before .before .loop .i)
+  before-step = c .before .before .before .before .loop .inv x S
+
+  step-is : outcome (c .step .result) ≡ stepped (table (entry c) x) (stateOf (c .before .before .before .before .loop .last .run)) (c .before .before .before .before .loop .last .run .cost) (getD (entry c .args .blocks .now) (c .before .before .before .before .loop .i) 0)
+  step-is = c .step .ensures x S (standing before-step (omega (arith, in-walk c, entry c .pre .short)))
+
+-- src/lib.rt:281:26
 shared-slice-read-start : tie.Need-shared-slice-read-start Inv-loop μ-loop
-shared-slice-read-start c = search needs
+shared-slice-read-start c = omega (arith, c .before .before .before .before .before .before .before .before .pre .walkable .ranged .sized .some-block)
 
--- src/lib.rt:183:9
+-- src/lib.rt:281:9
 start-requires : tie.Need-start-requires Inv-loop μ-loop
-start-requires c κs = search needs
+start-requires c κs = tt
 
--- src/lib.rt:187:5
+-- src/lib.rt:285:5
 loop-holds : tie.Need-loop-holds Inv-loop μ-loop
-loop-holds c = search (needs, underway-first)
+loop-holds c = λ x S.
+    let s = c .before .before .before .before .before .before .before .before .before in
+    underway-first (table s x) (s .args .around .now) S (s .args .blocks .now) (c .start .result) (s .pre .some) (s .pre .first) (c .start .ensures .0) (c .start .ensures .1)
 
--- src/lib.rt:200:13
+-- src/lib.rt:287:76
 mul-step : tie.Need-mul-step Inv-loop μ-loop
 mul-step c = search needs
 
--- src/lib.rt:200:13
+-- src/lib.rt:287:76
 shared-slice-read-step : tie.Need-shared-slice-read-step Inv-loop μ-loop
 shared-slice-read-step c = search needs
 
--- src/lib.rt:189:9
+-- src/lib.rt:287:9
 step-requires : tie.Need-step-requires Inv-loop μ-loop
-step-requires c κs = (search needs, standing (c .before .before .before .loop .inv) (omega arith))
+step-requires c κs =
+    let p = c .before .before .before .before .before .before .before .before .before .before .before .before .before .pre in
+    let loop = c .before .before .before .loop in
+    record { unread = p .unread; walkable = p .walkable; standing = standing (loop .inv (p .unread) (p .walkable)) (omega (arith, p .short, c .before .before .loop-test .taken)) }
 
 enum-told : tie.Need-enum-told Inv-loop μ-loop
 enum-told c = search needs
 
--- src/lib.rt:205:32
+-- src/lib.rt:291:32
 enum-told-2 : tie.Need-enum-told-2 Inv-loop μ-loop
 enum-told-2 c = search needs
 
--- src/lib.rt:205:32
+-- src/lib.rt:291:32
 returns : tie.Need-returns Inv-loop μ-loop
-returns c = search stop-no-block
+returns c = λ x S.
+    let d = c .before .before in
+    let s = entry d in
+    let loop = d .before .before .before .before .loop in
+    stop-no-block (table s x) (s .args .around .now) S (s .args .blocks .now) (loop .last .run) (loop .i) (before-step d x S) (in-walk d) (d .step .result) (step-is d x S) (search needs)
 
--- src/lib.rt:206:34
+-- src/lib.rt:292:34
 enum-told-3 : tie.Need-enum-told-3 Inv-loop μ-loop
 enum-told-3 c = search needs
 
--- src/lib.rt:206:34
+-- src/lib.rt:292:34
 returns-2 : tie.Need-returns-2 Inv-loop μ-loop
-returns-2 c = search stop-after-exit
+returns-2 c = λ x S.
+    let d = c .before .before in
+    let s = entry d in
+    let loop = d .before .before .before .before .loop in
+    stop-after-exit (table s x) (s .args .around .now) S (s .args .blocks .now) (loop .last .run) (loop .i) (before-step d x S) (in-walk d) (d .step .result) (step-is d x S) (search needs)
 
--- src/lib.rt:207:31
+-- src/lib.rt:293:31
 enum-told-4 : tie.Need-enum-told-4 Inv-loop μ-loop
 enum-told-4 c = search needs
 
--- src/lib.rt:207:31
+-- src/lib.rt:293:31
 returns-3 : tie.Need-returns-3 Inv-loop μ-loop
-returns-3 c = search stop-no-edge
+returns-3 c = λ x S.
+    let d = c .before .before in
+    let s = entry d in
+    let loop = d .before .before .before .before .loop in
+    stop-no-edge (table s x) (s .args .around .now) S (s .args .blocks .now) (loop .last .run) (loop .i) (before-step d x S) (in-walk d) (d .step .result) (step-is d x S) (search needs)
 
--- src/lib.rt:208:34
+-- src/lib.rt:294:34
 enum-told-5 : tie.Need-enum-told-5 Inv-loop μ-loop
 enum-told-5 c = search needs
 
--- src/lib.rt:208:34
+-- src/lib.rt:294:34
 returns-4 : tie.Need-returns-4 Inv-loop μ-loop
-returns-4 c = search stop-over-limit
+returns-4 c = λ x S.
+    let d = c .before .before in
+    let s = entry d in
+    let loop = d .before .before .before .before .loop in
+    stop-over-limit (table s x) (s .args .around .now) S (s .args .blocks .now) (loop .last .run) (loop .i) (before-step d x S) (in-walk d) (d .step .result) (step-is d x S) (search needs)
 
--- src/lib.rt:210:9
+-- src/lib.rt:296:9
 add-i : tie.Need-add-i Inv-loop μ-loop
 add-i c = search needs
 
--- src/lib.rt:187:5
+-- src/lib.rt:285:5
 loop-less : tie.Need-loop-less Inv-loop μ-loop
 loop-less c = search needs
 
--- src/lib.rt:187:5
+-- src/lib.rt:285:5
 loop-again : tie.Need-loop-again Inv-loop μ-loop
-loop-again c = search underway-next
+loop-again c = λ x S.
+    let d = c .before .before in
+    let s = entry d in
+    let loop = d .before .before .before .before .loop in
+    underway-next (table s x) (s .args .around .now) S (s .args .blocks .now) (loop .last .run) (loop .i) (before-step d x S) (in-walk d) (d .step .result) (step-is d x S) (search needs)
 
--- src/lib.rt:213:5
+-- src/lib.rt:299:5
 finish-requires : tie.Need-finish-requires Inv-loop μ-loop
-finish-requires c κs = search needs
+finish-requires c κs =
+    let p = c .before .before .before .before .before .before .before .before .before .before .before .before .pre in
+    (omega (arith, p .walkable .ranged .sized .some-block), c .before .before .loop .inv (p .unread) (p .walkable) .some)
 
--- src/lib.rt:167:1
+-- src/lib.rt:268:1
 returns-5 : tie.Need-returns-5 Inv-loop μ-loop
-returns-5 c = search end-reply
+returns-5 c = λ x S.
+    let s = c .before .before .before .before .before .before .before .before .before .before .before .before .before in
+    let loop = c .before .before .before .loop in
+    end-reply (table s x) (s .args .around .now) S (s .args .blocks .now) (loop .last .run) (loop .i) (loop .inv x S) (omega arith) (c .finish .result) (c .finish .ensures)
 
 pub follow-spec : {M : Type 1} → statement M
 follow-spec =

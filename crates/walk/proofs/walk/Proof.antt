@@ -1,59 +1,87 @@
-use native.Mathlib.Omega.{arith}
-use Rattle.walk.proofs.Replies.{keeps, reply-structure, reply-empty, reply-long, reply-no-block, reply-not-entry, reply-follow}
+use Rattle.walk.specs.Step.{Walkable, Unread, reading}
+use Rattle.walk.specs.declared.Entry.the-variants.{Entered}
+use Rattle.wcet.specs.Table.{Routine}
+use lib.ListN.{length}
+use mathlib.Core.Path.{_≡_, sym, _∙_}
+use Rattle.walk.proofs.Replies.{starts, keeps, reply-structure, reply-length, reply-no-block, reply-not-entry, reply-follow}
 use borrow.Author.Needs.{needs}
 use Rattle.walk.proofs.walk.Statement.{statement}
 use Rattle.walk.proofs.walk.Tie as tie
 use Rattle.walk.proofs.walk.Reads as reads
 use Rattle.walk.proofs.walk.Lts as lts
 use Rattle.nesting.proofs.check_structure.Reads as check-structure-reads
+use Rattle.walk.proofs.first_block.Reads as first-block-reads
 use Rattle.walk.proofs.follow.Reads as follow-reads
 
--- src/lib.rt:245:9
+-- the columns that a walk does not read
+abbrev unread : tie.Start → Unread
+unread s = record { figures = s .args .figure .now; parents = s .args .parent .now; multipliers = s .args .multiplier .now }
+
+abbrev table : tie.Start → Routine
+table s = let a = s .args in reading (a .cost .now) (a .loops .now) (a .first .now) (a .second .now) (a .header .now) (a .limit .now) (unread s)
+
+entered : (c : tie.After-enum-told2) → c .before .before .first-block .result ≡ Entered
+entered c = search needs
+
+walkable : (c : tie.After-around2) → Walkable (table (c .before .before .before .before .before .before .before .before .before .before .before .before .before .before .before .before .before)) (c .before .before .before .before .before .before .before .check-structure .result .around)
+walkable c = search keeps
+
+-- src/lib.rt:317:9
 check-structure-requires : tie.Need-check-structure-requires
 check-structure-requires c κs = search needs
 
--- src/lib.rt:257:30
+-- src/lib.rt:329:30
 enum-known-answer : tie.Need-enum-known-answer
 enum-known-answer c = search needs
 
--- src/lib.rt:258:9
+-- src/lib.rt:330:9
 returns : tie.Need-returns
 returns c = search reply-structure
 
 enum-told : tie.Need-enum-told
 enum-told c = search needs
 
--- src/lib.rt:261:9
+-- src/lib.rt:332:9
+first-block-requires : tie.Need-first-block-requires
+first-block-requires c κs = search needs
+
+enum-told-2 : tie.Need-enum-told-2
+enum-told-2 c = search needs
+
+-- src/lib.rt:335:26
+enum-told-3 : tie.Need-enum-told-3
+enum-told-3 c = search needs
+
+-- src/lib.rt:335:26
 returns-2 : tie.Need-returns-2
-returns-2 c = search reply-empty
+returns-2 c = search reply-length
 
--- src/lib.rt:264:9
+-- src/lib.rt:336:27
+enum-told-4 : tie.Need-enum-told-4
+enum-told-4 c = search needs
+
+-- src/lib.rt:336:27
 returns-3 : tie.Need-returns-3
-returns-3 c = search reply-long
+returns-3 c = search reply-no-block
 
--- src/lib.rt:266:17
-shared-slice-read-entry : tie.Need-shared-slice-read-entry
-shared-slice-read-entry c = search needs
+-- src/lib.rt:337:28
+enum-told-5 : tie.Need-enum-told-5
+enum-told-5 c = search needs
 
--- src/lib.rt:266:17
-cast-entry : tie.Need-cast-entry
-cast-entry c = omega (arith, c .shared-slice-known10 .given 0)
-
--- src/lib.rt:268:9
+-- src/lib.rt:337:28
 returns-4 : tie.Need-returns-4
-returns-4 c = search reply-no-block
+returns-4 c = search reply-not-entry
 
--- src/lib.rt:271:9
-returns-5 : tie.Need-returns-5
-returns-5 c = search reply-not-entry
-
--- src/lib.rt:274:5
+-- src/lib.rt:340:5
 follow-requires : tie.Need-follow-requires
-follow-requires c κs = (search keeps, search needs, search needs, search needs)
+follow-requires c κs =
+    let s = c .before .before .before .before .before .before .before .before .before .before .before .before .before .before .before .before .before in
+    let first = starts (length (s .args .cost .now)) (s .args .blocks .now) (sym (c .before .before .before .before .first-block .ensures) ∙ entered (c .before .before)) in
+    record { unread = unread s; walkable = walkable c; some = first .0; short = first .1; first = first .2 }
 
--- src/lib.rt:231:1
-returns-6 : tie.Need-returns-6
-returns-6 c = search reply-follow
+-- src/lib.rt:303:1
+returns-5 : tie.Need-returns-5
+returns-5 c = search (reply-follow, c .follow .ensures (unread (c .before .before .before .before .before .before .before .before .before .before .before .before .before .before .before .before .before .before)) (walkable (c .before)))
 
 pub walk-spec : {M : Type 1} → statement M
 walk-spec =
@@ -63,11 +91,13 @@ walk-spec =
     enum-known-answer
     returns
     enum-told
+    first-block-requires
+    enum-told-2
+    enum-told-3
     returns-2
+    enum-told-4
     returns-3
-    shared-slice-read-entry
-    cast-entry
+    enum-told-5
     returns-4
-    returns-5
     follow-requires
-    returns-6)
+    returns-5)

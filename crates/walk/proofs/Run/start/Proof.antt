@@ -1,16 +1,16 @@
 use mathlib.Core.Path.{refl}
-use Rattle.walk.proofs.Steps.{start-is}
+use Rattle.walk.proofs.Counts.{start-is}
 use borrow.Author.Needs.{needs}
 use Rattle.walk.proofs.Run.start.Statement.{statement}
 use Rattle.walk.proofs.Run.start.Tie as tie
 use Rattle.walk.proofs.Run.start.Reads as reads
 use Rattle.walk.proofs.Run.start.Lts as lts
 
--- src/lib.rt:78:9
+-- src/lib.rt:205:9
 array-write-counts : tie.Need-array-write-counts
 array-write-counts c = search needs
 
--- src/lib.rt:74:5
+-- src/lib.rt:201:5
 returns : tie.Need-returns
 returns c = (start-is (c .args .cost), refl)
 

@@ -1,9 +1,11 @@
+use Rattle.walk.specs.declared.Answer.the-variants.{Moved}
 use native.Mathlib.Omega.{arith}
-use mathlib.Core.Path.{_≡_, _∙_}
-use lib.ListN.{length, length-set}
-use Rattle.wcet.specs.Table.{Routine, exit}
-use Rattle.nesting.specs.Columns.{routine}
-use Rattle.walk.proofs.Steps.{InStep, in-step, visitsAt, visits-found, counts-next, over-limit, within-limit, step-no-block, step-after-exit, step-no-edge, step-over-limit, step-moved}
+use mathlib.Core.Path.{_≡_, sym, _∙_}
+use borrow.Author.Tests.{lt-ltb, le-ltb}
+use lib.ListN.{length}
+use Rattle.wcet.specs.Table.{Routine}
+use Rattle.walk.specs.Step.{countIn, stateOf, Walkable, Standing, Unread, reading}
+use Rattle.walk.proofs.Steps.{OnEdge, on-edge, InStep, in-step, visitsTo, visits-found, limit-next, counts-next, step-refused, step-over-limit, step-moved}
 use borrow.Author.Needs.{needs}
 use Rattle.walk.proofs.Run.step.Statement.{statement}
 use Rattle.walk.proofs.Run.step.Tie as tie
@@ -12,195 +14,181 @@ use Rattle.walk.proofs.Run.step.Lts as lts
 use Rattle.loopsets.proofs.LoopSet.contains.Reads as contains-reads
 use Rattle.loopsets.proofs.LoopSet.without.Reads as without-reads
 use Rattle.loopsets.proofs.set_at.Reads as set-at-reads
-use Rattle.walk.proofs.has_edge.Reads as has-edge-reads
-use Rattle.walk.proofs.reset.Reads as reset-reads
-use Rattle.walk.proofs.visits_after.Reads as visits-after-reads
+use Rattle.walk.proofs.edge_answer.Reads as edge-answer-reads
+use Rattle.walk.proofs.header_visits.Reads as header-visits-reads
+use Rattle.walk.proofs.recount.Reads as recount-reads
 
--- places on the way: where the edge is found, where the visits are, and where the counts are reset
-abbrev entry : tie.Else3 → tie.Start
-entry c = c .before .before .before .before .before .before .before .before .before .before .before .before
+-- places on the way: where the edge is found, where the visits are, and where the counts are stored
+abbrev entry : tie.After-enum-told → tie.Start
+entry c = c .before .before .before .before .before .before .before .before .before
 
-abbrev found : tie.After-visits-after → tie.Else3
-found c = c .before .before .before .before .before .before .before
+abbrev found : tie.After-header-visits → tie.After-enum-told
+found c = c .before .before .before .before .before .before .before .before
 
-abbrev counted : tie.After-reset → tie.After-visits-after
+abbrev counted : tie.After-recount → tie.After-header-visits
 counted c = c .before .before .before .before .before .before
 
--- the routine of the nine columns
-abbrev table : tie.Start → Routine
-table s = let a = s .args in routine (a .cost .now) (a .loops .now) (a .first .now) (a .second .now) (a .figure .now) (a .parent .now) (a .header .now) (a .limit .now) (a .multiplier .now)
+-- the routine of the columns that are read, and of others
+abbrev table : tie.Start → Unread → Routine
+table s = let a = s .args in reading (a .cost .now) (a .loops .now) (a .first .now) (a .second .now) (a .header .now) (a .limit .now)
 
-size : (s : tie.Start) → length (s .args .t1 .counts) ≡ 64
+size : (s : tie.Start) → length (s .args .t1 .counts) ≡ 16
 size s = search needs
 
-on : (c : tie.Else3) → entry c .args .t1 .at ≡ exit (table (entry c)) → ⊥
-on c = c .before .before .if2 .left
+told : (c : tie.After-enum-told) → c .before .before .edge-answer .result ≡ Moved
+told c = search needs
+
+module _ (c : tie.After-enum-told) (x : Unread) (S : Walkable (table (entry c) x) (entry c .args .around .now)) where
+  on : OnEdge (table (entry c) x) (entry c .args .t1 .at) (entry c .args .v)
+  on =
+      let s = entry c in
+      on-edge (table s x) (S .ranged .sized .few-blocks) (stateOf (s .args .t1)) (s .args .t1 .cost) (s .args .v) (sym (c .before .before .edge-answer .ensures) ∙ told c)
 
 -- what is known once the edge is found
-passed : (c : tie.Else3) → InStep (table (entry c)) (entry c .args .t1) (entry c .args .v)
-passed c =
-    let s = entry c in
-    in-step (table s) (s .args .around .now) (s .pre .0) (s .args .t1) (s .args .v) (s .pre .1) (omega arith) (c .before .has-edge .result) (c .before .has-edge .ensures) (c .if3 .left)
+passed : (c : tie.After-enum-told) → InStep (table (entry c) (entry c .pre .unread)) (entry c .args .t1) (entry c .args .v)
+passed c = let s = entry c in let p = s .pre in in-step (table s (p .unread)) (s .args .around .now) (p .walkable) (s .args .t1) (s .args .v) (p .standing) (on c (p .unread) (p .walkable))
 
 -- the visits that the code finds are those of the definition
-visits : (c : tie.After-visits-after) → c .visits-after .result ≡ visitsAt (table (entry (found c))) (entry (found c) .args .t1) (entry (found c) .args .v)
-visits c =
+visits : (c : tie.After-header-visits) (x : Unread) → let s = entry (found c) in
+    Walkable (table s x) (s .args .around .now) → Standing (table s x) (s .args .t1) → c .header-visits .result ≡ visitsTo (table s x) (stateOf (s .args .t1)) (s .args .v)
+visits c x S stands =
     let s = entry (found c) in
-    visits-found (table s) (s .args .around .now) (s .pre .0) (s .args .t1) (s .args .v) (s .pre .1) (passed (found c) .there) (c .before .before .before .before .set-at .result) (c .before .contains .result) (c .visits-after .result)
-    (c .before .before .before .before .set-at .ensures) (c .before .contains .ensures) (c .visits-after .ensures)
+    let here = c .before .before .before .before .before .set-at in
+    visits-found (table s x) (s .args .around .now) S (stateOf (s .args .t1)) (s .args .v) (stands .at-block) (on (found c) x S .there) (here .result) (c .before .contains .result) (c .header-visits .result)
+    (here .ensures) (c .before .contains .ensures) (c .header-visits .ensures)
 
--- src/lib.rt:136:20
+-- src/lib.rt:222:20
 cast-from : tie.Need-cast-from
 cast-from c = search needs
 
--- src/lib.rt:140:13
+-- src/lib.rt:224:13
+edge-answer-requires : tie.Need-edge-answer-requires
+edge-answer-requires c κs = search needs
+
+enum-told : tie.Need-enum-told
+enum-told c = search needs
+
+-- src/lib.rt:226:13
 returns : tie.Need-returns
-returns c = search step-no-block
+returns c = λ x S stands.
+    let s = c .before .before .before .before .before .before .before .before in
+    step-refused (table s x) (S .ranged .sized .few-blocks) (stateOf (s .args .t1)) (s .args .t1 .cost) (s .args .v) (c .before .edge-answer .result) (c .before .edge-answer .ensures) (c .match .keys2)
 
--- src/lib.rt:142:20
-sub-if2 : tie.Need-sub-if2
-sub-if2 c = search needs
-
--- src/lib.rt:144:13
-returns-2 : tie.Need-returns-2
-returns-2 c = search step-after-exit
-
--- src/lib.rt:146:13
-has-edge-requires : tie.Need-has-edge-requires
-has-edge-requires c κs = search needs
-
--- src/lib.rt:148:13
-returns-3 : tie.Need-returns-3
-returns-3 c =
-    let s = c .before .before .before .before .before .before .before .before .before .before .before .before in
-    step-no-edge (table s) (s .args .t1) (s .args .v) (omega arith) (c .before .before .if2 .left) (s .args .around .now) (s .pre .0) (c .before .has-edge .result) (c .before .has-edge .ensures) (c .if3 .taken)
-
--- src/lib.rt:150:17
+-- src/lib.rt:228:17
 mul-l : tie.Need-mul-l
 mul-l c = search needs
 
--- src/lib.rt:150:17
+-- src/lib.rt:228:17
 shared-slice-read-l : tie.Need-shared-slice-read-l
-shared-slice-read-l c = search needs
+shared-slice-read-l c = omega (arith, passed (c .before))
 
--- src/lib.rt:150:17
+-- src/lib.rt:228:17
 cast-l : tie.Need-cast-l
 cast-l c = omega (arith, passed (c .before))
 
--- src/lib.rt:151:45
+-- src/lib.rt:229:45
 mul-set-at : tie.Need-mul-set-at
 mul-set-at c = search needs
 
--- src/lib.rt:151:45
+-- src/lib.rt:229:45
 shared-slice-read-set-at : tie.Need-shared-slice-read-set-at
 shared-slice-read-set-at c = search needs
 
--- src/lib.rt:151:45
+-- src/lib.rt:229:45
 cast-set-at : tie.Need-cast-set-at
 cast-set-at c = omega (arith, passed (c .before .before))
 
--- src/lib.rt:151:13
+-- src/lib.rt:229:13
 set-at-requires : tie.Need-set-at-requires
 set-at-requires c κs = omega (arith, passed (c .before .before))
 
--- src/lib.rt:152:35
-mul-visits-after : tie.Need-mul-visits-after
-mul-visits-after c = omega (arith, passed (c .before .before .before))
+-- src/lib.rt:230:53
+mul-header-visits : tie.Need-mul-header-visits
+mul-header-visits c = omega (arith, passed (c .before .before .before .before .before))
 
--- src/lib.rt:152:35
-element-copy-out-visits-after : tie.Need-element-copy-out-visits-after
-element-copy-out-visits-after c = omega (arith, passed (c .before .before .before))
+-- src/lib.rt:230:53
+shared-slice-read-header-visits : tie.Need-shared-slice-read-header-visits
+shared-slice-read-header-visits c = omega (arith, passed (c .before .before .before .before .before .before))
 
--- src/lib.rt:152:51
-mul-visits-after-2 : tie.Need-mul-visits-after-2
-mul-visits-after-2 c = omega (arith, passed (c .before .before .before .before))
-
--- src/lib.rt:152:51
-shared-slice-read-visits-after : tie.Need-shared-slice-read-visits-after
-shared-slice-read-visits-after c = omega (arith, passed (c .before .before .before .before .before))
-
--- src/lib.rt:152:67
+-- src/lib.rt:230:69
 contains-requires : tie.Need-contains-requires
-contains-requires c κs = omega (arith, passed (c .before .before .before .before .before))
+contains-requires c κs = omega (arith, passed (c .before .before .before .before .before .before))
 
--- src/lib.rt:152:13
-visits-after-requires : tie.Need-visits-after-requires
-visits-after-requires c κs = omega (arith, passed (c .before .before .before .before .before .before))
+-- src/lib.rt:230:13
+header-visits-requires : tie.Need-header-visits-requires
+header-visits-requires c κs = omega (arith, passed (c .before .before .before .before .before .before .before))
 
--- src/lib.rt:153:12
-mul-if4 : tie.Need-mul-if4
-mul-if4 c = omega (arith, passed (found c))
+-- src/lib.rt:231:12
+mul-if1 : tie.Need-mul-if1
+mul-if1 c = omega (arith, passed (found c))
 
--- src/lib.rt:153:12
-shared-slice-read-if4 : tie.Need-shared-slice-read-if4
-shared-slice-read-if4 c = omega (arith, passed (found (c .before)))
+-- src/lib.rt:231:12
+shared-slice-read-if1 : tie.Need-shared-slice-read-if1
+shared-slice-read-if1 c = omega (arith, passed (found (c .before)))
 
--- src/lib.rt:155:13
-returns-4 : tie.Need-returns-4
-returns-4 c =
+-- src/lib.rt:233:13
+returns-2 : tie.Need-returns-2
+returns-2 c = λ x S stands.
     let p = c .before .before in
     let s = entry (found p) in
-    let in-range = passed (found p) in
-    step-over-limit (table s) (s .args .t1) (s .args .v) (in-range .block) (on (found p)) (in-range .there)
-    (over-limit (table s) (s .args .around .now) (s .pre .0) (s .args .t1) (s .args .v) (s .pre .1) (in-range .there) (p .visits-after .result) (visits p) (c .if4 .taken))
+    let E = on (found p) x S in
+    step-over-limit (table s x) (stateOf (s .args .t1)) (s .args .t1 .cost) (s .args .v) E
+    (limit-next (table s x) (s .args .around .now) S (stateOf (s .args .t1)) (s .args .v) (stands .at-block) (E .there) (stands .within) ∙ rw (← visits p x S stands) (lt-ltb _ _ (c .if1 .taken)))
 
--- src/lib.rt:157:9
-mul-self : tie.Need-mul-self
-mul-self c = omega (arith, passed (found (c .before .before)))
-
--- src/lib.rt:157:9
-element-write-self : tie.Need-element-write-self
-element-write-self c = omega (arith, passed (found (c .before .before)))
-
--- src/lib.rt:158:46
+-- src/lib.rt:237:26
 set-at-requires-2 : tie.Need-set-at-requires-2
-set-at-requires-2 c κs = omega (arith, passed (found (c .before .before .before)))
+set-at-requires-2 c κs = omega (arith, passed (found (c .before .before)))
 
--- src/lib.rt:158:33
+-- src/lib.rt:237:13
 without-requires : tie.Need-without-requires
 without-requires c κs = search needs
 
--- src/lib.rt:158:9
-reset-requires : tie.Need-reset-requires
-reset-requires c κs = rw length-set (size (entry (found (c .before .before .before .before .before))))
+-- src/lib.rt:235:9
+recount-requires : tie.Need-recount-requires
+recount-requires c κs =
+    let p = found (c .before .before .before .before .before) in
+    (size (entry p), omega (arith, passed p), omega (arith, passed p))
 
--- src/lib.rt:160:22
-mul-self-2 : tie.Need-mul-self-2
-mul-self-2 c = omega (arith, passed (found (counted c)))
+-- src/lib.rt:242:22
+mul-self : tie.Need-mul-self
+mul-self c = omega (arith, passed (found (counted c)))
 
--- src/lib.rt:160:22
+-- src/lib.rt:242:22
 shared-slice-read-self : tie.Need-shared-slice-read-self
 shared-slice-read-self c = omega (arith, passed (found (counted (c .before))))
 
--- src/lib.rt:160:22
+-- src/lib.rt:242:22
 cast-self : tie.Need-cast-self
 cast-self c = omega (arith, passed (found (counted (c .before))))
 
--- src/lib.rt:160:9
+-- src/lib.rt:242:9
 add-self : tie.Need-add-self
 add-self c = omega (arith, passed (found (counted (c .before))))
 
--- src/lib.rt:119:5
-returns-5 : tie.Need-returns-5
-returns-5 c =
+-- src/lib.rt:208:5
+returns-3 : tie.Need-returns-3
+returns-3 c = λ x S stands.
     let p = counted (c .before) in
     let s = entry (found p) in
-    let in-range = passed (found p) in
-    step-moved (table s) (s .args .t1) (s .args .v) (in-range .block) (on (found p)) (in-range .there)
-    (within-limit (table s) (s .args .around .now) (s .pre .0) (s .args .t1) (s .args .v) (s .pre .1) (in-range .there) (p .visits-after .result) (visits p) (c .before .before .before .before .before .if4 .left))
-    _
-    (c .before .reset .ensures ∙ counts-next (table s) (s .args .around .now) (s .pre .0) (s .args .t1 .at) (s .args .v) (s .pre .1 .at-block) (in-range .there) (c .before .before .before .before .before .before .before .before .before .before .before .set-at .result) (c .before .before .before .set-at2 .result) (c .before .before .without .result) (c .before .before .before .before .before .before .before .before .before .before .before .set-at .ensures) (c .before .before .before .set-at2 .ensures) (c .before .before .without .ensures) (s .args .t1 .counts) (p .visits-after .result) (size s) (visits p))
+    let E = on (found p) x S in
+    let stored = c .before .recount in
+    let here = p .before .before .before .before .before .set-at in
+    let next = c .before .before .before .before .set-at2 in
+    let left = c .before .before .before .without in
+    step-moved (table s x) (stateOf (s .args .t1)) (s .args .t1 .cost) (s .args .v) E
+    (limit-next (table s x) (s .args .around .now) S (stateOf (s .args .t1)) (s .args .v) (stands .at-block) (E .there) (stands .within) ∙ rw (← visits p x S stands) (le-ltb _ _ (c .before .before .before .before .before .if1 .left)))
+    (found p .before .before .edge-answer .result) (told (found p)) (countIn (stored .last .0))
+    (counts-next (table s x) (s .args .around .now) S (s .args .t1 .at) (s .args .v) (stands .at-block) (E .there) (here .result) (next .result) (left .result) (here .ensures) (next .ensures) (left .ensures)
+    (s .args .t1 .counts) (stored .last .0) (p .header-visits .result) (size s) (stored .ensures .0) (visits p x S stands) (stored .ensures .1))
 
 pub step-spec : {M : Type 1} → statement M
 step-spec =
     tie.close
     (tie.spec
     cast-from
+    edge-answer-requires
+    enum-told
     returns
-    sub-if2
-    returns-2
-    has-edge-requires
-    returns-3
     mul-l
     shared-slice-read-l
     cast-l
@@ -208,22 +196,18 @@ step-spec =
     shared-slice-read-set-at
     cast-set-at
     set-at-requires
-    mul-visits-after
-    element-copy-out-visits-after
-    mul-visits-after-2
-    shared-slice-read-visits-after
+    mul-header-visits
+    shared-slice-read-header-visits
     contains-requires
-    visits-after-requires
-    mul-if4
-    shared-slice-read-if4
-    returns-4
-    mul-self
-    element-write-self
+    header-visits-requires
+    mul-if1
+    shared-slice-read-if1
+    returns-2
     set-at-requires-2
     without-requires
-    reset-requires
-    mul-self-2
+    recount-requires
+    mul-self
     shared-slice-read-self
     cast-self
     add-self
-    returns-5)
+    returns-3)

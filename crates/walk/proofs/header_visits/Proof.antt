@@ -1,0 +1,31 @@
+use Rattle.walk.proofs.Counts.{count-most}
+use native.Mathlib.Omega.{arith}
+use borrow.Author.Needs.{needs}
+use Rattle.walk.proofs.header_visits.Statement.{statement}
+use Rattle.walk.proofs.header_visits.Tie as tie
+use Rattle.walk.proofs.header_visits.Reads as reads
+use Rattle.walk.proofs.header_visits.Lts as lts
+use Rattle.walk.proofs.count_of.Reads as count-of-reads
+
+-- src/lib.rt:171:9
+returns : tie.Need-returns
+returns c = search needs
+
+-- src/lib.rt:173:17
+count-of-requires : tie.Need-count-of-requires
+count-of-requires c κs = search needs
+
+-- src/lib.rt:173:17
+add-result : tie.Need-add-result
+add-result c = record { fits = omega (arith, c .count-of .ensures, count-most (c .before .before .before .args .counts .now) (c .before .before .before .args .l)) }
+
+-- src/lib.rt:166:1
+returns-2 : tie.Need-returns-2
+returns-2 c = rw (c .before .before .if1 .left, c .before .if2 .taken, c .count-of .ensures)
+
+-- src/lib.rt:166:1
+returns-3 : tie.Need-returns-3
+returns-3 c = search needs
+
+pub header-visits-spec : {M : Type 1} → statement M
+header-visits-spec = tie.close (tie.spec returns count-of-requires add-result returns-2 returns-3)

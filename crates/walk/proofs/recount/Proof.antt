@@ -1,0 +1,107 @@
+use Rattle.lists.specs.Search.{if_then_else_}
+use lib.Dec.{eqb}
+use borrow.Author.Tests.{eq-eqb, ne-eqb}
+use mathlib.Core.Logic.{⊎-elim}
+use Prim.Native.Nat.{ℕ, _-_, _≤_, _<_}
+use Rattle.walk.proofs.Recounts.{newCount, none-left, one-less, rises, all-changed}
+use Rattle.walk.specs.Step.{countIn}
+use Rattle.loopsets.specs.Sets.{LowestOf}
+use lib.ListN.{length}
+use native.Mathlib.Omega.{arith}
+use mathlib.Core.Path.{_≡_, refl, sym, _∙_}
+use borrow.Author.Needs.{needs}
+use Rattle.walk.proofs.recount.Statement.{statement}
+use Rattle.walk.proofs.recount.Tie as tie
+use Rattle.walk.proofs.recount.Reads as reads
+use Rattle.walk.proofs.recount.Lts as lts
+use Rattle.loopsets.proofs.LoopSet.lowest.Reads as lowest-reads
+use Rattle.loopsets.proofs.LoopSet.without_loop.Reads as without-loop-reads
+use Rattle.walk.proofs.recounted.Reads as recounted-reads
+use Rattle.walk.proofs.set_count.Reads as set-count-reads
+
+abbrev Inv-loop : tie.InvT-loop
+Inv-loop counts₀ l visits rest₀ k₀ counts rest k =
+    (length counts ≡ 16) × LowestOf rest k × ((j : ℕ) → j < 64 → newCount l visits rest₀ j (countIn counts₀ j) ≡ newCount l visits rest j (countIn counts j))
+
+abbrev μ-loop : tie.MeasureT-loop
+μ-loop counts₀ l visits rest₀ k₀ counts rest k = 64 - k
+
+-- the count that is stored
+count-is : (c : tie.Joined1 Inv-loop μ-loop) → let s = c .before .before .before .before .before in
+    c .if1 .count ≡ (if eqb (c .before .before .loop .k) (s .args .l) then s .args .visits else 0)
+count-is c = ⊎-elim (λ w. w .1 ∙ rw (eq-eqb _ _ (w .0 .taken))) (λ w. w .1 ∙ rw (ne-eqb _ _ (w .0 .left))) (c .if1 .came)
+
+count-most : (c : tie.Joined1 Inv-loop μ-loop) → c .if1 .count ≤ 65535
+count-most c = ⊎-elim (λ w. omega (arith, w .1)) (λ w. omega (arith, w .1)) (c .if1 .came)
+
+-- src/lib.rt:169:9
+recounted-requires : tie.Need-recounted-requires Inv-loop μ-loop
+recounted-requires c κs = search needs
+
+-- src/lib.rt:170:9
+lowest-requires : tie.Need-lowest-requires Inv-loop μ-loop
+lowest-requires c κs = search needs
+
+-- src/lib.rt:171:5
+loop-holds : tie.Need-loop-holds Inv-loop μ-loop
+loop-holds c = (c .before .before .pre .0, c .lowest .ensures, λ j h. refl)
+
+-- src/lib.rt:173:9
+set-count-requires : tie.Need-set-count-requires Inv-loop μ-loop
+set-count-requires c κs = (c .before .before .before .loop .inv .0, omega arith, count-most (c .before))
+
+-- src/lib.rt:174:9
+without-loop-requires : tie.Need-without-loop-requires Inv-loop μ-loop
+without-loop-requires c κs = search needs
+
+-- src/lib.rt:175:9
+lowest-requires-2 : tie.Need-lowest-requires-2 Inv-loop μ-loop
+lowest-requires-2 c κs = search needs
+
+-- src/lib.rt:171:5
+loop-less : tie.Need-loop-less Inv-loop μ-loop
+loop-less c =
+    let a = c .before .before .before .before .before .before .before .before .before .args in
+    let loop = c .before .before .before .before .before .before .loop in
+    omega (arith, rises (a .l) (a .visits) (loop .counts) (loop .rest) (loop .k) (loop .inv .1) (c .before .without-loop .result) (c .before .before .before .before .before .loop-test .taken) (c .before .without-loop .ensures) (c .lowest2 .result) (c .lowest2 .ensures))
+
+-- src/lib.rt:171:5
+loop-again : tie.Need-loop-again Inv-loop μ-loop
+loop-again c =
+    let a = c .before .before .before .before .before .before .before .before .before .args in
+    let loop = c .before .before .before .before .before .before .loop in
+    let set = c .before .before .set-count in (
+      set .ensures .0,
+      c .lowest2 .ensures,
+      λ j h.
+          loop .inv .2 j h
+          ∙ one-less (a .l) (a .visits) (loop .counts) (loop .rest) (loop .k) (loop .inv .1) (c .before .without-loop .result) (c .before .before .before .before .before .loop-test .taken) (c .before .without-loop .ensures) (set .last .0)
+          (λ i. set .ensures .1 i ∙ rw (count-is (c .before .before .before .before))) j h,
+    )
+
+-- src/lib.rt:165:1
+returns : tie.Need-returns Inv-loop μ-loop
+returns c =
+    let a = c .before .before .before .before .args in
+    let loop = c .before .loop in (
+      loop .inv .0,
+      λ k h.
+          sym (loop .inv .2 k h ∙ none-left (a .l) (a .visits) (loop .counts) (loop .rest) (loop .k) (loop .inv .1) (omega arith) k h)
+          ∙ all-changed (a .left) (c .before .before .before .recounted .result) (a .l) (a .visits) k (countIn (a .counts .now) k) (c .before .before .before .recounted .ensures k),
+    )
+
+pub recount-spec : {M : Type 1} → statement M
+recount-spec =
+    tie.close
+    (tie.spec
+    Inv-loop
+    μ-loop
+    recounted-requires
+    lowest-requires
+    loop-holds
+    set-count-requires
+    without-loop-requires
+    lowest-requires-2
+    loop-less
+    loop-again
+    returns)
