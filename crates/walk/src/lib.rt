@@ -147,7 +147,8 @@ fn header_visits(counts: &[u64; 16], l: usize, heading: bool, inside: bool) -> u
     if !heading {
         return 0;
     }
-    if inside { count_of(counts, l) + 1 } else { 1 }
+    let count = count_of(counts, l);
+    if inside { count + 1 } else { 1 }
 }
 
 // The loops whose count changes: those that are left, and l where its header is visited.

@@ -17,15 +17,15 @@ count-of-requires c κs = search needs
 
 -- src/lib.rt:173:17
 add-result : tie.Need-add-result
-add-result c = record { fits = omega (arith, c .count-of .ensures, count-most (c .before .before .before .args .counts .now) (c .before .before .before .args .l)) }
+add-result c = record { fits = omega (arith, c .before .count-of .ensures, count-most (c .before .before .before .args .counts .now) (c .before .before .before .args .l)) }
 
 -- src/lib.rt:166:1
 returns-2 : tie.Need-returns-2
-returns-2 c = rw (c .before .before .if1 .left, c .before .if2 .taken, c .count-of .ensures)
+returns-2 c = rw (c .before .before .if1 .left, c .if2 .taken, c .before .count-of .ensures)
 
 -- src/lib.rt:166:1
 returns-3 : tie.Need-returns-3
-returns-3 c = search needs
+returns-3 c = rw (c .before .before .if1 .left, c .if2 .left)
 
 pub header-visits-spec : {M : Type 1} → statement M
 header-visits-spec = tie.close (tie.spec returns count-of-requires add-result returns-2 returns-3)
