@@ -1,3 +1,2 @@
 pub mod Tests
 pub mod Search
-pub mod InPlace

@@ -1,3 +1,2 @@
 -- The definitions, in reading order.
 pub mod Search
-pub mod InPlace

@@ -1,6 +1,5 @@
 -- Four counts of 16 bits in a word: what storing one makes of all of them. Assumes nothing.
 use mathlib.Core.Path.{_≡_, refl, ap, fun-ext}
-use mathlib.Core.Bool.{Bool, true, false}
 use mathlib.Core.List.{List, _∷_}
 use Prim.Native.Nat.{ℕ, zero, suc, _+_, _-_, _*_, _/_, _%_, _^_, _≤_, _<_}
 use native.Mathlib.Decide.{ℕ-discrete}
@@ -11,7 +10,6 @@ use lib.ListN.{length, getD, set, replicate, List·getD-eq-default}
 use lib.Seq.{getD-set-same, getD-set-other}
 use Rattle.lists.specs.Search.{if_then_else_}
 use Rattle.wcet.specs.Run.{start}
-use Rattle.walk.specs.declared.Run.{Run}
 use Rattle.walk.specs.Step.{countIn, stateOf}
 
 -- the count at place j of a word

@@ -63,7 +63,7 @@ loop-less : tie.Need-loop-less Inv-loop μ-loop
 loop-less c =
     let a = c .before .before .before .before .before .before .before .before .before .args in
     let loop = c .before .before .before .before .before .before .loop in
-    omega (arith, rises (a .l) (a .visits) (loop .counts) (loop .rest) (loop .k) (loop .inv .1) (c .before .without-loop .result) (c .before .before .before .before .before .loop-test .taken) (c .before .without-loop .ensures) (c .lowest2 .result) (c .lowest2 .ensures))
+    omega (arith, rises (a .l) (a .visits) (loop .counts) (loop .rest) (loop .k) (loop .inv .1) (c .before .without-loop .result) (omega (arith, c .before .before .before .before .before .loop-test .taken)) (c .before .without-loop .ensures) (c .lowest2 .result) (c .lowest2 .ensures))
 
 -- src/lib.rt:171:5
 loop-again : tie.Need-loop-again Inv-loop μ-loop
@@ -75,7 +75,7 @@ loop-again c =
       c .lowest2 .ensures,
       λ j h.
           loop .inv .2 j h
-          ∙ one-less (a .l) (a .visits) (loop .counts) (loop .rest) (loop .k) (loop .inv .1) (c .before .without-loop .result) (c .before .before .before .before .before .loop-test .taken) (c .before .without-loop .ensures) (set .last .0)
+          ∙ one-less (a .l) (a .visits) (loop .counts) (loop .rest) (loop .k) (loop .inv .1) (c .before .without-loop .result) (omega (arith, c .before .before .before .before .before .loop-test .taken)) (c .before .without-loop .ensures) (set .last .0)
           (λ i. set .ensures .1 i ∙ rw (count-is (c .before .before .before .before))) j h,
     )
 
