@@ -184,12 +184,13 @@ fn width_of(x: Ending) -> usize
     }
 }
 
-// Notes x at place i of eight, if there is such a place.
-fn put(places: &mut [usize; 8], i: usize, x: usize)
-    ensures { λ _. ⌜ now (places .exit) ≡ note (now (places .entry)) i x ⌝ }
+// Notes the bounds of field i, if it is one of the first eight.
+fn note_bounds(starts: &mut [usize; 8], ends: &mut [usize; 8], i: usize, from: usize, to: usize)
+    ensures { λ _. ⌜ (now (starts .exit) ≡ note (now (starts .entry)) i from) × (now (ends .exit) ≡ note (now (ends .entry)) i to) ⌝ }
 {
     if i < 8 {
-        places[i] = x;
+        starts[i] = from;
+        ends[i] = to;
     }
 }
 
@@ -204,14 +205,12 @@ pub fn scan_record(text: &[u8], at: usize) -> Split
     loop {
         match field_end(text, p) {
             Found::Comma(e) => {
-                put(&mut starts, count, p);
-                put(&mut ends, count, e);
+                note_bounds(&mut starts, &mut ends, count, p, e);
                 count += 1;
                 p = e + 1;
             }
             Found::Ends(x, e) => {
-                put(&mut starts, count, p);
-                put(&mut ends, count, e);
+                note_bounds(&mut starts, &mut ends, count, p, e);
                 return Split {
                     starts,
                     ends,
@@ -402,13 +401,28 @@ pub fn i64_of(w: &[u8]) -> SignedValue
     integer_of(inner_part(w))
 }
 
+// Where a run of digits from `at` on stops at the latest: at the end of the text, or behind 19 digits.
+fn run_limit(length: usize, at: usize) -> usize
+    ensures { λ r. ⌜ (r ≤ length) × (r - at ≤ 19) ⌝ }
+{
+    if at >= length {
+        return length;
+    }
+    if length - at <= 19 {
+        length
+    } else {
+        at + 19
+    }
+}
+
 // The digits that stand at `at`: no more than 19, so that their number fits.
 fn digit_run(text: &[u8], at: usize) -> Run
     ensures { λ r. ⌜ RunAt (now (text .entry)) at r ⌝ }
 {
+    let limit = run_limit(text.len(), at);
     let mut n: u64 = 0;
     let mut i = at;
-    while i < text.len() {
+    while i < limit {
         let b = text[i];
         if b < b'0' {
             return Run { value: n, end: i };
@@ -416,10 +430,7 @@ fn digit_run(text: &[u8], at: usize) -> Run
         if b > b'9' {
             return Run { value: n, end: i };
         }
-        if i - at >= 19 {
-            return Run { value: n, end: i };
-        }
-        n = n * 10 + (b - b'0') as u64;
+        n = n * 10 + (b as u64 - 48);
         i += 1;
     }
     Run { value: n, end: i }

@@ -11,7 +11,7 @@ use Rattle.csv.proofs.scan_record.Tie as tie
 use Rattle.csv.proofs.scan_record.Reads as reads
 use Rattle.csv.proofs.scan_record.Lts as lts
 use Rattle.csv.proofs.field_end.Reads as field-end-reads
-use Rattle.csv.proofs.put.Reads as put-reads
+use Rattle.csv.proofs.note_bounds.Reads as note-bounds-reads
 use Rattle.csv.proofs.width_of.Reads as width-of-reads
 
 abbrev Inv-loop : tie.InvT-loop
@@ -21,8 +21,8 @@ abbrev μ-loop : tie.MeasureT-loop
 μ-loop text at starts₀ ends₀ count₀ p₀ starts ends count p = length text - p
 
 -- the field lies in the text, with the comma behind it
-range : (c : tie.After-put2 Inv-loop μ-loop) → (c .before .before .before .before .before .before .before .before .loop .p ≤ c .before .before .before .before .before .e .given .0 .0) × (c .before .before .before .before .before .e .given .0 .0 < length (c .before .before .before .before .before .before .before .before .before .before .args .text .now))
-range c = comma-range (c .before .before .before .before .before .before .before .before .before .before .args .text .now) (c .before .before .before .before .before .before .before .before .loop .p) (c .before .before .before .before .before .before .before .field-end .ensures) (c .before .before .before .before .before .e .given .0 .0) (c .before .before .before .before .before .e .given .1)
+range : (c : tie.After-note-bounds Inv-loop μ-loop) → (c .before .before .before .before .before .before .before .loop .p ≤ c .before .before .before .before .e .given .0 .0) × (c .before .before .before .before .e .given .0 .0 < length (c .before .before .before .before .before .before .before .before .before .args .text .now))
+range c = comma-range (c .before .before .before .before .before .before .before .before .before .args .text .now) (c .before .before .before .before .before .before .before .loop .p) (c .before .before .before .before .before .before .field-end .ensures) (c .before .before .before .before .e .given .0 .0) (c .before .before .before .before .e .given .1)
 
 loop-holds : tie.Need-loop-holds Inv-loop μ-loop
 loop-holds c = search needs
@@ -33,11 +33,8 @@ field-end-requires c κs = search needs
 enum-known-e : tie.Need-enum-known-e Inv-loop μ-loop
 enum-known-e c = search needs
 
-put-requires : tie.Need-put-requires Inv-loop μ-loop
-put-requires c κs = search needs
-
-put-requires-2 : tie.Need-put-requires-2 Inv-loop μ-loop
-put-requires-2 c κs = search needs
+note-bounds-requires : tie.Need-note-bounds-requires Inv-loop μ-loop
+note-bounds-requires c κs = search needs
 
 add-count : tie.Need-add-count Inv-loop μ-loop
 add-count c = omega (arith, range c)
@@ -53,17 +50,14 @@ loop-again c = (
   omega (arith, range c),
   omega (arith, range c),
   omega (arith, range c),
-  scan-comma (c .before .before .before .before .before .before .before .before .before .before .args .text .now) (c .before .before .before .before .before .before .before .before .loop .p) (c .before .before .before .before .before .before .before .field-end .ensures) (c .before .before .before .before .before .e .given .0 .0) (c .before .before .before .before .before .e .given .1) (c .before .before .before .before .before .before .before .before .loop .starts) (c .before .before .before .before .before .before .before .before .loop .ends) (c .before .before .before .before .before .before .before .before .loop .count) (c .before .before .put .ensures) (c .put2 .ensures) (c .before .before .before .before .before .before .before .before .loop .inv .3),
+  scan-comma (c .before .before .before .before .before .before .before .before .before .args .text .now) (c .before .before .before .before .before .before .before .loop .p) (c .before .before .before .before .before .before .field-end .ensures) (c .before .before .before .before .e .given .0 .0) (c .before .before .before .before .e .given .1) (c .before .before .before .before .before .before .before .loop .starts) (c .before .before .before .before .before .before .before .loop .ends) (c .before .before .before .before .before .before .before .loop .count) (c .note-bounds .ensures .0) (c .note-bounds .ensures .1) (c .before .before .before .before .before .before .before .loop .inv .3),
 )
 
 enum-known-x : tie.Need-enum-known-x Inv-loop μ-loop
 enum-known-x c = search needs
 
-put-requires-3 : tie.Need-put-requires-3 Inv-loop μ-loop
-put-requires-3 c κs = search needs
-
-put-requires-4 : tie.Need-put-requires-4 Inv-loop μ-loop
-put-requires-4 c κs = search needs
+note-bounds-requires-2 : tie.Need-note-bounds-requires-2 Inv-loop μ-loop
+note-bounds-requires-2 c κs = search needs
 
 add-t19 : tie.Need-add-t19 Inv-loop μ-loop
 add-t19 c = search needs
@@ -73,11 +67,11 @@ width-of-requires c κs = search needs
 
 add-t21 : tie.Need-add-t21 Inv-loop μ-loop
 add-t21 c =
-    let ranged = ends-range (c .before .before .before .before .before .before .before .before .before .before .before .args .text .now) (c .before .before .before .before .before .before .before .before .before .loop .p) (c .before .before .before .before .before .before .before .before .field-end .ensures) (c .before .before .before .before .before .before .x .given .0 .0) (c .before .before .before .before .before .before .x .given .0 .1 .0) (c .before .before .before .before .before .before .x .given .1) (c .width-of .result) (c .width-of .ensures) in
+    let ranged = ends-range (c .before .before .before .before .before .before .before .before .before .before .args .text .now) (c .before .before .before .before .before .before .before .before .loop .p) (c .before .before .before .before .before .before .before .field-end .ensures) (c .before .before .before .before .before .x .given .0 .0) (c .before .before .before .before .before .x .given .0 .1 .0) (c .before .before .before .before .before .x .given .1) (c .width-of .result) (c .width-of .ensures) in
     omega (arith, ranged)
 
 returns : tie.Need-returns Inv-loop μ-loop
-returns c = scan-ends (c .before .before .before .before .before .before .before .before .before .before .before .args .text .now) (c .before .before .before .before .before .before .before .before .before .loop .p) (c .before .before .before .before .before .before .before .before .field-end .ensures) (c .before .before .before .before .before .before .x .given .0 .0) (c .before .before .before .before .before .before .x .given .0 .1 .0) (c .before .before .before .before .before .before .x .given .1) (c .before .before .before .before .before .before .before .before .before .loop .starts) (c .before .before .before .before .before .before .before .before .before .loop .ends) (c .before .before .before .before .before .before .before .before .before .loop .count) (c .width-of .result) (c .before .before .before .put3 .ensures) (c .before .put4 .ensures) (c .width-of .ensures) (c .before .before .before .before .before .before .before .before .before .loop .inv .3)
+returns c = scan-ends (c .before .before .before .before .before .before .before .before .before .before .args .text .now) (c .before .before .before .before .before .before .before .before .loop .p) (c .before .before .before .before .before .before .before .field-end .ensures) (c .before .before .before .before .before .x .given .0 .0) (c .before .before .before .before .before .x .given .0 .1 .0) (c .before .before .before .before .before .x .given .1) (c .before .before .before .before .before .before .before .before .loop .starts) (c .before .before .before .before .before .before .before .before .loop .ends) (c .before .before .before .before .before .before .before .before .loop .count) (c .width-of .result) (c .before .note-bounds2 .ensures .0) (c .before .note-bounds2 .ensures .1) (c .width-of .ensures) (c .before .before .before .before .before .before .before .before .loop .inv .3)
 
 enum-told : tie.Need-enum-told Inv-loop μ-loop
 enum-told c = search needs
@@ -94,15 +88,13 @@ scan-record-spec =
     loop-holds
     field-end-requires
     enum-known-e
-    put-requires
-    put-requires-2
+    note-bounds-requires
     add-count
     add-p
     loop-less
     loop-again
     enum-known-x
-    put-requires-3
-    put-requires-4
+    note-bounds-requires-2
     add-t19
     width-of-requires
     add-t21
