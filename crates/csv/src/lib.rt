@@ -408,11 +408,7 @@ fn run_limit(length: usize, at: usize) -> usize
     if at >= length {
         return length;
     }
-    if length - at <= 19 {
-        length
-    } else {
-        at + 19
-    }
+    if length - at <= 19 { length } else { at + 19 }
 }
 
 // The digits that stand at `at`: no more than 19, so that their number fits.

@@ -1,24 +1,27 @@
 -- What the functions under the two readers answer, by the definitions of Table.
 use Prim.Native.Nat.{ℕ, _+_, _≤_}
 use mathlib.Core.Path.{_≡_}
-use mathlib.Core.Bool.{Bool, true, cond}
-use mathlib.Core.List.{List, map}
-use lib.ListN.{length, drop}
+use mathlib.Core.Bool.{true}
+use mathlib.Core.List.{List, [], _∷_, map}
+use lib.ListN.{length, take, drop, replicate}
 use lib.Seq.{sets}
+use mir.Syntax.{w64}
+use mir.Val.{SFits}
 use Rattle.csv.specs.Grammar.{Record, recordOf}
-use Rattle.tables.specs.Row.{orMissing, rowOf, costOf, innermostOf, firstOf, secondOf, figureOf, parentOf, headOf, limitOf, multiplierOf}
-use Rattle.tables.specs.Table.{fieldOf, End, all, refused, Reading, judge}
-use Rattle.tables.specs.Columns.{BlockColumns, LoopColumns}
-use Rattle.tables.specs.declared.Shape.the-variants.{Blocks, Loops}
-use Rattle.tables.specs.declared.Layout.{Layout}
-use Rattle.tables.specs.declared.Row.{Row}
 use Rattle.csv.specs.Number.{unsigned}
 use Rattle.csv.specs.declared.Value.{Value}
+use Rattle.tables.specs.Row.{orMissing, rowOf, costOf, innermostOf, firstOf, secondOf, figureOf, parentOf, headOf, limitOf, multiplierOf}
+use Rattle.tables.specs.Table.{fieldOf, Reading, judge}
+use Rattle.tables.specs.Columns.{replyBy, BlockColumns, LoopColumns}
+use Rattle.tables.specs.declared.Shape.the-variants.{Blocks}
+use Rattle.tables.specs.declared.Layout.{Layout}
+use Rattle.tables.specs.declared.Row.{Row}
+use Rattle.tables.specs.declared.Row.the-variants.{Block, Loop, Bad}
 use Rattle.tables.specs.declared.Quick.{Quick}
-use Rattle.tables.specs.declared.Quick.the-variants.{Block, Other}
+use Rattle.tables.specs.declared.Quick.the-variants.{Block as QuickBlock, Other}
 use Rattle.tables.specs.declared.Step.{Step}
-use Rattle.tables.specs.declared.Checked.{Checked}
-use Rattle.tables.specs.declared.Checked.the-variants.{Rows, Refused}
+use Rattle.tables.specs.declared.Slot.{Slot}
+use Rattle.tables.specs.declared.Gathered.{Gathered}
 
 -- the verdict on the record r that starts at p, where row k is due, and the place behind it
 abbrev pub stepOf : Layout → ℕ → ℕ → Record → Step
@@ -36,20 +39,23 @@ pub record BlockAt (s : List ℕ) (at : ℕ) (w : Row) (next : ℕ) : Type 0 whe
   pub behind : next ≡ at + recordOf (drop at s) .bytes
 
 abbrev pub QuickAt : List ℕ → ℕ → Quick → Type 0
-QuickAt s at (Block w next) = BlockAt s at w next
+QuickAt s at (QuickBlock w next) = BlockAt s at w next
 QuickAt s at Other = Unit {0}
 
--- a reading behind k rows, whose rows start at `at`
-abbrev pub checkedBy : ℕ → ℕ → End → Checked
-checkedBy at k all = Rows k at
-checkedBy at k (refused n place) = Refused n place
+-- the slots before a row is taken
+abbrev pub slotOf : Row → Slot
+slotOf w = record { row = w }
 
-abbrev pub checkedOf : ℕ → ℕ → Reading → Checked
-checkedOf at k x = checkedBy at (k + length (x .rows)) (x .end)
+abbrev pub noSlots : List Slot
+noSlots = replicate 1024 (slotOf Bad)
 
--- where the rows start: behind the header if there is one
-abbrev pub rowsAt : Bool → List ℕ → ℕ
-rowsAt header s = cond header (recordOf s .bytes) 0
+-- a reading behind k rows, which have their slots already
+abbrev pub gathered : List Slot → ℕ → Reading → Gathered
+gathered slots k x = record { slots = sets slots k (map slotOf (x .rows)); reply = replyBy (k + length (x .rows)) (x .end) }
+
+-- the rows in the first slots
+abbrev pub rowsIn : List Slot → ℕ → List Row
+rowsIn slots count = map (λ (x : Slot). x .row) (take count slots)
 
 -- each column after a store for each row, from its first place on
 pub record BlocksFilled (ws : List Row) (old new : BlockColumns) : Type 0 where
@@ -65,18 +71,37 @@ pub record LoopsFilled (ws : List Row) (old new : LoopColumns) : Type 0 where
   pub limit : new .limit ≡ sets (old .limit) 0 (map limitOf ws)
   pub multiplier : new .multiplier ≡ sets (old .multiplier) 0 (map multiplierOf ws)
 
--- each row that is taken has a place in every column
-pub record BlocksRoom (t : Layout) (c : BlockColumns) : Type 0 where
-  pub shape : t .shape ≡ Blocks
-  pub cost : t .room ≤ length (c .cost)
-  pub loops : t .room ≤ length (c .loops)
-  pub first : t .room ≤ length (c .first)
-  pub second : t .room ≤ length (c .second)
-  pub figure : t .room ≤ length (c .figure)
+-- the rows of a table of blocks, whose figures fit their column, and those of a table of loops
+abbrev pub IsBlock : Row → Type 0
+IsBlock (Block n c l a b z) = SFits w64 z
+IsBlock (Loop n p h l m) = ⊥
+IsBlock Bad = ⊥
 
-pub record LoopsRoom (t : Layout) (c : LoopColumns) : Type 0 where
-  pub shape : t .shape ≡ Loops
-  pub parent : t .room ≤ length (c .parent)
-  pub head : t .room ≤ length (c .head)
-  pub limit : t .room ≤ length (c .limit)
-  pub multiplier : t .room ≤ length (c .multiplier)
+abbrev pub IsLoop : Row → Type 0
+IsLoop (Block n c l a b z) = ⊥
+IsLoop (Loop n p h l m) = Unit {0}
+IsLoop Bad = ⊥
+
+unfoldable pub All : (Row → Type 0) → List Row → Type 0
+All P [] = Unit {0}
+All P (w ∷ ws) = P w × All P ws
+
+-- each row has a place in every column
+pub record BlocksRoom (slots : List Slot) (count : ℕ) (c : BlockColumns) : Type 0 where
+  pub rows : All IsBlock (rowsIn slots count)
+  pub all-slots : length slots ≡ 1024
+  pub enough : count ≤ 1024
+  pub cost : count ≤ length (c .cost)
+  pub loops : count ≤ length (c .loops)
+  pub first : count ≤ length (c .first)
+  pub second : count ≤ length (c .second)
+  pub figure : count ≤ length (c .figure)
+
+pub record LoopsRoom (slots : List Slot) (count : ℕ) (c : LoopColumns) : Type 0 where
+  pub rows : All IsLoop (rowsIn slots count)
+  pub all-slots : length slots ≡ 1024
+  pub enough : count ≤ 1024
+  pub parent : count ≤ length (c .parent)
+  pub head : count ≤ length (c .head)
+  pub limit : count ≤ length (c .limit)
+  pub multiplier : count ≤ length (c .multiplier)

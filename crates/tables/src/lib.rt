@@ -6,9 +6,9 @@ ghost use Rattle.csv.specs.Grammar.{recordOf, records};
 ghost use Rattle.csv.specs.Number.{unsigned, signed};
 ghost use Rattle.csv.specs.Place.{fieldAt, CellAt};
 ghost use Rattle.tables.specs.Row.{orMissing, rowOf};
-ghost use Rattle.tables.specs.Table.{layoutOf, inTurn, placed, reading, tableOf};
+ghost use Rattle.tables.specs.Table.{layoutOf, inTurn, placed, stopped, reading, tableOf};
 ghost use Rattle.tables.specs.Columns.{blocks, loops, BlocksRead, LoopsRead};
-ghost use Rattle.tables.specs.Place.{successor, QuickAt, stepOf, checkedOf, rowsAt, BlocksRoom, BlocksFilled, LoopsRoom, LoopsFilled};
+ghost use Rattle.tables.specs.Place.{successor, QuickAt, stepOf, noSlots, gathered, rowsIn, BlocksRoom, BlocksFilled, LoopsRoom, LoopsFilled};
 use csv::Cell;
 use csv::LastCell;
 use csv::SignedValue;
@@ -65,16 +65,21 @@ pub struct Step {
     pub next: usize,
 }
 
-// What the first pass finds: the count of rows and where they start, or a refusal.
-pub enum Checked {
-    Rows { count: usize, at: usize },
-    Refused { number: u32, record: usize },
-}
-
 // The reply of a reader: the count of rows, or the number of a refusal and its place, a record (0 for 101).
 pub enum ReadReply {
     Rows(usize),
     Refused { number: u32, record: usize },
+}
+
+// A row that is taken.
+pub struct Slot {
+    pub row: Row,
+}
+
+// The rows of a text up to the first fault, each in its slot, and the reply to it.
+pub struct Gathered {
+    pub slots: [Slot; 1024],
+    pub reply: ReadReply,
 }
 
 // What field i of a record says, by width. The bounds are those that `csv::scan_record` noted.
@@ -312,89 +317,91 @@ fn row_at(text: &[u8], t: Layout, at: usize, k: usize) -> Step
     }
 }
 
-// The first pass: the records from `at` on, of which row 0 stands in record `first`. It writes nothing.
-fn check_rows(text: &[u8], t: Layout, at: usize, first: usize) -> Checked
-    requires { ⌜ (at ≤ length (now text)) × (first ≤ 2) ⌝ }
-    ensures { λ r. ⌜ r ≡ checkedOf at 0 (reading t first 0 (records (drop at (now (text .entry))))) ⌝ }
+// The records from `at` on, of which row 0 stands in record `first`: one pass, which writes no column.
+fn gather(text: &[u8], t: Layout, at: usize, first: usize) -> Gathered
+    requires { ⌜ (at ≤ length (now text)) × (first ≤ 2) × (t .room ≤ 1024) ⌝ }
+    ensures { λ r. ⌜ r ≡ gathered noSlots 0 (reading t first 0 (records (drop at (now (text .entry))))) ⌝ }
 {
+    let none = Slot { row: Row::Bad };
+    let mut slots = [none; 1024];
     let mut p = at;
     let mut k: usize = 0;
     while p < text.len() {
         let step = row_at(text, t, p, k);
         let verdict = step.verdict;
         match verdict {
-            Verdict::Taken(_) => {
+            Verdict::Taken(row) => {
+                slots[k] = Slot { row };
                 p = step.next;
                 k += 1;
             }
             Verdict::Fault(number) => {
-                return Checked::Refused {
+                let reply = ReadReply::Refused {
                     number,
                     record: first + k,
                 };
+                return Gathered { slots, reply };
             }
         }
     }
-    Checked::Rows { count: k, at }
+    let reply = ReadReply::Rows(k);
+    Gathered { slots, reply }
+}
+
+// A refusal before the first row.
+fn refused(number: u32, place: usize) -> Gathered
+    ensures { λ r. ⌜ r ≡ gathered noSlots 0 (stopped number place) ⌝ }
+{
+    let none = Slot { row: Row::Bad };
+    let slots = [none; 1024];
+    let reply = ReadReply::Refused {
+        number,
+        record: place,
+    };
+    Gathered { slots, reply }
 }
 
 // The whole text: its length, its header if one is promised, and its rows.
-fn check_table(text: &[u8], header: bool, t: Layout) -> Checked
-    ensures { λ r. ⌜ r ≡ checkedOf (rowsAt header (now (text .entry))) 0 (tableOf t header (now (text .entry))) ⌝ }
+fn gather_table(text: &[u8], header: bool, t: Layout) -> Gathered
+    requires { ⌜ t .room ≤ 1024 ⌝ }
+    ensures { λ r. ⌜ r ≡ gathered noSlots 0 (tableOf t header (now (text .entry))) ⌝ }
 {
     if text.len() > 65536 {
-        return Checked::Refused {
-            number: 101,
-            record: 0,
-        };
+        return refused(101, 0);
     }
     if header {
         if text.len() == 0 {
-            return Checked::Refused {
-                number: 103,
-                record: 1,
-            };
+            return refused(103, 1);
         }
         let split = csv::scan_record(text, 0);
         if split.sound {
             if split.count != t.columns {
-                return Checked::Refused {
-                    number: 103,
-                    record: 1,
-                };
+                return refused(103, 1);
             }
-            return check_rows(text, t, split.next, 2);
+            return gather(text, t, split.next, 2);
         }
-        return Checked::Refused {
-            number: 102,
-            record: 1,
-        };
+        return refused(102, 1);
     }
-    check_rows(text, t, 0, 1)
+    gather(text, t, 0, 1)
 }
 
-// The second pass over blocks: writes the rows from `at` on, up to the first fault.
+// Writes the first `count` rows into the columns of blocks.
 fn fill_blocks(
-    text: &[u8],
-    t: Layout,
-    at: usize,
+    slots: [Slot; 1024],
+    count: usize,
     cost: &mut [u32],
     loops: &mut [u16],
     first: &mut [u16],
     second: &mut [u16],
     figure: &mut [i64],
 )
-    requires { ⌜ BlocksRoom t (blocks (now cost) (now loops) (now first) (now second) (now figure)) ⌝ }
-    ensures { λ _. ⌜ BlocksFilled (reading t 0 0 (records (drop at (now (text .entry)))) .rows) (blocks (now (cost .entry)) (now (loops .entry)) (now (first .entry)) (now (second .entry)) (now (figure .entry))) (blocks (now (cost .exit)) (now (loops .exit)) (now (first .exit)) (now (second .exit)) (now (figure .exit))) ⌝ }
+    requires { ⌜ BlocksRoom slots count (blocks (now cost) (now loops) (now first) (now second) (now figure)) ⌝ }
+    ensures { λ _. ⌜ BlocksFilled (rowsIn slots count) (blocks (now (cost .entry)) (now (loops .entry)) (now (first .entry)) (now (second .entry)) (now (figure .entry))) (blocks (now (cost .exit)) (now (loops .exit)) (now (first .exit)) (now (second .exit)) (now (figure .exit))) ⌝ }
 {
-    let mut from = at;
     let mut k: usize = 0;
-    while from < text.len() {
-        let step = row_at(text, t, from, k);
-        let verdict = step.verdict;
-        let Verdict::Taken(row) = verdict else {
-            return;
-        };
+    while k < count {
+        let slot = slots[k];
+        let row = slot.row;
         let Row::Block {
             number: _,
             cost: c,
@@ -411,32 +418,26 @@ fn fill_blocks(
         first[k] = a;
         second[k] = b;
         figure[k] = z;
-        from = step.next;
         k += 1;
     }
 }
 
-// The second pass over loops.
+// The same of loops.
 fn fill_loops(
-    text: &[u8],
-    t: Layout,
-    at: usize,
+    slots: [Slot; 1024],
+    count: usize,
     parent: &mut [u16],
     head: &mut [u16],
     limit: &mut [u32],
     multiplier: &mut [u64],
 )
-    requires { ⌜ LoopsRoom t (loops (now parent) (now head) (now limit) (now multiplier)) ⌝ }
-    ensures { λ _. ⌜ LoopsFilled (reading t 0 0 (records (drop at (now (text .entry)))) .rows) (loops (now (parent .entry)) (now (head .entry)) (now (limit .entry)) (now (multiplier .entry))) (loops (now (parent .exit)) (now (head .exit)) (now (limit .exit)) (now (multiplier .exit))) ⌝ }
+    requires { ⌜ LoopsRoom slots count (loops (now parent) (now head) (now limit) (now multiplier)) ⌝ }
+    ensures { λ _. ⌜ LoopsFilled (rowsIn slots count) (loops (now (parent .entry)) (now (head .entry)) (now (limit .entry)) (now (multiplier .entry))) (loops (now (parent .exit)) (now (head .exit)) (now (limit .exit)) (now (multiplier .exit))) ⌝ }
 {
-    let mut p = at;
-    let mut k: usize = 0;
-    while p < text.len() {
-        let step = row_at(text, t, p, k);
-        let verdict = step.verdict;
-        let Verdict::Taken(row) = verdict else {
-            return;
-        };
+    let mut i: usize = 0;
+    while i < count {
+        let slot = slots[i];
+        let row = slot.row;
         let Row::Loop {
             number: _,
             parent: a,
@@ -447,12 +448,11 @@ fn fill_loops(
         else {
             return;
         };
-        parent[k] = a;
-        head[k] = h;
-        limit[k] = l;
-        multiplier[k] = m;
-        p = step.next;
-        k += 1;
+        parent[i] = a;
+        head[i] = h;
+        limit[i] = l;
+        multiplier[i] = m;
+        i += 1;
     }
 }
 
@@ -506,13 +506,14 @@ pub fn read_blocks(
         second.len(),
         figure.len(),
     );
-    match check_table(text, header, t) {
-        Checked::Rows { count, at } => {
-            fill_blocks(text, t, at, cost, loops, first, second, figure);
-            ReadReply::Rows(count)
-        }
-        Checked::Refused { number, record } => ReadReply::Refused { number, record },
-    }
+    let found = gather_table(text, header, t);
+    let reply = found.reply;
+    let ReadReply::Rows(count) = reply else {
+        return reply;
+    };
+    let slots = found.slots;
+    fill_blocks(slots, count, cost, loops, first, second, figure);
+    reply
 }
 
 // Reads a loop table into the columns, with the same reply.
@@ -527,11 +528,12 @@ pub fn read_loops(
     ensures { λ r. ⌜ LoopsRead (now (text .entry)) header (loops (now (parent .entry)) (now (head .entry)) (now (limit .entry)) (now (multiplier .entry))) r (loops (now (parent .exit)) (now (head .exit)) (now (limit .exit)) (now (multiplier .exit))) ⌝ }
 {
     let t = loop_layout(parent.len(), head.len(), limit.len(), multiplier.len());
-    match check_table(text, header, t) {
-        Checked::Rows { count, at } => {
-            fill_loops(text, t, at, parent, head, limit, multiplier);
-            ReadReply::Rows(count)
-        }
-        Checked::Refused { number, record } => ReadReply::Refused { number, record },
-    }
+    let found = gather_table(text, header, t);
+    let reply = found.reply;
+    let ReadReply::Rows(count) = reply else {
+        return reply;
+    };
+    let slots = found.slots;
+    fill_loops(slots, count, parent, head, limit, multiplier);
+    reply
 }

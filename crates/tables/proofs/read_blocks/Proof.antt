@@ -1,27 +1,31 @@
-use Rattle.tables.proofs.Whole.{blocks-room, blocks-filled, blocks-refused}
+use Rattle.tables.proofs.Whole.{table-slots, blocks-room, blocks-filled, blocks-refused}
+use Rattle.tables.specs.Columns.{blocks}
 use borrow.Author.Needs.{needs}
 use Rattle.tables.proofs.read_blocks.Statement.{statement}
 use Rattle.tables.proofs.read_blocks.Tie as tie
 use Rattle.tables.proofs.read_blocks.Reads as reads
 use Rattle.tables.proofs.read_blocks.Lts as lts
 use Rattle.tables.proofs.block_layout.Reads as block-layout-reads
-use Rattle.tables.proofs.check_table.Reads as check-table-reads
 use Rattle.tables.proofs.fill_blocks.Reads as fill-blocks-reads
+use Rattle.tables.proofs.gather_table.Reads as gather-table-reads
 
 block-layout-requires : tie.Need-block-layout-requires
 block-layout-requires c κs = search needs
 
-check-table-requires : tie.Need-check-table-requires
-check-table-requires c κs = search needs
+gather-table-requires : tie.Need-gather-table-requires
+gather-table-requires c κs = table-slots _ _ (c .block-layout .ensures)
 
-enum-known-count : tie.Need-enum-known-count
-enum-known-count c = search needs
+enum-known-reply : tie.Need-enum-known-reply
+enum-known-reply c = search needs
+
+enum-told : tie.Need-enum-told
+enum-told c = search needs
+
+returns : tie.Need-returns
+returns c = search blocks-refused
 
 fill-blocks-requires : tie.Need-fill-blocks-requires
 fill-blocks-requires c κs = search blocks-room
-
-enum-known-number : tie.Need-enum-known-number
-enum-known-number c = search needs
 
 same-length : tie.Need-same-length
 same-length c = search needs
@@ -38,25 +42,22 @@ same-length-4 c = search needs
 same-length-5 : tie.Need-same-length-5
 same-length-5 c = search needs
 
-returns : tie.Need-returns
-returns c = search blocks-filled
-
 returns-2 : tie.Need-returns-2
-returns-2 c = search blocks-refused
+returns-2 c = blocks-filled (c .before .before .before .before .before .before .before .before .before .before .before .before .before .before .before .before .before .before .before .before .before .before .before .before .before .before .args .text .now) (c .before .before .before .before .before .before .before .before .before .before .before .before .before .before .before .before .before .before .before .before .before .before .before .before .before .before .args .header) (blocks (c .before .before .before .before .before .before .before .before .before .before .before .before .before .before .before .before .before .before .before .before .before .before .before .before .before .before .args .cost .now) (c .before .before .before .before .before .before .before .before .before .before .before .before .before .before .before .before .before .before .before .before .before .before .before .before .before .before .args .loops .now) (c .before .before .before .before .before .before .before .before .before .before .before .before .before .before .before .before .before .before .before .before .before .before .before .before .before .before .args .first .now) (c .before .before .before .before .before .before .before .before .before .before .before .before .before .before .before .before .before .before .before .before .before .before .before .before .before .before .args .second .now) (c .before .before .before .before .before .before .before .before .before .before .before .before .before .before .before .before .before .before .before .before .before .before .before .before .before .before .args .figure .now)) (c .before .before .before .before .before .before .before .before .before .before .before .before .before .before .before .before .before .before .before .before .block-layout .ensures) (c .before .before .before .before .before .before .before .before .before .before .before .before .before .before .before .before .before .before .before .gather-table .ensures) (c .before .before .before .before .before .before .before .before .before .before .before .before .before .before .before .before .before .reply .given .0 .0) (c .before .before .before .before .before .before .before .before .before .before .before .before .before .before .before .before .before .reply .given .1) (c .before .before .before .before .before .before .before .before .before .fill-blocks .ensures)
 
 pub read-blocks-spec : {M : Type 1} → statement M
 read-blocks-spec =
     tie.close
     (tie.spec
     block-layout-requires
-    check-table-requires
-    enum-known-count
+    gather-table-requires
+    enum-known-reply
+    enum-told
+    returns
     fill-blocks-requires
-    enum-known-number
     same-length
     same-length-2
     same-length-3
     same-length-4
     same-length-5
-    returns
     returns-2)
