@@ -107,6 +107,10 @@ rows-back slots ws h =
     back [] = refl
     back (w ∷ ws) = ap (λ (l : List Row). w ∷ l) (back ws)
 
+slots-none : length noSlots ≡ 1024
+unfolding noSlots
+slots-none = length-replicate 1024 (slotOf Bad)
+
 -- what `gather_table` said: accepted, with the rows in their slots, or refused
 module _ (s : List ℕ) (t : Layout) (header : Bool) (m : t .room ≤ 1024) {r : Gathered} (q : r ≡ gathered noSlots 0 (tableOf t header s)) where
   reply-is : r .reply ≡ replyOf (tableOf t header s)
@@ -116,7 +120,7 @@ module _ (s : List ℕ) (t : Layout) (header : Bool) (m : t .room ≤ 1024) {r :
   slots-are = ap (λ (x : Gathered). x .slots) q
 
   slots-all : length (r .slots) ≡ 1024
-  slots-all = rw slots-are (length-sets noSlots 0 (map slotOf (tableOf t header s .rows)) ∙ length-replicate 1024 (slotOf Bad))
+  slots-all = rw slots-are (length-sets noSlots 0 (map slotOf (tableOf t header s .rows)) ∙ slots-none)
 
   module _ (count : ℕ) (e : r .reply ≡ Rows count) where
     told : (tableOf t header s .end ≡ all) × (count ≡ length (tableOf t header s .rows))
@@ -130,7 +134,7 @@ module _ (s : List ℕ) (t : Layout) (header : Bool) (m : t .room ≤ 1024) {r :
     count-fits = omega (arith, told .1, table-fit t header s)
 
     rows-are : rowsIn (r .slots) count ≡ tableOf t header s .rows
-    rows-are = rw (slots-are, told .1) (rows-back noSlots (tableOf t header s .rows) (rw (length-replicate 1024 (slotOf Bad)) (omega (arith, table-fit t header s))))
+    rows-are = rw (slots-are, told .1) (rows-back noSlots (tableOf t header s .rows) (rw slots-none (omega (arith, table-fit t header s))))
 
     rows-accepted : accepted (tableOf t header s) ≡ rowsIn (r .slots) count
     rows-accepted = rw (told .0) (sym rows-are)

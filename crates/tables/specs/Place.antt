@@ -46,7 +46,7 @@ QuickAt s at Other = Unit {0}
 abbrev pub slotOf : Row → Slot
 slotOf w = record { row = w }
 
-abbrev pub noSlots : List Slot
+unfoldable pub noSlots : List Slot
 noSlots = replicate 1024 (slotOf Bad)
 
 -- a reading behind k rows, which have their slots already
