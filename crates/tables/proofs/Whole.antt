@@ -17,7 +17,7 @@ use Rattle.csv.proofs.Records.{Spans, record-spans, records-none, records-step}
 use Rattle.tables.specs.Row.{costOf, innermostOf, firstOf, secondOf, figureOf, parentOf, headOf, limitOf, multiplierOf}
 use Rattle.tables.specs.Table.{layoutOf, End, all, refused, stopped, reading, headed, tableOf}
 use Rattle.tables.specs.Columns.{replyBy, replyOf, acceptedBy, accepted, over, BlockColumns, LoopColumns, shortestBlock, shortestLoop, BlocksDone, LoopsDone}
-use Rattle.tables.specs.Place.{slotOf, noSlots, gathered, rowsIn, All, IsBlock, IsLoop, BlocksRoom, BlocksFilled, LoopsRoom, LoopsFilled}
+use Rattle.tables.specs.Place.{slotOf, noSlots, gathered, rowsIn, rowCount, All, IsBlock, IsLoop, BlocksRoom, BlocksFilled, LoopsRoom, LoopsFilled}
 use Rattle.tables.specs.declared.Shape.{Shape}
 use Rattle.tables.specs.declared.Shape.the-variants.{Blocks, Loops}
 use Rattle.tables.specs.declared.Layout.{Layout}
@@ -25,7 +25,6 @@ use Rattle.tables.specs.declared.Row.{Row}
 use Rattle.tables.specs.declared.Row.the-variants.{Bad}
 use Rattle.tables.specs.declared.Slot.{Slot}
 use Rattle.tables.specs.declared.Gathered.{Gathered}
-use Rattle.tables.specs.declared.ReadReply.the-variants.{Rows, Refused}
 use Rattle.tables.proofs.Passes.{table-fit, only-blocks, only-loops}
 
 -- Each way through `gather_table`; x is what it gives.
@@ -88,13 +87,9 @@ module _ {A : Type 0} where
   sets-over [] (v ∷ vs) = sets-none 1 vs
   sets-over (c ∷ column) (v ∷ vs) = sets-behind v column 0 vs ∙ ap (λ (l : List A). v ∷ l) (sets-over column vs)
 
-  -- the column of f after a store for each row of an accepted reading, and after a refused one
+  -- the column of f after a store for each row
   filled : (f : Row → A) {vs ws : List Row} (old : List A) {new : List A} → vs ≡ ws → new ≡ sets old 0 (map f ws) → new ≡ over (map f vs) old
   filled f {vs} {ws} old e q = q ∙ rw e (sets-over old (map f ws))
-
-  kept : (f : Row → A) {vs : List Row} (old : List A) → vs ≡ [] → old ≡ over (map f vs) old
-  unfolding over
-  kept f old e = rw e
 
 -- the rows in the slots that they were put into
 rows-back : (slots : List Slot) (ws : List Row) → length ws ≤ length slots → rowsIn (sets slots 0 (map slotOf ws)) (length ws) ≡ ws
@@ -111,8 +106,8 @@ slots-none : length noSlots ≡ 1024
 unfolding noSlots
 slots-none = length-replicate 1024 (slotOf Bad)
 
--- what `gather_table` said: accepted, with the rows in their slots, or refused
-module _ (s : List ℕ) (t : Layout) (header : Bool) (m : t .room ≤ 1024) {r : Gathered} (q : r ≡ gathered noSlots 0 (tableOf t header s)) where
+-- what `gather_table` said: the reply, and the rows in their slots, which are none where the text is refused
+module _ (s : List ℕ) (t : Layout) (header : Bool) (m : t .room ≤ 1024) {r : Gathered} (q : r ≡ gathered noSlots 0 (tableOf t header s)) {count : ℕ} (e : count ≡ rowCount (r .reply)) where
   reply-is : r .reply ≡ replyOf (tableOf t header s)
   reply-is = ap (λ (x : Gathered). x .reply) q ∙ rw (zero-add (length (tableOf t header s .rows)))
 
@@ -122,78 +117,67 @@ module _ (s : List ℕ) (t : Layout) (header : Bool) (m : t .room ≤ 1024) {r :
   slots-all : length (r .slots) ≡ 1024
   slots-all = rw slots-are (length-sets noSlots 0 (map slotOf (tableOf t header s .rows)) ∙ slots-none)
 
-  module _ (count : ℕ) (e : r .reply ≡ Rows count) where
-    told : (tableOf t header s .end ≡ all) × (count ≡ length (tableOf t header s .rows))
-    told = go (tableOf t header s .end) (sym e ∙ reply-is)
-      where
-        go : (x : End) → Rows count ≡ replyBy (length (tableOf t header s .rows)) x → (x ≡ all) × (count ≡ length (tableOf t header s .rows))
-        go all g = (refl, cc)
-        go (refused n place) g = absurd (let z : _≡_ {A = ℕ} 0 1 = cc in omega arith)
+  all-rows : rowsIn (r .slots) (length (tableOf t header s .rows)) ≡ tableOf t header s .rows
+  all-rows = rw slots-are (rows-back noSlots (tableOf t header s .rows) (rw slots-none (omega (arith, m, table-fit t header s))))
 
-    count-fits : count ≤ t .room
-    count-fits = omega (arith, told .1, table-fit t header s)
+  row-count-is : count ≡ rowCount (replyOf (tableOf t header s))
+  row-count-is = e ∙ ap rowCount reply-is
 
-    rows-are : rowsIn (r .slots) count ≡ tableOf t header s .rows
-    rows-are = rw (slots-are, told .1) (rows-back noSlots (tableOf t header s .rows) (rw slots-none (omega (arith, table-fit t header s))))
-
-    rows-accepted : accepted (tableOf t header s) ≡ rowsIn (r .slots) count
-    rows-accepted = rw (told .0) (sym rows-are)
-
-    rows-all : (P : Row → Type 0) → All P (tableOf t header s .rows) → All P (rowsIn (r .slots) count)
-    rows-all P h = subst (All P) (sym rows-are) h
-
-  none-accepted : (n place : ℕ) → r .reply ≡ Refused n place → accepted (tableOf t header s) ≡ []
-  none-accepted n place e = go (tableOf t header s .end) (sym e ∙ reply-is)
+  count-fits : count ≤ t .room
+  count-fits = go (tableOf t header s .end) row-count-is
     where
-      go : (x : End) → Refused n place ≡ replyBy (length (tableOf t header s .rows)) x → acceptedBy (tableOf t header s .rows) x ≡ []
-      go all g = absurd (let z : _≡_ {A = ℕ} 0 1 = cc in omega arith)
-      go (refused m p) g = refl
+      go : (x : End) → count ≡ rowCount (replyBy (length (tableOf t header s .rows)) x) → count ≤ t .room
+      go all g = omega (arith, table-fit t header s)
+      go (refused n place) g = omega arith
+
+  rows-accepted : accepted (tableOf t header s) ≡ rowsIn (r .slots) count
+  rows-accepted = rw row-count-is (go (tableOf t header s .end))
+    where
+      go : (x : End) → acceptedBy (tableOf t header s .rows) x ≡ rowsIn (r .slots) (rowCount (replyBy (length (tableOf t header s .rows)) x))
+      go all = sym all-rows
+      go (refused n place) = refl
+
+  rows-all : (P : Row → Type 0) → All P (tableOf t header s .rows) → All P (rowsIn (r .slots) count)
+  unfolding All
+  rows-all P h = subst (All P) rows-accepted (go (tableOf t header s .end))
+    where
+      go : (x : End) → All P (acceptedBy (tableOf t header s .rows) x)
+      go all = h
+      go (refused n place) = tt
 
 -- each row of either table has a slot
 pub table-slots : (x : Shape) (places : ℕ) {t : Layout} → t ≡ layoutOf x places → t .room ≤ 1024
 table-slots Blocks places y = rw y (omega arith)
 table-slots Loops places y = rw y (omega arith)
 
--- Each way through `read_blocks`.
-module _ (s : List ℕ) (header : Bool) (old : BlockColumns) {t : Layout} (y : t ≡ layoutOf Blocks (shortestBlock old)) where
+-- What `read_blocks` leaves; r is what `gather_table` gave.
+module _ (s : List ℕ) (header : Bool) (old : BlockColumns) {t : Layout} (y : t ≡ layoutOf Blocks (shortestBlock old)) {r : Gathered} (q : r ≡ gathered noSlots 0 (tableOf t header s)) {count : ℕ} (e : count ≡ rowCount (r .reply)) where
   block-slots : t .room ≤ 1024
   block-slots = table-slots Blocks (shortestBlock old) y
 
-  module _ {r : Gathered} (q : r ≡ gathered noSlots 0 (tableOf t header s)) where
-    pub blocks-room : (count : ℕ) → r .reply ≡ Rows count → BlocksRoom (r .slots) count old
-    blocks-room count e =
-        let f : count ≤ t .room = count-fits s t header block-slots q count e in
-        let n : t .room ≤ shortestBlock old = rw y (omega arith) in
-        record { rows = rows-all s t header block-slots q count e IsBlock (only-blocks t (rw y) header s); all-slots = slots-all s t header block-slots q; enough = omega (arith, block-slots); cost = omega arith; loops = omega arith; first = omega arith; second = omega arith; figure = omega arith }
+  pub blocks-room : BlocksRoom (r .slots) count old
+  blocks-room =
+      let f : count ≤ t .room = count-fits s t header block-slots q e in
+      let n : t .room ≤ shortestBlock old = rw y (omega arith) in
+      record { rows = rows-all s t header block-slots q e IsBlock (only-blocks t (rw y) header s); all-slots = slots-all s t header block-slots q e; enough = omega (arith, block-slots); cost = omega arith; loops = omega arith; first = omega arith; second = omega arith; figure = omega arith }
 
-    pub blocks-filled : {new : BlockColumns} (count : ℕ) → r .reply ≡ Rows count → BlocksFilled (rowsIn (r .slots) count) old new → BlocksDone (tableOf (layoutOf Blocks (shortestBlock old)) header s) old (Rows count) new
-    blocks-filled {new} count e f =
-        let rows = rows-accepted s t header block-slots q count e in
-        rw (← y) (record { reply = sym e ∙ reply-is s t header block-slots q; cost = filled costOf (old .cost) rows (f .cost); loops = filled innermostOf (old .loops) rows (f .loops); first = filled firstOf (old .first) rows (f .first); second = filled secondOf (old .second) rows (f .second); figure = filled figureOf (old .figure) rows (f .figure) })
+  pub blocks-filled : {new : BlockColumns} → BlocksFilled (rowsIn (r .slots) count) old new → BlocksDone (tableOf (layoutOf Blocks (shortestBlock old)) header s) old (r .reply) new
+  blocks-filled {new} f =
+      let rows = rows-accepted s t header block-slots q e in
+      rw (← y) (record { reply = reply-is s t header block-slots q e; cost = filled costOf (old .cost) rows (f .cost); loops = filled innermostOf (old .loops) rows (f .loops); first = filled firstOf (old .first) rows (f .first); second = filled secondOf (old .second) rows (f .second); figure = filled figureOf (old .figure) rows (f .figure) })
 
-    pub blocks-refused : (n place : ℕ) → r .reply ≡ Refused n place → BlocksDone (tableOf (layoutOf Blocks (shortestBlock old)) header s) old (r .reply) old
-    blocks-refused n place e =
-        let none = none-accepted s t header block-slots q n place e in
-        rw (← y) (record { reply = reply-is s t header block-slots q; cost = kept costOf (old .cost) none; loops = kept innermostOf (old .loops) none; first = kept firstOf (old .first) none; second = kept secondOf (old .second) none; figure = kept figureOf (old .figure) none })
-
--- Each way through `read_loops`.
-module _ (s : List ℕ) (header : Bool) (old : LoopColumns) {t : Layout} (y : t ≡ layoutOf Loops (shortestLoop old)) where
+-- What `read_loops` leaves; r is what `gather_table` gave.
+module _ (s : List ℕ) (header : Bool) (old : LoopColumns) {t : Layout} (y : t ≡ layoutOf Loops (shortestLoop old)) {r : Gathered} (q : r ≡ gathered noSlots 0 (tableOf t header s)) {count : ℕ} (e : count ≡ rowCount (r .reply)) where
   loop-slots : t .room ≤ 1024
   loop-slots = table-slots Loops (shortestLoop old) y
 
-  module _ {r : Gathered} (q : r ≡ gathered noSlots 0 (tableOf t header s)) where
-    pub loops-room : (count : ℕ) → r .reply ≡ Rows count → LoopsRoom (r .slots) count old
-    loops-room count e =
-        let f : count ≤ t .room = count-fits s t header loop-slots q count e in
-        let n : t .room ≤ shortestLoop old = rw y (omega arith) in
-        record { rows = rows-all s t header loop-slots q count e IsLoop (only-loops t (rw y) header s); all-slots = slots-all s t header loop-slots q; enough = omega (arith, loop-slots); parent = omega arith; head = omega arith; limit = omega arith; multiplier = omega arith }
+  pub loops-room : LoopsRoom (r .slots) count old
+  loops-room =
+      let f : count ≤ t .room = count-fits s t header loop-slots q e in
+      let n : t .room ≤ shortestLoop old = rw y (omega arith) in
+      record { rows = rows-all s t header loop-slots q e IsLoop (only-loops t (rw y) header s); all-slots = slots-all s t header loop-slots q e; enough = omega (arith, loop-slots); parent = omega arith; head = omega arith; limit = omega arith; multiplier = omega arith }
 
-    pub loops-filled : {new : LoopColumns} (count : ℕ) → r .reply ≡ Rows count → LoopsFilled (rowsIn (r .slots) count) old new → LoopsDone (tableOf (layoutOf Loops (shortestLoop old)) header s) old (Rows count) new
-    loops-filled {new} count e f =
-        let rows = rows-accepted s t header loop-slots q count e in
-        rw (← y) (record { reply = sym e ∙ reply-is s t header loop-slots q; parent = filled parentOf (old .parent) rows (f .parent); head = filled headOf (old .head) rows (f .head); limit = filled limitOf (old .limit) rows (f .limit); multiplier = filled multiplierOf (old .multiplier) rows (f .multiplier) })
-
-    pub loops-refused : (n place : ℕ) → r .reply ≡ Refused n place → LoopsDone (tableOf (layoutOf Loops (shortestLoop old)) header s) old (r .reply) old
-    loops-refused n place e =
-        let none = none-accepted s t header loop-slots q n place e in
-        rw (← y) (record { reply = reply-is s t header loop-slots q; parent = kept parentOf (old .parent) none; head = kept headOf (old .head) none; limit = kept limitOf (old .limit) none; multiplier = kept multiplierOf (old .multiplier) none })
+  pub loops-filled : {new : LoopColumns} → LoopsFilled (rowsIn (r .slots) count) old new → LoopsDone (tableOf (layoutOf Loops (shortestLoop old)) header s) old (r .reply) new
+  loops-filled {new} f =
+      let rows = rows-accepted s t header loop-slots q e in
+      rw (← y) (record { reply = reply-is s t header loop-slots q e; parent = filled parentOf (old .parent) rows (f .parent); head = filled headOf (old .head) rows (f .head); limit = filled limitOf (old .limit) rows (f .limit); multiplier = filled multiplierOf (old .multiplier) rows (f .multiplier) })

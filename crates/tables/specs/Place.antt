@@ -22,6 +22,8 @@ use Rattle.tables.specs.declared.Quick.the-variants.{Block as QuickBlock
 use Rattle.tables.specs.declared.Step.{Step}
 use Rattle.tables.specs.declared.Slot.{Slot}
 use Rattle.tables.specs.declared.Gathered.{Gathered}
+use Rattle.tables.specs.declared.ReadReply.{ReadReply}
+use Rattle.tables.specs.declared.ReadReply.the-variants.{Rows, Refused}
 
 -- the verdict on the record r that starts at p, where row k is due, and the place behind it
 abbrev pub stepOf : Layout → ℕ → ℕ → Record → Step
@@ -70,6 +72,11 @@ pub record LoopsFilled (ws : List Row) (old new : LoopColumns) : Type 0 where
   pub head : new .head ≡ sets (old .head) 0 (map headOf ws)
   pub limit : new .limit ≡ sets (old .limit) 0 (map limitOf ws)
   pub multiplier : new .multiplier ≡ sets (old .multiplier) 0 (map multiplierOf ws)
+
+-- the count of rows in a reply
+abbrev pub rowCount : ReadReply → ℕ
+rowCount (Rows count) = count
+rowCount (Refused n place) = 0
 
 -- the rows of a table of blocks, whose figures fit their column, and those of a table of loops
 abbrev pub IsBlock : Row → Type 0

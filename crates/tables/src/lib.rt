@@ -8,7 +8,7 @@ ghost use Rattle.csv.specs.Place.{fieldAt, CellAt};
 ghost use Rattle.tables.specs.Row.{orMissing, rowOf};
 ghost use Rattle.tables.specs.Table.{layoutOf, inTurn, placed, stopped, reading, tableOf};
 ghost use Rattle.tables.specs.Columns.{blocks, loops, BlocksRead, LoopsRead};
-ghost use Rattle.tables.specs.Place.{successor, QuickAt, stepOf, noSlots, gathered, rowsIn, BlocksRoom, BlocksFilled, LoopsRoom, LoopsFilled};
+ghost use Rattle.tables.specs.Place.{successor, QuickAt, stepOf, noSlots, gathered, rowsIn, rowCount, BlocksRoom, BlocksFilled, LoopsRoom, LoopsFilled};
 use csv::Cell;
 use csv::LastCell;
 use csv::SignedValue;
@@ -463,6 +463,19 @@ fn fill_loops(
     }
 }
 
+// The count of rows in a reply: none in a refusal.
+fn row_count(reply: ReadReply) -> usize
+    ensures { λ r. ⌜ r ≡ rowCount reply ⌝ }
+{
+    match reply {
+        ReadReply::Rows(count) => count,
+        ReadReply::Refused {
+            number: _,
+            record: _,
+        } => 0,
+    }
+}
+
 fn least(a: usize, b: usize) -> usize
     ensures { λ r. ⌜ r ≡ min a b ⌝ }
 {
@@ -515,11 +528,8 @@ pub fn read_blocks(
     );
     let found = gather_table(text, header, t);
     let reply = found.reply;
-    let ReadReply::Rows(count) = reply else {
-        return reply;
-    };
     let slots = found.slots;
-    fill_blocks(slots, count, cost, loops, first, second, figure);
+    fill_blocks(slots, row_count(reply), cost, loops, first, second, figure);
     reply
 }
 
@@ -537,10 +547,7 @@ pub fn read_loops(
     let t = loop_layout(parent.len(), head.len(), limit.len(), multiplier.len());
     let found = gather_table(text, header, t);
     let reply = found.reply;
-    let ReadReply::Rows(count) = reply else {
-        return reply;
-    };
     let slots = found.slots;
-    fill_loops(slots, count, parent, head, limit, multiplier);
+    fill_loops(slots, row_count(reply), parent, head, limit, multiplier);
     reply
 }

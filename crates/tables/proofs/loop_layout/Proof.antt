@@ -5,25 +5,20 @@ use Rattle.tables.proofs.loop_layout.Reads as reads
 use Rattle.tables.proofs.loop_layout.Lts as lts
 use Rattle.tables.proofs.least.Reads as least-reads
 
--- src/lib.rt:409:44
 least-requires : tie.Need-least-requires
 least-requires c κs = search needs
 
--- src/lib.rt:409:32
 least-requires-2 : tie.Need-least-requires-2
 least-requires-2 c κs = search needs
 
--- src/lib.rt:409:9
 least-requires-3 : tie.Need-least-requires-3
 least-requires-3 c κs = search needs
 
--- src/lib.rt:413:15
 least-requires-4 : tie.Need-least-requires-4
 least-requires-4 c κs = search needs
 
--- src/lib.rt:406:1
 returns : tie.Need-returns
-returns c = cc
+returns c = rw (c .least4 .ensures, c .before .least3 .ensures, c .before .before .least2 .ensures, c .before .before .before .least .ensures)
 
 pub loop-layout-spec : {M : Type 1} → statement M
 loop-layout-spec =

@@ -1,5 +1,5 @@
-use Rattle.tables.proofs.Whole.{table-slots, blocks-room, blocks-filled, blocks-refused}
 use Rattle.tables.specs.Columns.{blocks}
+use Rattle.tables.proofs.Whole.{table-slots, blocks-room, blocks-filled}
 use borrow.Author.Needs.{needs}
 use Rattle.tables.proofs.read_blocks.Statement.{statement}
 use Rattle.tables.proofs.read_blocks.Tie as tie
@@ -8,6 +8,7 @@ use Rattle.tables.proofs.read_blocks.Lts as lts
 use Rattle.tables.proofs.block_layout.Reads as block-layout-reads
 use Rattle.tables.proofs.fill_blocks.Reads as fill-blocks-reads
 use Rattle.tables.proofs.gather_table.Reads as gather-table-reads
+use Rattle.tables.proofs.row_count.Reads as row-count-reads
 
 block-layout-requires : tie.Need-block-layout-requires
 block-layout-requires c κs = search needs
@@ -15,14 +16,8 @@ block-layout-requires c κs = search needs
 gather-table-requires : tie.Need-gather-table-requires
 gather-table-requires c κs = table-slots _ _ (c .block-layout .ensures)
 
-enum-known-reply : tie.Need-enum-known-reply
-enum-known-reply c = search needs
-
-enum-told : tie.Need-enum-told
-enum-told c = search needs
-
-returns : tie.Need-returns
-returns c = search blocks-refused
+row-count-requires : tie.Need-row-count-requires
+row-count-requires c κs = search needs
 
 fill-blocks-requires : tie.Need-fill-blocks-requires
 fill-blocks-requires c κs = search blocks-room
@@ -42,8 +37,8 @@ same-length-4 c = search needs
 same-length-5 : tie.Need-same-length-5
 same-length-5 c = search needs
 
-returns-2 : tie.Need-returns-2
-returns-2 c = blocks-filled (c .before .before .before .before .before .before .before .before .before .before .before .before .before .before .before .before .before .before .before .before .before .before .before .before .before .before .args .text .now) (c .before .before .before .before .before .before .before .before .before .before .before .before .before .before .before .before .before .before .before .before .before .before .before .before .before .before .args .header) (blocks (c .before .before .before .before .before .before .before .before .before .before .before .before .before .before .before .before .before .before .before .before .before .before .before .before .before .before .args .cost .now) (c .before .before .before .before .before .before .before .before .before .before .before .before .before .before .before .before .before .before .before .before .before .before .before .before .before .before .args .loops .now) (c .before .before .before .before .before .before .before .before .before .before .before .before .before .before .before .before .before .before .before .before .before .before .before .before .before .before .args .first .now) (c .before .before .before .before .before .before .before .before .before .before .before .before .before .before .before .before .before .before .before .before .before .before .before .before .before .before .args .second .now) (c .before .before .before .before .before .before .before .before .before .before .before .before .before .before .before .before .before .before .before .before .before .before .before .before .before .before .args .figure .now)) (c .before .before .before .before .before .before .before .before .before .before .before .before .before .before .before .before .before .before .before .before .block-layout .ensures) (c .before .before .before .before .before .before .before .before .before .before .before .before .before .before .before .before .before .before .before .gather-table .ensures) (c .before .before .before .before .before .before .before .before .before .before .before .before .before .before .before .before .before .reply .given .0 .0) (c .before .before .before .before .before .before .before .before .before .before .before .before .before .before .before .before .before .reply .given .1) (c .before .before .before .before .before .before .before .before .before .fill-blocks .ensures)
+returns : tie.Need-returns
+returns c = blocks-filled (c .before .before .before .before .before .before .before .before .before .before .before .before .before .before .before .before .before .before .before .before .before .before .before .before .args .text .now) (c .before .before .before .before .before .before .before .before .before .before .before .before .before .before .before .before .before .before .before .before .before .before .before .before .args .header) (blocks (c .before .before .before .before .before .before .before .before .before .before .before .before .before .before .before .before .before .before .before .before .before .before .before .before .args .cost .now) (c .before .before .before .before .before .before .before .before .before .before .before .before .before .before .before .before .before .before .before .before .before .before .before .before .args .loops .now) (c .before .before .before .before .before .before .before .before .before .before .before .before .before .before .before .before .before .before .before .before .before .before .before .before .args .first .now) (c .before .before .before .before .before .before .before .before .before .before .before .before .before .before .before .before .before .before .before .before .before .before .before .before .args .second .now) (c .before .before .before .before .before .before .before .before .before .before .before .before .before .before .before .before .before .before .before .before .before .before .before .before .args .figure .now)) (c .before .before .before .before .before .before .before .before .before .before .before .before .before .before .before .before .before .before .block-layout .ensures) (c .before .before .before .before .before .before .before .before .before .before .before .before .before .before .before .before .before .gather-table .ensures) (c .before .before .before .before .before .before .before .before .before .before .before .before .before .before .before .row-count .ensures) (c .before .before .before .before .before .before .before .before .before .fill-blocks .ensures)
 
 pub read-blocks-spec : {M : Type 1} → statement M
 read-blocks-spec =
@@ -51,13 +46,11 @@ read-blocks-spec =
     (tie.spec
     block-layout-requires
     gather-table-requires
-    enum-known-reply
-    enum-told
-    returns
+    row-count-requires
     fill-blocks-requires
     same-length
     same-length-2
     same-length-3
     same-length-4
     same-length-5
-    returns-2)
+    returns)
