@@ -231,16 +231,16 @@ module _ (slots : List Slot) (count k : ℕ) (l : count ≤ length slots) where
       from (suc j) (v ∷ ws) g e = from j ws (g .1) e
 
   -- the column of f, after the store of its value
-  pub column-on : {A : Type 0} (f : Row → A) → k < count → (d : Slot) {w : Row} → getD slots k d .row ≡ w → {x : List A} (column : List A) → x ≡ sets column k (map f (drop k (rowsIn slots count))) → x ≡ sets (set column k (f w)) (k + 1) (map f (drop (k + 1) (rowsIn slots count)))
-  column-on f h d e column g = g ∙ rw (next-row h d, e, add-one k)
+  pub column-on : k < count → (d : Slot) {w : Row} → getD slots k d .row ≡ w → {A : Type 0} (f : Row → A) {x : List A} (column : List A) → x ≡ sets column k (map f (drop k (rowsIn slots count))) → x ≡ sets (set column k (f w)) (k + 1) (map f (drop (k + 1) (rowsIn slots count)))
+  column-on h d e f column g = g ∙ rw (next-row h d, e, add-one k)
 
   -- the column at the end
-  pub column-done : {A : Type 0} (f : Row → A) → count ≤ k → {x : List A} (column : List A) → x ≡ sets column k (map f (drop k (rowsIn slots count))) → column ≡ x
-  column-done f h column g = let z : drop k (rowsIn slots count) ≡ [] = drop-of-length-le (rowsIn slots count) {i = k} (rw rows-length h) in sym (g ∙ rw z)
+  pub column-done : count ≤ k → {A : Type 0} (f : Row → A) {x : List A} (column : List A) → x ≡ sets column k (map f (drop k (rowsIn slots count))) → column ≡ x
+  column-done h f column g = let z : drop k (rowsIn slots count) ≡ [] = drop-of-length-le (rowsIn slots count) {i = k} (rw rows-length h) in sym (g ∙ rw z)
 
   -- the figure's column holds a figure's bits
   pub figure-on : All IsBlock (rowsIn slots count) → k < count → (d : Slot) {w : Row} → getD slots k d .row ≡ w → {x : List ℤ} (column : List ℤ) → x ≡ sets column k (map figureOf (drop k (rowsIn slots count))) → x ≡ sets (set column k (toZ w64 (ofZ w64 (figureOf w)))) (k + 1) (map figureOf (drop (k + 1) (rowsIn slots count)))
-  figure-on r h d {w} e column g = rw (toZ-ofZ (fits w (subst IsBlock e (row-is IsBlock r h d)))) (column-on figureOf h d e column g)
+  figure-on r h d {w} e column g = rw (toZ-ofZ (fits w (subst IsBlock e (row-is IsBlock r h d)))) (column-on h d e figureOf column g)
     where
       fits : (w : Row) → IsBlock w → SFits w64 (figureOf w)
       fits (Block n c l a b z) i = i

@@ -1,7 +1,7 @@
 use Rattle.tables.specs.Row.{costOf, innermostOf, firstOf, secondOf, figureOf}
 use Rattle.tables.specs.Place.{slotOf, rowsIn}
 use Rattle.tables.proofs.Passes.{other-block, column-on, figure-on, column-done}
-use Prim.Native.Nat.{_≤_, _<_, _-_}
+use Prim.Native.Nat.{ℕ, _-_}
 use mathlib.Core.Path.{_≡_}
 use mathlib.Core.List.{map}
 use native.Mathlib.Omega.{arith}
@@ -88,18 +88,9 @@ loop-less : tie.Need-loop-less Inv-loop μ-loop
 loop-less c = search needs
 
 loop-again : tie.Need-loop-again Inv-loop μ-loop
-loop-again c = (
-  rw length-set (omega arith),
-  rw length-set (omega arith),
-  rw length-set (omega arith),
-  rw length-set (omega arith),
-  rw length-set (omega arith),
-  column-on (c .before .before .before .before .before .before .args .t1) (c .before .before .before .before .before .before .args .count) (c .before .before .before .before .before .loop .k) (omega (arith, c .before .before .before .before .before .before .pre .all-slots)) costOf (c .before .before .before .before .loop-test .taken) _ (c .before .row .given .1) _ (c .before .before .before .before .before .loop .inv .5),
-  column-on (c .before .before .before .before .before .before .args .t1) (c .before .before .before .before .before .before .args .count) (c .before .before .before .before .before .loop .k) (omega (arith, c .before .before .before .before .before .before .pre .all-slots)) innermostOf (c .before .before .before .before .loop-test .taken) _ (c .before .row .given .1) _ (c .before .before .before .before .before .loop .inv .6),
-  column-on (c .before .before .before .before .before .before .args .t1) (c .before .before .before .before .before .before .args .count) (c .before .before .before .before .before .loop .k) (omega (arith, c .before .before .before .before .before .before .pre .all-slots)) firstOf (c .before .before .before .before .loop-test .taken) _ (c .before .row .given .1) _ (c .before .before .before .before .before .loop .inv .7),
-  column-on (c .before .before .before .before .before .before .args .t1) (c .before .before .before .before .before .before .args .count) (c .before .before .before .before .before .loop .k) (omega (arith, c .before .before .before .before .before .before .pre .all-slots)) secondOf (c .before .before .before .before .loop-test .taken) _ (c .before .row .given .1) _ (c .before .before .before .before .before .loop .inv .8),
-  figure-on (c .before .before .before .before .before .before .args .t1) (c .before .before .before .before .before .before .args .count) (c .before .before .before .before .before .loop .k) (omega (arith, c .before .before .before .before .before .before .pre .all-slots)) (c .before .before .before .before .before .before .pre .rows) (c .before .before .before .before .loop-test .taken) _ (c .before .row .given .1) _ (c .before .before .before .before .before .loop .inv .9),
-)
+loop-again c =
+    let on = column-on (c .before .before .before .before .before .before .args .t1) (c .before .before .before .before .before .before .args .count) (c .before .before .before .before .before .loop .k) (omega (arith, c .before .before .before .before .before .before .pre .all-slots)) (c .before .before .before .before .loop-test .taken) _ (c .before .row .given .1) {A = ℕ} in
+    (rw length-set (omega arith), rw length-set (omega arith), rw length-set (omega arith), rw length-set (omega arith), rw length-set (omega arith), on costOf _ _ (c .before .before .before .before .before .loop .inv .5), on innermostOf _ _ (c .before .before .before .before .before .loop .inv .6), on firstOf _ _ (c .before .before .before .before .before .loop .inv .7), on secondOf _ _ (c .before .before .before .before .before .loop .inv .8), figure-on (c .before .before .before .before .before .before .args .t1) (c .before .before .before .before .before .before .args .count) (c .before .before .before .before .before .loop .k) (omega (arith, c .before .before .before .before .before .before .pre .all-slots)) (c .before .before .before .before .before .before .pre .rows) (c .before .before .before .before .loop-test .taken) _ (c .before .row .given .1) _ (c .before .before .before .before .before .loop .inv .9))
 
 same-length-6 : tie.Need-same-length-6 Inv-loop μ-loop
 same-length-6 c = search needs
@@ -117,7 +108,9 @@ same-length-10 : tie.Need-same-length-10 Inv-loop μ-loop
 same-length-10 c = search needs
 
 returns-2 : tie.Need-returns-2 Inv-loop μ-loop
-returns-2 c = record { cost = column-done (c .before .before .args .t1) (c .before .before .args .count) (c .before .loop .k) (omega (arith, c .before .before .pre .all-slots)) costOf (omega arith) _ (c .before .loop .inv .5); loops = column-done (c .before .before .args .t1) (c .before .before .args .count) (c .before .loop .k) (omega (arith, c .before .before .pre .all-slots)) innermostOf (omega arith) _ (c .before .loop .inv .6); first = column-done (c .before .before .args .t1) (c .before .before .args .count) (c .before .loop .k) (omega (arith, c .before .before .pre .all-slots)) firstOf (omega arith) _ (c .before .loop .inv .7); second = column-done (c .before .before .args .t1) (c .before .before .args .count) (c .before .loop .k) (omega (arith, c .before .before .pre .all-slots)) secondOf (omega arith) _ (c .before .loop .inv .8); figure = column-done (c .before .before .args .t1) (c .before .before .args .count) (c .before .loop .k) (omega (arith, c .before .before .pre .all-slots)) figureOf (omega arith) _ (c .before .loop .inv .9) }
+returns-2 c =
+    let done = column-done (c .before .before .args .t1) (c .before .before .args .count) (c .before .loop .k) (omega (arith, c .before .before .pre .all-slots)) (omega arith) {A = ℕ} in
+    record { cost = done costOf _ _ (c .before .loop .inv .5); loops = done innermostOf _ _ (c .before .loop .inv .6); first = done firstOf _ _ (c .before .loop .inv .7); second = done secondOf _ _ (c .before .loop .inv .8); figure = column-done (c .before .before .args .t1) (c .before .before .args .count) (c .before .loop .k) (omega (arith, c .before .before .pre .all-slots)) (omega arith) figureOf _ (c .before .loop .inv .9) }
 
 pub fill-blocks-spec : {M : Type 1} → statement M
 fill-blocks-spec =

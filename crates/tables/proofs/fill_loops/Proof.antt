@@ -1,7 +1,7 @@
 use Rattle.tables.specs.Row.{parentOf, headOf, limitOf, multiplierOf}
 use Rattle.tables.specs.Place.{slotOf, rowsIn}
 use Rattle.tables.proofs.Passes.{other-loop, column-on, column-done}
-use Prim.Native.Nat.{_≤_, _<_, _-_}
+use Prim.Native.Nat.{ℕ, _-_}
 use mathlib.Core.Path.{_≡_}
 use mathlib.Core.List.{map}
 use native.Mathlib.Omega.{arith}
@@ -79,16 +79,9 @@ loop-less : tie.Need-loop-less Inv-loop μ-loop
 loop-less c = search needs
 
 loop-again : tie.Need-loop-again Inv-loop μ-loop
-loop-again c = (
-  rw length-set (omega arith),
-  rw length-set (omega arith),
-  rw length-set (omega arith),
-  rw length-set (omega arith),
-  column-on (c .before .before .before .before .before .before .args .t1) (c .before .before .before .before .before .before .args .count) (c .before .before .before .before .before .loop .i) (omega (arith, c .before .before .before .before .before .before .pre .all-slots)) parentOf (c .before .before .before .before .loop-test .taken) _ (c .before .row .given .1) _ (c .before .before .before .before .before .loop .inv .4),
-  column-on (c .before .before .before .before .before .before .args .t1) (c .before .before .before .before .before .before .args .count) (c .before .before .before .before .before .loop .i) (omega (arith, c .before .before .before .before .before .before .pre .all-slots)) headOf (c .before .before .before .before .loop-test .taken) _ (c .before .row .given .1) _ (c .before .before .before .before .before .loop .inv .5),
-  column-on (c .before .before .before .before .before .before .args .t1) (c .before .before .before .before .before .before .args .count) (c .before .before .before .before .before .loop .i) (omega (arith, c .before .before .before .before .before .before .pre .all-slots)) limitOf (c .before .before .before .before .loop-test .taken) _ (c .before .row .given .1) _ (c .before .before .before .before .before .loop .inv .6),
-  column-on (c .before .before .before .before .before .before .args .t1) (c .before .before .before .before .before .before .args .count) (c .before .before .before .before .before .loop .i) (omega (arith, c .before .before .before .before .before .before .pre .all-slots)) multiplierOf (c .before .before .before .before .loop-test .taken) _ (c .before .row .given .1) _ (c .before .before .before .before .before .loop .inv .7),
-)
+loop-again c =
+    let on = column-on (c .before .before .before .before .before .before .args .t1) (c .before .before .before .before .before .before .args .count) (c .before .before .before .before .before .loop .i) (omega (arith, c .before .before .before .before .before .before .pre .all-slots)) (c .before .before .before .before .loop-test .taken) _ (c .before .row .given .1) {A = ℕ} in
+    (rw length-set (omega arith), rw length-set (omega arith), rw length-set (omega arith), rw length-set (omega arith), on parentOf _ _ (c .before .before .before .before .before .loop .inv .4), on headOf _ _ (c .before .before .before .before .before .loop .inv .5), on limitOf _ _ (c .before .before .before .before .before .loop .inv .6), on multiplierOf _ _ (c .before .before .before .before .before .loop .inv .7))
 
 same-length-5 : tie.Need-same-length-5 Inv-loop μ-loop
 same-length-5 c = search needs
@@ -103,7 +96,9 @@ same-length-8 : tie.Need-same-length-8 Inv-loop μ-loop
 same-length-8 c = search needs
 
 returns-2 : tie.Need-returns-2 Inv-loop μ-loop
-returns-2 c = record { parent = column-done (c .before .before .args .t1) (c .before .before .args .count) (c .before .loop .i) (omega (arith, c .before .before .pre .all-slots)) parentOf (omega arith) _ (c .before .loop .inv .4); head = column-done (c .before .before .args .t1) (c .before .before .args .count) (c .before .loop .i) (omega (arith, c .before .before .pre .all-slots)) headOf (omega arith) _ (c .before .loop .inv .5); limit = column-done (c .before .before .args .t1) (c .before .before .args .count) (c .before .loop .i) (omega (arith, c .before .before .pre .all-slots)) limitOf (omega arith) _ (c .before .loop .inv .6); multiplier = column-done (c .before .before .args .t1) (c .before .before .args .count) (c .before .loop .i) (omega (arith, c .before .before .pre .all-slots)) multiplierOf (omega arith) _ (c .before .loop .inv .7) }
+returns-2 c =
+    let done = column-done (c .before .before .args .t1) (c .before .before .args .count) (c .before .loop .i) (omega (arith, c .before .before .pre .all-slots)) (omega arith) {A = ℕ} in
+    record { parent = done parentOf _ _ (c .before .loop .inv .4); head = done headOf _ _ (c .before .loop .inv .5); limit = done limitOf _ _ (c .before .loop .inv .6); multiplier = done multiplierOf _ _ (c .before .loop .inv .7) }
 
 pub fill-loops-spec : {M : Type 1} → statement M
 fill-loops-spec =
