@@ -317,20 +317,13 @@ fn row_at(text: &[u8], t: Layout, at: usize, k: usize) -> Step
     }
 }
 
-// The slots before a row is taken.
-fn no_slots() -> [Slot; 1024]
-    ensures { λ r. ⌜ r ≡ noSlots ⌝ }
-{
-    let none = Slot { row: Row::Bad };
-    [none; 1024]
-}
-
 // The records from `at` on, of which row 0 stands in record `first`: one pass, which writes no column.
 fn gather(text: &[u8], t: Layout, at: usize, first: usize) -> Gathered
     requires { ⌜ (at ≤ length (now text)) × (first ≤ 2) × (t .room ≤ 1024) ⌝ }
     ensures { λ r. ⌜ r ≡ gathered noSlots 0 (reading t first 0 (records (drop at (now (text .entry))))) ⌝ }
 {
-    let mut slots = no_slots();
+    let none = Slot { row: Row::Bad };
+    let mut slots = [none; 1024];
     let mut p = at;
     let mut k: usize = 0;
     while p < text.len() {
@@ -360,7 +353,8 @@ fn gather(text: &[u8], t: Layout, at: usize, first: usize) -> Gathered
 fn refused(number: u32, place: usize) -> Gathered
     ensures { λ r. ⌜ r ≡ gathered noSlots 0 (stopped number place) ⌝ }
 {
-    let slots = no_slots();
+    let none = Slot { row: Row::Bad };
+    let slots = [none; 1024];
     let reply = ReadReply::Refused {
         number,
         record: place,

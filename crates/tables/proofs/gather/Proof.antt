@@ -1,6 +1,6 @@
 use Rattle.tables.proofs.Passes.{turn-range, gather-on, gather-fault, gather-done}
 use Prim.Native.Nat.{_≤_, _<_, _-_}
-use mathlib.Core.Path.{_≡_}
+use mathlib.Core.Path.{_≡_, refl}
 use native.Mathlib.Omega.{arith}
 use lib.ListN.{length, drop}
 use Rattle.csv.specs.Grammar.{records}
@@ -11,7 +11,6 @@ use Rattle.tables.proofs.gather.Statement.{statement}
 use Rattle.tables.proofs.gather.Tie as tie
 use Rattle.tables.proofs.gather.Reads as reads
 use Rattle.tables.proofs.gather.Lts as lts
-use Rattle.tables.proofs.no_slots.Reads as no-slots-reads
 use Rattle.tables.proofs.row_at.Reads as row-at-reads
 
 abbrev Inv-loop : tie.InvT-loop
@@ -21,14 +20,12 @@ abbrev μ-loop : tie.MeasureT-loop
 μ-loop text t at first slots₀ p₀ k₀ slots p k = length text - p
 
 -- the record ends in the text, and the row has a place
-range : (c : tie.After-known-told Inv-loop μ-loop) → (c .before .before .before .before .before .loop .p < c .before .before .before .row-at .result .next) × (c .before .before .before .row-at .result .next ≤ length (c .before .before .before .before .before .before .before .before .args .text .now)) × (c .before .before .before .before .before .loop .k < c .before .before .before .before .before .before .before .before .args .t .room)
-range c = turn-range (c .before .before .before .before .before .before .before .before .args .text .now) (c .before .before .before .before .before .before .before .before .args .t) (c .before .before .before .before .before .before .before .before .args .first) (c .before .before .before .before .before .loop .k) (c .before .before .before .before .before .loop .p) (c .before .before .before .row-at .ensures) (c .before .before .before .before .loop-test .taken) (c .before .verdict .given .0 .0) (c .before .verdict .given .1)
-
-no-slots-requires : tie.Need-no-slots-requires Inv-loop μ-loop
-no-slots-requires c κs = search needs
+range : (c : tie.After-known-told Inv-loop μ-loop) → (c .before .before .before .before .before .loop .p < c .before .before .before .row-at .result .next) × (c .before .before .before .row-at .result .next ≤ length (c .before .before .before .before .before .before .before .args .text .now)) × (c .before .before .before .before .before .loop .k < c .before .before .before .before .before .before .before .args .t .room)
+range c = turn-range (c .before .before .before .before .before .before .before .args .text .now) (c .before .before .before .before .before .before .before .args .t) (c .before .before .before .before .before .before .before .args .first) (c .before .before .before .before .before .loop .k) (c .before .before .before .before .before .loop .p) (c .before .before .before .row-at .ensures) (c .before .before .before .before .loop-test .taken) (c .before .verdict .given .0 .0) (c .before .verdict .given .1)
 
 loop-holds : tie.Need-loop-holds Inv-loop μ-loop
-loop-holds c = (omega arith, omega arith, cc)
+unfolding noSlots
+loop-holds c = (omega arith, omega arith, refl)
 
 row-at-requires : tie.Need-row-at-requires Inv-loop μ-loop
 row-at-requires c κs = search needs
@@ -49,7 +46,7 @@ loop-less : tie.Need-loop-less Inv-loop μ-loop
 loop-less c = omega (arith, range c)
 
 loop-again : tie.Need-loop-again Inv-loop μ-loop
-loop-again c = (omega (arith, range c), omega (arith, range c), gather-on (c .before .before .before .before .before .before .before .before .args .text .now) (c .before .before .before .before .before .before .before .before .args .t) (c .before .before .before .before .before .before .before .before .args .first) (c .before .before .before .before .before .loop .k) (c .before .before .before .before .before .loop .p) (c .before .before .before .row-at .ensures) (c .before .before .before .before .loop-test .taken) (c .before .verdict .given .0 .0) (c .before .verdict .given .1) (c .before .before .before .before .before .loop .slots) (c .before .before .before .before .before .loop .inv .2))
+loop-again c = (omega (arith, range c), omega (arith, range c), gather-on (c .before .before .before .before .before .before .before .args .text .now) (c .before .before .before .before .before .before .before .args .t) (c .before .before .before .before .before .before .before .args .first) (c .before .before .before .before .before .loop .k) (c .before .before .before .before .before .loop .p) (c .before .before .before .row-at .ensures) (c .before .before .before .before .loop-test .taken) (c .before .verdict .given .0 .0) (c .before .verdict .given .1) (c .before .before .before .before .before .loop .slots) (c .before .before .before .before .before .loop .inv .2))
 
 enum-known-verdict-2 : tie.Need-enum-known-verdict-2 Inv-loop μ-loop
 enum-known-verdict-2 c = search needs
@@ -69,7 +66,6 @@ gather-spec =
     (tie.spec
     Inv-loop
     μ-loop
-    no-slots-requires
     loop-holds
     row-at-requires
     enum-known-verdict
