@@ -49,7 +49,7 @@ same-length-5 : tie.Need-same-length-5 Inv-loop μ-loop
 same-length-5 c = search needs
 
 returns : tie.Need-returns Inv-loop μ-loop
-returns c = absurd (other-block (c .before .before .before .before .args .t1) (c .before .before .before .before .args .count) (c .before .before .before .loop .k) (omega (arith, c .before .before .before .before .pre .all-slots)) (c .before .before .before .before .pre .rows) (c .before .before .loop-test .taken) (slotOf (Block 0 0 0 0 0 (pos 0))) (c .match .keys2))
+returns c = absurd (other-block (c .before .before .before .before .args .t1) (c .before .before .before .before .args .count) (c .before .before .before .loop .k) (omega (arith, c .before .before .before .before .pre .all-slots)) (c .before .before .before .before .pre .rows) (omega arith) (slotOf (Block 0 0 0 0 0 (pos 0))) (c .match .keys2))
 
 mul-cost : tie.Need-mul-cost Inv-loop μ-loop
 mul-cost c = search needs
@@ -89,8 +89,8 @@ loop-less c = search needs
 
 loop-again : tie.Need-loop-again Inv-loop μ-loop
 loop-again c =
-    let on = column-on (c .before .before .before .before .before .before .args .t1) (c .before .before .before .before .before .before .args .count) (c .before .before .before .before .before .loop .k) (omega (arith, c .before .before .before .before .before .before .pre .all-slots)) (c .before .before .before .before .loop-test .taken) _ (c .before .row .given .1) {A = ℕ} in
-    (rw length-set (omega arith), rw length-set (omega arith), rw length-set (omega arith), rw length-set (omega arith), rw length-set (omega arith), on costOf _ _ (c .before .before .before .before .before .loop .inv .5), on innermostOf _ _ (c .before .before .before .before .before .loop .inv .6), on firstOf _ _ (c .before .before .before .before .before .loop .inv .7), on secondOf _ _ (c .before .before .before .before .before .loop .inv .8), figure-on (c .before .before .before .before .before .before .args .t1) (c .before .before .before .before .before .before .args .count) (c .before .before .before .before .before .loop .k) (omega (arith, c .before .before .before .before .before .before .pre .all-slots)) (c .before .before .before .before .before .before .pre .rows) (c .before .before .before .before .loop-test .taken) _ (c .before .row .given .1) _ (c .before .before .before .before .before .loop .inv .9))
+    let on = column-on (c .before .before .before .before .before .before .args .t1) (c .before .before .before .before .before .before .args .count) (c .before .before .before .before .before .loop .k) (omega (arith, c .before .before .before .before .before .before .pre .all-slots)) (omega arith) _ (c .before .row .given .1) {A = ℕ} in
+    (rw length-set (omega arith), rw length-set (omega arith), rw length-set (omega arith), rw length-set (omega arith), rw length-set (omega arith), on costOf _ _ (c .before .before .before .before .before .loop .inv .5), on innermostOf _ _ (c .before .before .before .before .before .loop .inv .6), on firstOf _ _ (c .before .before .before .before .before .loop .inv .7), on secondOf _ _ (c .before .before .before .before .before .loop .inv .8), figure-on (c .before .before .before .before .before .before .args .t1) (c .before .before .before .before .before .before .args .count) (c .before .before .before .before .before .loop .k) (omega (arith, c .before .before .before .before .before .before .pre .all-slots)) (c .before .before .before .before .before .before .pre .rows) (omega arith) _ (c .before .row .given .1) _ (c .before .before .before .before .before .loop .inv .9))
 
 same-length-6 : tie.Need-same-length-6 Inv-loop μ-loop
 same-length-6 c = search needs

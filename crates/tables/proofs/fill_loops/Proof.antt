@@ -46,7 +46,7 @@ same-length-4 : tie.Need-same-length-4 Inv-loop μ-loop
 same-length-4 c = search needs
 
 returns : tie.Need-returns Inv-loop μ-loop
-returns c = absurd (other-loop (c .before .before .before .before .args .t1) (c .before .before .before .before .args .count) (c .before .before .before .loop .i) (omega (arith, c .before .before .before .before .pre .all-slots)) (c .before .before .before .before .pre .rows) (c .before .before .loop-test .taken) (slotOf (Block 0 0 0 0 0 (pos 0))) (c .match .keys2))
+returns c = absurd (other-loop (c .before .before .before .before .args .t1) (c .before .before .before .before .args .count) (c .before .before .before .loop .i) (omega (arith, c .before .before .before .before .pre .all-slots)) (c .before .before .before .before .pre .rows) (omega arith) (slotOf (Block 0 0 0 0 0 (pos 0))) (c .match .keys2))
 
 mul-parent : tie.Need-mul-parent Inv-loop μ-loop
 mul-parent c = search needs
@@ -80,7 +80,7 @@ loop-less c = search needs
 
 loop-again : tie.Need-loop-again Inv-loop μ-loop
 loop-again c =
-    let on = column-on (c .before .before .before .before .before .before .args .t1) (c .before .before .before .before .before .before .args .count) (c .before .before .before .before .before .loop .i) (omega (arith, c .before .before .before .before .before .before .pre .all-slots)) (c .before .before .before .before .loop-test .taken) _ (c .before .row .given .1) {A = ℕ} in
+    let on = column-on (c .before .before .before .before .before .before .args .t1) (c .before .before .before .before .before .before .args .count) (c .before .before .before .before .before .loop .i) (omega (arith, c .before .before .before .before .before .before .pre .all-slots)) (omega arith) _ (c .before .row .given .1) {A = ℕ} in
     (rw length-set (omega arith), rw length-set (omega arith), rw length-set (omega arith), rw length-set (omega arith), on parentOf _ _ (c .before .before .before .before .before .loop .inv .4), on headOf _ _ (c .before .before .before .before .before .loop .inv .5), on limitOf _ _ (c .before .before .before .before .before .loop .inv .6), on multiplierOf _ _ (c .before .before .before .before .before .loop .inv .7))
 
 same-length-5 : tie.Need-same-length-5 Inv-loop μ-loop
