@@ -1,0 +1,26 @@
+// The test program: the cases at the limits of document 01, each with the reply that it must have, are read from standard input. The library
+// and a checker that was written apart from it both reply to each case, and all three are compared.
+mod cells;
+mod making;
+mod reading;
+mod rules;
+mod running;
+mod script;
+mod stepping;
+mod tally;
+
+use cells::part;
+use libc::STDIN_FILENO;
+use tally::Tally;
+use tally::say;
+use tally::say_number;
+
+fn main() {
+    let mut text = [0u8; 65536];
+    let n = io::read_full(STDIN_FILENO, &mut text);
+    let t = script::run(part(&text, 0, n), Tally::new());
+    say_number(t.cases);
+    say(b" cases, ");
+    say_number(t.wrong);
+    say(b" wrong\n");
+}

@@ -1,0 +1,271 @@
+// Bytes and columns that the cases are made of.
+use crate::cells::ZERO;
+use crate::cells::plus;
+use crate::cells::put_u8;
+use crate::cells::put_u16;
+use crate::cells::raised;
+use crate::cells::to_u16;
+use crate::reading::Digits;
+use crate::reading::with_digit;
+
+// Puts a piece at an index of the text, and says where the next one goes.
+pub fn push(text: &mut [u8], at: usize, piece: &[u8]) -> usize {
+    for i in 0..piece.len() {
+        put_u8(text, plus(at, i), piece[i]);
+    }
+    plus(at, piece.len())
+}
+
+pub fn push_number(text: &mut [u8], at: usize, n: usize) -> usize {
+    let mut digits = [0u8; 20];
+    let k = io::decimal(n as u64, &mut digits);
+    push(text, at, &digits[..k])
+}
+
+pub fn push_signed(text: &mut [u8], at: usize, z: i64) -> usize {
+    let r = raised(z);
+    if r >= ZERO {
+        return push_number(text, at, r - ZERO);
+    }
+    let behind = push(text, at, b"-");
+    push_number(text, behind, ZERO - r)
+}
+
+// A row that says nothing but its number.
+fn push_row(text: &mut [u8], at: usize, i: usize, of_blocks: bool) -> usize {
+    let behind = push_number(text, at, i);
+    if of_blocks {
+        return push(text, behind, b",0,0,,,0\r\n");
+    }
+    push(text, behind, b",0,0,1,0\r\n")
+}
+
+// A power of ten, written with as many digits as the row number lacks of 20.
+fn push_power(text: &mut [u8], at: usize, i: usize) -> usize {
+    if i < 10 {
+        return push(text, at, b"1000000000000000000");
+    }
+    if i < 100 {
+        return push(text, at, b"100000000000000000");
+    }
+    if i < 1000 {
+        return push(text, at, b"10000000000000000");
+    }
+    push(text, at, b"1000000000000000")
+}
+
+// A block row of exactly 64 bytes.
+fn push_wide_row(text: &mut [u8], from: usize, i: usize) -> usize {
+    let a = push(text, from, b"\"");
+    let b = push_number(text, a, i);
+    let c = push(
+        text,
+        b,
+        b"\",\"4294967295\",\"65535\",\"65534\",\"65534\",\"",
+    );
+    let d = push_power(text, c, i);
+    push(text, d, b"\"\r\n")
+}
+
+// What is repeated: rows, wide rows or one byte.
+fn push_one(text: &mut [u8], at: usize, i: usize, what: u8, byte: u8, of_blocks: bool) -> usize {
+    if what == b'R' {
+        return push_row(text, at, i, of_blocks);
+    }
+    if what == b'W' {
+        return push_wide_row(text, at, i);
+    }
+    put_u8(text, at, byte);
+    plus(at, 1)
+}
+
+fn push_many(
+    text: &mut [u8],
+    from: usize,
+    count: usize,
+    what: u8,
+    byte: u8,
+    of_blocks: bool,
+) -> usize {
+    let mut at = from;
+    for i in 0..count {
+        at = push_one(text, at, i, what, byte, of_blocks);
+    }
+    at
+}
+
+// Where the next byte of a written text stands: outside, behind a backslash, in a count, behind the star of a count.
+const OUTSIDE: u8 = 0;
+
+const BACKSLASH: u8 = 1;
+
+const COUNT: u8 = 2;
+
+const STAR: u8 = 3;
+
+struct Maker {
+    state: u8,
+    count: usize,
+    at: usize,
+}
+
+impl Maker {
+    fn moved(self, state: u8, at: usize) -> Maker {
+        Maker {
+            state,
+            count: 0,
+            at,
+        }
+    }
+
+    fn outside(self, b: u8, text: &mut [u8]) -> Maker {
+        let at = self.at;
+        if b == b'\\' {
+            return self.moved(BACKSLASH, at);
+        }
+        if b == b'%' {
+            return self.moved(COUNT, at);
+        }
+        if b == b';' {
+            return self.moved(OUTSIDE, push(text, at, b"\r\n"));
+        }
+        put_u8(text, at, b);
+        self.moved(OUTSIDE, plus(at, 1))
+    }
+
+    fn counting(self, b: u8, text: &mut [u8], of_blocks: bool) -> Maker {
+        let at = self.at;
+        let count = self.count;
+        if b == b'*' {
+            return Maker {
+                state: STAR,
+                count,
+                at,
+            };
+        }
+        if b == b'R' || b == b'W' {
+            return self.moved(OUTSIDE, push_many(text, at, count, b, 0, of_blocks));
+        }
+        let digits = with_digit(
+            Digits {
+                size: count,
+                bad: false,
+            },
+            b,
+        );
+        Maker {
+            state: COUNT,
+            count: digits.size,
+            at,
+        }
+    }
+
+    fn with(self, b: u8, text: &mut [u8], of_blocks: bool) -> Maker {
+        let at = self.at;
+        let count = self.count;
+        let state = self.state;
+        if state == BACKSLASH {
+            put_u8(text, at, escaped(b));
+            return self.moved(OUTSIDE, plus(at, 1));
+        }
+        if state == COUNT {
+            return self.counting(b, text, of_blocks);
+        }
+        if state == STAR {
+            return self.moved(OUTSIDE, push_many(text, at, count, 0, b, of_blocks));
+        }
+        self.outside(b, text)
+    }
+}
+
+// The byte that a letter behind a backslash stands for: CR, LF, 0, 255 and the three bytes of a byte order mark.
+fn escaped(b: u8) -> u8 {
+    if b == b'r' {
+        return 13;
+    }
+    if b == b'n' {
+        return 10;
+    }
+    if b == b'z' {
+        return 0;
+    }
+    if b == b'f' {
+        return 255;
+    }
+    if b == b'a' {
+        return 239;
+    }
+    if b == b'b' { 187 } else { 191 }
+}
+
+// The text that is written in a case, and its length: `;` is CR LF, `%1024R` is 1,024 rows, `%1024W` rows of 64 bytes and `%64*x` a byte 64 times.
+pub fn make_text(written: &[u8], of_blocks: bool, text: &mut [u8]) -> usize {
+    let mut s = Maker {
+        state: OUTSIDE,
+        count: 0,
+        at: 0,
+    };
+    for i in 0..written.len() {
+        s = s.with(written[i], text, of_blocks);
+    }
+    s.at
+}
+
+struct Steps {
+    count: usize,
+    value: usize,
+}
+
+fn with_step(s: Steps, b: u8, steps: &mut [u16]) -> Steps {
+    let count = s.count;
+    if b == b' ' {
+        put_u16(steps, count, to_u16(s.value));
+        return Steps {
+            count: plus(count, 1),
+            value: 0,
+        };
+    }
+    let digits = with_digit(
+        Digits {
+            size: s.value,
+            bad: false,
+        },
+        b,
+    );
+    Steps {
+        count,
+        value: digits.size,
+    }
+}
+
+// The walk that is written in a case, each block with a blank behind it, and its length.
+pub fn make_steps(written: &[u8], steps: &mut [u16]) -> usize {
+    let mut s = Steps { count: 0, value: 0 };
+    for i in 0..written.len() {
+        s = with_step(s, written[i], steps);
+    }
+    s.count
+}
+
+// Block k becomes the header of loop k, inside loop k - 1 or, where the loops are not nested, inside loop 0.
+fn declare(inner: &mut [u16], parent: &mut [u16], header: &mut [u16], k: usize, nested: bool) {
+    put_u16(inner, k, to_u16(k));
+    put_u16(header, k, to_u16(k));
+    if nested {
+        if k > 0 {
+            put_u16(parent, k, to_u16(k - 1));
+        }
+    }
+}
+
+pub fn declare_all(
+    inner: &mut [u16],
+    parent: &mut [u16],
+    header: &mut [u16],
+    m: usize,
+    nested: bool,
+) {
+    for k in 0..m {
+        declare(inner, parent, header, k, nested);
+    }
+}

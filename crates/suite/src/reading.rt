@@ -1,0 +1,409 @@
+// A reader of one table, written from document 01 apart from the library: one byte at a time, each field's text copied out.
+// It is slow on purpose, and it is what the library's replies are compared with.
+use crate::cells::RowCells;
+use crate::cells::plus;
+use crate::tally::refused;
+use crate::tally::row_count;
+use rolkeyda::Reply;
+
+// Where the next byte stands: at a field's start, in a plain field, within quotes, behind a quote mark within quotes, behind a CR.
+const START: u8 = 0;
+
+const PLAIN: u8 = 1;
+
+const QUOTED: u8 = 2;
+
+const MARK: u8 = 3;
+
+const RETURN: u8 = 4;
+
+struct Reading {
+    state: u8,
+    // whether the record has begun, and whether the last byte ended it
+    begun: bool,
+    ended: bool,
+    // the number of the refusal, 0 while there is none
+    fault: u32,
+    record: usize,
+    row: usize,
+    // of the present record: the fields so far, whether one of them is no number of its column, and what they say
+    fields: usize,
+    bad: bool,
+    values: [usize; 7],
+    // of the present field: the bytes as written, and its text
+    written: usize,
+    length: usize,
+    text: [u8; 64],
+}
+
+// A field's number, and whether it is none of its column.
+struct Cell {
+    size: usize,
+    negative: bool,
+    bad: bool,
+}
+
+pub struct Digits {
+    pub size: usize,
+    pub bad: bool,
+}
+
+fn wide(b: u8) -> usize {
+    b as usize
+}
+
+fn byte_at(text: [u8; 64], i: usize) -> u8 {
+    if i < 64 {
+        return text[i];
+    }
+    0
+}
+
+// One digit more; a number that passes 2^64 - 1 is bad.
+pub fn with_digit(d: Digits, b: u8) -> Digits {
+    let none = Digits { size: 0, bad: true };
+    if d.bad || b < 48 || b > 57 {
+        return none;
+    }
+    let size = d.size;
+    if size > 1844674407370955161 {
+        return none;
+    }
+    let digit = wide(b - 48);
+    let tens = size * 10;
+    if digit > 18446744073709551615 - tens {
+        return none;
+    }
+    Digits {
+        size: tens + digit,
+        bad: false,
+    }
+}
+
+fn digits_of(text: [u8; 64], from: usize, to: usize) -> Digits {
+    let mut d = Digits {
+        size: 0,
+        bad: false,
+    };
+    for i in from..to {
+        d = with_digit(d, byte_at(text, i));
+    }
+    d
+}
+
+// The largest number of a column. The figure's is larger by 1 below zero.
+fn largest(columns: usize, c: usize, negative: bool) -> usize {
+    if columns == 6 {
+        return largest_of_block(c, negative);
+    }
+    if c == 3 {
+        return 4294967295;
+    }
+    if c == 4 {
+        return 18446744073709551615;
+    }
+    65535
+}
+
+fn largest_of_block(c: usize, negative: bool) -> usize {
+    if c == 1 {
+        return 4294967295;
+    }
+    if c == 3 || c == 4 {
+        return 65534;
+    }
+    if c == 5 {
+        return if negative {
+            9223372036854775808
+        } else {
+            9223372036854775807
+        };
+    }
+    65535
+}
+
+fn empty_cell(columns: usize, c: usize) -> Cell {
+    let successor = columns == 6 && (c == 3 || c == 4);
+    Cell {
+        size: 65535,
+        negative: false,
+        bad: !successor,
+    }
+}
+
+fn cell_of(text: [u8; 64], length: usize, columns: usize, c: usize) -> Cell {
+    if length == 0 {
+        return empty_cell(columns, c);
+    }
+    let negative = columns == 6 && c == 5 && byte_at(text, 0) == 45;
+    let from = if negative { 1 } else { 0 };
+    let d = digits_of(text, from, length);
+    let zero = byte_at(text, from) == 48;
+    let mut bad = d.bad || length == from || d.size > largest(columns, c, negative);
+    if zero {
+        // 0 alone is the only number that starts so, and it has no sign.
+        bad = bad || negative || length > 1;
+    }
+    Cell {
+        size: d.size,
+        negative,
+        bad,
+    }
+}
+
+impl Reading {
+    fn new() -> Self {
+        Reading {
+            state: START,
+            begun: false,
+            ended: false,
+            fault: 0,
+            record: 1,
+            row: 0,
+            fields: 0,
+            bad: false,
+            values: [0; 7],
+            written: 0,
+            length: 0,
+            text: [0; 64],
+        }
+    }
+
+    fn broken(mut self) -> Reading {
+        self.fault = 102;
+        self
+    }
+
+    fn with_text(mut self, b: u8) -> Reading {
+        let length = self.length;
+        if length < 64 {
+            self.text[length] = b;
+            self.length = length + 1;
+        }
+        self
+    }
+
+    // One byte more of the field as written, and of its text where it counts there. 64 are the most.
+    fn with_byte(mut self, b: u8, counts: bool) -> Reading {
+        let written = self.written;
+        if written >= 64 {
+            return self.broken();
+        }
+        self.written = written + 1;
+        if counts {
+            return self.with_text(b);
+        }
+        self
+    }
+
+    fn in_state(mut self, state: u8) -> Reading {
+        self.state = state;
+        self
+    }
+
+    fn field_ended(mut self, columns: usize) -> Reading {
+        let c = self.fields;
+        let text = self.text;
+        let length = self.length;
+        let cell = cell_of(text, length, columns, c);
+        self.bad = self.bad || cell.bad;
+        if c < 6 {
+            self.values[c] = cell.size;
+        }
+        if cell.negative {
+            self.values[6] = 1;
+        }
+        self.fields = plus(c, 1);
+        self.state = START;
+        self.written = 0;
+        self.length = 0;
+        self
+    }
+
+    // A comma or a CR behind a field; anything else is not for here.
+    fn behind_field(self, b: u8, columns: usize) -> Reading {
+        if b == 44 {
+            return self.field_ended(columns);
+        }
+        if b == 13 {
+            return self.in_state(RETURN);
+        }
+        self.broken()
+    }
+
+    fn in_plain(self, b: u8, columns: usize) -> Reading {
+        if b == 34 {
+            if self.state == START {
+                return self.in_state(QUOTED).with_byte(b, false);
+            }
+            return self.broken();
+        }
+        if b == 44 || b == 13 || b == 10 {
+            return self.behind_field(b, columns);
+        }
+        self.in_state(PLAIN).with_byte(b, true)
+    }
+
+    fn in_quotes(self, b: u8) -> Reading {
+        if b == 34 {
+            return self.in_state(MARK).with_byte(b, false);
+        }
+        self.with_byte(b, true)
+    }
+
+    fn behind_mark(self, b: u8, columns: usize) -> Reading {
+        if b == 34 {
+            return self.in_state(QUOTED).with_byte(b, true);
+        }
+        self.behind_field(b, columns)
+    }
+
+    fn behind_return(self, b: u8, columns: usize) -> Reading {
+        if b != 10 {
+            return self.broken();
+        }
+        let mut next = self.field_ended(columns);
+        next.ended = true;
+        next
+    }
+
+    fn with(mut self, b: u8, columns: usize) -> Reading {
+        self.begun = true;
+        let state = self.state;
+        if state == QUOTED {
+            return self.in_quotes(b);
+        }
+        if state == MARK {
+            return self.behind_mark(b, columns);
+        }
+        if state == RETURN {
+            return self.behind_return(b, columns);
+        }
+        self.in_plain(b, columns)
+    }
+
+    // The first number that the record is refused with, 0 where there is none.
+    fn record_fault(self, header: bool, columns: usize, room: usize) -> u32 {
+        if self.fields != columns {
+            return 103;
+        }
+        if header && self.record == 1 {
+            return 0;
+        }
+        if self.bad {
+            return 104;
+        }
+        if self.values[0] != self.row {
+            return 105;
+        }
+        if self.row >= room {
+            return 106;
+        }
+        0
+    }
+
+    // Ready for the record behind this one.
+    fn next_record(mut self, header: bool) -> Reading {
+        let of_header = header && self.record == 1;
+        if !of_header {
+            self.row = plus(self.row, 1);
+        }
+        self.record = plus(self.record, 1);
+        self.fields = 0;
+        self.bad = false;
+        self.begun = false;
+        self.ended = false;
+        self.values[6] = 0;
+        self
+    }
+
+    fn record_ended(
+        mut self,
+        header: bool,
+        columns: usize,
+        room: usize,
+        out: &mut RowCells,
+    ) -> Reading {
+        let fault = self.record_fault(header, columns, room);
+        if fault != 0 {
+            self.fault = fault;
+            return self;
+        }
+        if !(header && self.record == 1) {
+            let values = self.values;
+            put_row(out, self.row, values);
+        }
+        self.next_record(header)
+    }
+
+    fn turn(self, b: u8, header: bool, columns: usize, room: usize, out: &mut RowCells) -> Reading {
+        if self.fault != 0 {
+            return self;
+        }
+        let next = self.with(b, columns);
+        if next.ended && next.fault == 0 {
+            return next.record_ended(header, columns, room, out);
+        }
+        next
+    }
+
+    // The text ends: so does a record that has begun, unless a quote is open or a CR has no LF.
+    fn end(self, header: bool, columns: usize, room: usize, out: &mut RowCells) -> Reading {
+        if self.fault != 0 || !self.begun {
+            return self;
+        }
+        if self.state == QUOTED || self.state == RETURN {
+            return self.broken();
+        }
+        self.field_ended(columns)
+            .record_ended(header, columns, room, out)
+    }
+
+    fn reply(self, header: bool) -> Reply {
+        if self.fault != 0 {
+            return refused(self.fault, self.record);
+        }
+        if header && self.record == 1 {
+            return refused(103, 1);
+        }
+        row_count(self.row)
+    }
+}
+
+fn put_row(out: &mut RowCells, row: usize, values: [usize; 7]) {
+    if row >= 1026 {
+        return;
+    }
+    let at = row * 7;
+    out[at] = values[0];
+    out[at + 1] = values[1];
+    out[at + 2] = values[2];
+    out[at + 3] = values[3];
+    out[at + 4] = values[4];
+    out[at + 5] = values[5];
+    out[at + 6] = values[6];
+}
+
+// Number c of a row; number 6 is 1 where the figure is negative.
+pub fn row_cell(rows: &RowCells, row: usize, c: usize) -> usize {
+    if row >= 1026 {
+        return 0;
+    }
+    if c >= 7 {
+        return 0;
+    }
+    rows[row * 7 + c]
+}
+
+// Reads a table of 6 or 5 columns, of at most `room` rows, into `out`.
+pub fn read(text: &[u8], header: bool, columns: usize, room: usize, out: &mut RowCells) -> Reply {
+    if text.len() > 65536 {
+        return refused(101, 0);
+    }
+    let mut s = Reading::new();
+    for i in 0..text.len() {
+        s = s.turn(text[i], header, columns, room, out);
+    }
+    s = s.end(header, columns, room, out);
+    s.reply(header)
+}

@@ -1,0 +1,377 @@
+// The rules 201 to 208 and the bound, written from document 01 apart from the library: one rule after the other, one place after the other,
+// one edge at a time, and whether a block is inside a loop found by following parents.
+use crate::cells::BlockCells;
+use crate::cells::LoopCells;
+use crate::cells::i64_at;
+use crate::cells::plus;
+use crate::cells::raised;
+use crate::cells::signed;
+use crate::cells::u16_at;
+use crate::cells::u32_at;
+use crate::cells::u64_at;
+use crate::tally::accepted;
+use crate::tally::impossible;
+use crate::tally::refused;
+use rolkeyda::Reply;
+
+const COST: usize = 0;
+
+const LOOP: usize = 1;
+
+const FIRST: usize = 2;
+
+const SECOND: usize = 3;
+
+const FIGURE: usize = 4;
+
+const PARENT: usize = 0;
+
+const HEADER: usize = 1;
+
+const LIMIT: usize = 2;
+
+const MULTIPLIER: usize = 3;
+
+const MISSING: usize = 65535;
+
+pub fn of_block(b: &BlockCells, u: usize, c: usize) -> usize {
+    if u >= 1025 {
+        return 0;
+    }
+    if c >= 5 {
+        return 0;
+    }
+    b[u * 5 + c]
+}
+
+pub fn of_loop(l: &LoopCells, k: usize, c: usize) -> usize {
+    if k >= 65 {
+        return 0;
+    }
+    if c >= 4 {
+        return 0;
+    }
+    l[k * 4 + c]
+}
+
+// Whether loop k is loop l, its parent, and so on up.
+fn around(loops: &LoopCells, l: usize, k: usize) -> bool {
+    let mut at = l;
+    for _ in 0..65usize {
+        if at == k {
+            return true;
+        }
+        at = of_loop(loops, at, PARENT);
+    }
+    false
+}
+
+pub fn inside(b: &BlockCells, l: &LoopCells, u: usize, k: usize) -> bool {
+    around(l, of_block(b, u, LOOP), k)
+}
+
+// How many loops are around a block.
+fn depth(b: &BlockCells, l: &LoopCells, m: usize, u: usize) -> usize {
+    let mut count = 0;
+    for k in 0..m {
+        count = more_if(inside(b, l, u, k), count);
+    }
+    count
+}
+
+fn more_if(one: bool, count: usize) -> usize {
+    if one { plus(count, 1) } else { count }
+}
+
+// Whether u is the last of n blocks.
+pub fn is_exit(n: usize, u: usize) -> bool {
+    n > 0 && u == n - 1
+}
+
+// Whether an edge enters a loop elsewhere than at its header.
+fn passes_header(b: &BlockCells, l: &LoopCells, m: usize, u: usize, v: usize) -> bool {
+    for k in 0..m {
+        if inside(b, l, v, k) && !inside(b, l, u, k) && v != of_loop(l, k, HEADER) {
+            return true;
+        }
+    }
+    false
+}
+
+// The loop that a block is the header of, m where there is none.
+fn headed_by(l: &LoopCells, m: usize, v: usize) -> usize {
+    for k in 0..m {
+        if of_loop(l, k, HEADER) == v {
+            return k;
+        }
+    }
+    m
+}
+
+// The multiplier, once for each visit after the first that the limit allows.
+fn weight(multiplier: usize, limit: usize) -> usize {
+    let mut sum = 0;
+    for _ in 1..limit {
+        sum = plus(sum, multiplier);
+    }
+    sum
+}
+
+fn inequality_broken(b: &BlockCells, l: &LoopCells, m: usize, u: usize, v: usize) -> bool {
+    let before = of_block(b, u, FIGURE);
+    let after = plus(of_block(b, v, FIGURE), of_block(b, v, COST));
+    let k = headed_by(l, m, v);
+    if k == m {
+        return after > before;
+    }
+    let multiplier = of_loop(l, k, MULTIPLIER);
+    if inside(b, l, u, k) {
+        return after > plus(before, multiplier);
+    }
+    plus(after, weight(multiplier, of_loop(l, k, LIMIT))) > before
+}
+
+fn edge_broken(
+    rule: u32,
+    b: &BlockCells,
+    l: &LoopCells,
+    n: usize,
+    m: usize,
+    u: usize,
+    v: usize,
+) -> bool {
+    if v == MISSING {
+        return false;
+    }
+    if rule == 206 {
+        return v == 0 || is_exit(n, u);
+    }
+    if rule == 207 {
+        return passes_header(b, l, m, u, v);
+    }
+    inequality_broken(b, l, m, u, v)
+}
+
+fn loop_broken(l: &LoopCells, n: usize, k: usize) -> bool {
+    let parent = of_loop(l, k, PARENT);
+    let header = of_loop(l, k, HEADER);
+    let limit = of_loop(l, k, LIMIT);
+    let multiplier = of_loop(l, k, MULTIPLIER);
+    if k == 0 {
+        return parent != 0 || header != 0 || limit != 1 || multiplier != 0;
+    }
+    parent >= k || header >= n || limit < 1 || limit > 65535 || multiplier > 1099511627776
+}
+
+fn successor_broken(n: usize, v: usize) -> bool {
+    v != MISSING && v >= n
+}
+
+fn block_broken(b: &BlockCells, n: usize, m: usize, u: usize) -> bool {
+    let figure = of_block(b, u, FIGURE);
+    if of_block(b, u, COST) > 1000000 || of_block(b, u, LOOP) >= m {
+        return true;
+    }
+    if successor_broken(n, of_block(b, u, FIRST)) || successor_broken(n, of_block(b, u, SECOND)) {
+        return true;
+    }
+    // 2^62 - 2^60 and 2^62 + 2^60
+    figure < 3458764513820540928 || figure > 5764607523034234880
+}
+
+fn broken(rule: u32, b: &BlockCells, l: &LoopCells, n: usize, m: usize, i: usize) -> bool {
+    let header = of_loop(l, i, HEADER);
+    if rule == 202 {
+        return loop_broken(l, n, i);
+    }
+    if rule == 203 {
+        return block_broken(b, n, m, i);
+    }
+    if rule == 204 {
+        return of_block(b, header, LOOP) != i;
+    }
+    if rule == 205 {
+        return depth(b, l, m, header) > 16;
+    }
+    edge_broken(rule, b, l, n, m, i, of_block(b, i, FIRST))
+        || edge_broken(rule, b, l, n, m, i, of_block(b, i, SECOND))
+}
+
+// How many places a rule has: loops or blocks.
+fn places_of(rule: u32, n: usize, m: usize) -> usize {
+    if rule == 202 || rule == 204 || rule == 205 {
+        m
+    } else {
+        n
+    }
+}
+
+// The lowest place that breaks a rule, 2,000 where there is none.
+fn first_broken(
+    rule: u32,
+    b: &BlockCells,
+    l: &LoopCells,
+    n: usize,
+    m: usize,
+    places: usize,
+) -> usize {
+    for i in 0..places {
+        if broken(rule, b, l, n, m, i) {
+            return i;
+        }
+    }
+    2000
+}
+
+// The first broken one of the rules from 202 on and below `end`; number 0 where none is.
+pub fn first_refusal(b: &BlockCells, l: &LoopCells, n: usize, m: usize, end: u32) -> Reply {
+    for rule in 202..end {
+        let place = first_broken(rule, b, l, n, m, places_of(rule, n, m));
+        if place < 2000 {
+            return refused(rule, place);
+        }
+    }
+    accepted(0, 0)
+}
+
+pub fn sizes_broken(sizes: [usize; 9]) -> bool {
+    let n = sizes[0];
+    let m = sizes[5];
+    if n < 2 || n > 1024 || m < 1 || m > 64 {
+        return true;
+    }
+    if sizes[1] != n || sizes[2] != n || sizes[3] != n || sizes[4] != n {
+        return true;
+    }
+    sizes[6] != m || sizes[7] != m || sizes[8] != m
+}
+
+fn put_block(
+    out: &mut BlockCells,
+    u: usize,
+    cost: usize,
+    inner: usize,
+    first: usize,
+    second: usize,
+    figure: usize,
+) {
+    if u >= 1025 {
+        return;
+    }
+    let at = u * 5;
+    out[at] = cost;
+    out[at + 1] = inner;
+    out[at + 2] = first;
+    out[at + 3] = second;
+    out[at + 4] = figure;
+}
+
+fn put_loop(
+    out: &mut LoopCells,
+    k: usize,
+    parent: usize,
+    header: usize,
+    limit: usize,
+    multiplier: usize,
+) {
+    if k >= 65 {
+        return;
+    }
+    let at = k * 4;
+    out[at] = parent;
+    out[at + 1] = header;
+    out[at + 2] = limit;
+    out[at + 3] = multiplier;
+}
+
+// The blocks as numbers. The figures have 2^62 added.
+pub fn copy_blocks(
+    cost: &[u32],
+    inner: &[u16],
+    first: &[u16],
+    second: &[u16],
+    figure: &[i64],
+    out: &mut BlockCells,
+) {
+    for u in 0..cost.len() {
+        put_block(
+            out,
+            u,
+            u32_at(cost, u),
+            u16_at(inner, u),
+            u16_at(first, u),
+            u16_at(second, u),
+            raised(i64_at(figure, u)),
+        );
+    }
+}
+
+pub fn copy_loops(
+    parent: &[u16],
+    header: &[u16],
+    limit: &[u32],
+    multiplier: &[u64],
+    out: &mut LoopCells,
+) {
+    for k in 0..parent.len() {
+        put_loop(
+            out,
+            k,
+            u16_at(parent, k),
+            u16_at(header, k),
+            u32_at(limit, k),
+            u64_at(multiplier, k),
+        );
+    }
+}
+
+fn bound(b: &BlockCells, n: usize) -> Reply {
+    if n == 0 {
+        return impossible();
+    }
+    let entry = plus(of_block(b, 0, COST), of_block(b, 0, FIGURE));
+    let exit = of_block(b, n - 1, FIGURE);
+    if exit > entry {
+        return accepted(signed(true, exit - entry), 0);
+    }
+    accepted(signed(false, entry - exit), 0)
+}
+
+// The reply to a pair of tables.
+pub fn check(
+    cost: &[u32],
+    inner: &[u16],
+    first: &[u16],
+    second: &[u16],
+    figure: &[i64],
+    parent: &[u16],
+    header: &[u16],
+    limit: &[u32],
+    multiplier: &[u64],
+) -> Reply {
+    let n = cost.len();
+    let m = parent.len();
+    let sizes = [
+        n,
+        inner.len(),
+        first.len(),
+        second.len(),
+        figure.len(),
+        m,
+        header.len(),
+        limit.len(),
+        multiplier.len(),
+    ];
+    if sizes_broken(sizes) {
+        return refused(201, 0);
+    }
+    let mut b = [0usize; 5125];
+    let mut l = [0usize; 260];
+    copy_blocks(cost, inner, first, second, figure, &mut b);
+    copy_loops(parent, header, limit, multiplier, &mut l);
+    let refusal = first_refusal(&b, &l, n, m, 209);
+    if refusal.number != 0 {
+        return refusal;
+    }
+    bound(&b, n)
+}

@@ -1,0 +1,269 @@
+// The cases are lines of text: what to run, a name, the reply that it must have, and what it is run on, with a bar between them.
+use crate::cells::part;
+use crate::cells::plus;
+use crate::cells::put_u16;
+use crate::cells::to_u16;
+use crate::making::declare_all;
+use crate::making::make_steps;
+use crate::making::make_text;
+use crate::reading::Digits;
+use crate::reading::with_digit;
+use crate::running::NONE;
+use crate::running::blocks_into;
+use crate::running::columns;
+use crate::running::loops_into;
+use crate::running::texts;
+use crate::tally::Tally;
+
+struct Span {
+    bars: usize,
+    from: usize,
+    to: usize,
+}
+
+// Field k so far, behind the byte at index i.
+fn with_byte(s: Span, k: usize, i: usize, b: u8) -> Span {
+    let next = plus(i, 1);
+    let bars = s.bars;
+    if b == b'|' {
+        if plus(bars, 1) == k {
+            return Span {
+                bars: k,
+                from: next,
+                to: next,
+            };
+        }
+        return Span {
+            bars: plus(bars, 1),
+            from: s.from,
+            to: s.to,
+        };
+    }
+    if bars == k {
+        return Span {
+            bars,
+            from: s.from,
+            to: next,
+        };
+    }
+    s
+}
+
+// Field k of a line, empty where there is none.
+fn field(line: &[u8], k: usize) -> &[u8] {
+    let mut s = Span {
+        bars: 0,
+        from: 0,
+        to: 0,
+    };
+    for i in 0..line.len() {
+        s = with_byte(s, k, i, line[i]);
+    }
+    part(line, s.from, s.to)
+}
+
+fn first_byte(s: &[u8]) -> u8 {
+    if s.len() == 0 {
+        return 0;
+    }
+    s[0]
+}
+
+fn number(s: &[u8]) -> usize {
+    let mut d = Digits {
+        size: 0,
+        bad: false,
+    };
+    for i in 0..s.len() {
+        d = with_digit(d, s[i]);
+    }
+    d.size
+}
+
+// Field k of a line as a number, or the other one where it is empty.
+fn number_or(line: &[u8], k: usize, other: usize) -> usize {
+    let s = field(line, k);
+    if s.len() == 0 {
+        return other;
+    }
+    number(s)
+}
+
+// header setting | text | places | shorter column
+fn read_case(t: Tally, line: &[u8], of_blocks: bool) -> Tally {
+    let mut text = [0u8; 65600];
+    let n = make_text(field(line, 4), of_blocks, &mut text);
+    let header = first_byte(field(line, 3)) == b'p';
+    let shorter = number_or(line, 6, NONE);
+    if of_blocks {
+        let room = number_or(line, 5, 1026);
+        return blocks_into(
+            t,
+            field(line, 1),
+            room,
+            shorter,
+            part(&text, 0, n),
+            header,
+            field(line, 2),
+        );
+    }
+    let room = number_or(line, 5, 66);
+    loops_into(
+        t,
+        field(line, 1),
+        room,
+        shorter,
+        part(&text, 0, n),
+        header,
+        field(line, 2),
+    )
+}
+
+// block text | loop text | walk
+fn routine_case(t: Tally, line: &[u8], walked: bool) -> Tally {
+    let mut block_text = [0u8; 1024];
+    let mut loop_text = [0u8; 1024];
+    let mut steps = [0u16; 64];
+    let n = make_text(field(line, 3), true, &mut block_text);
+    let m = make_text(field(line, 4), false, &mut loop_text);
+    let length = make_steps(field(line, 5), &mut steps);
+    texts(
+        t,
+        field(line, 1),
+        part(&block_text, 0, n),
+        part(&loop_text, 0, m),
+        walked,
+        length,
+        &steps,
+        field(line, 2),
+    )
+}
+
+// blocks | loops | whether the loops are nested | shorter column: blocks without edges, costs and figures
+fn sized_case(t: Tally, line: &[u8]) -> Tally {
+    let cost = [0u32; 1026];
+    let mut inner = [0u16; 1026];
+    let first = [65535u16; 1026];
+    let second = [65535u16; 1026];
+    let figure = [0i64; 1026];
+    let mut parent = [0u16; 66];
+    let mut header = [0u16; 66];
+    let limit = [1u32; 66];
+    let multiplier = [0u64; 66];
+    let steps = [0u16; 1];
+    let m = number(field(line, 4));
+    declare_all(
+        &mut inner,
+        &mut parent,
+        &mut header,
+        m,
+        first_byte(field(line, 5)) == b'n',
+    );
+    columns(
+        t,
+        field(line, 1),
+        number(field(line, 3)),
+        m,
+        number_or(line, 6, NONE),
+        &cost,
+        &inner,
+        &first,
+        &second,
+        &figure,
+        &parent,
+        &header,
+        &limit,
+        &multiplier,
+        false,
+        0,
+        &steps,
+        field(line, 2),
+    )
+}
+
+// loops | limit | length: the walk 0 1 1 .. 1 2 over three blocks of the highest cost, of which block 1 names itself
+fn long_case(t: Tally, line: &[u8], length: usize, steps: &[u16]) -> Tally {
+    let m = number(field(line, 3));
+    let cost = [1000000u32; 3];
+    let inner = [0u16, if m == 2 { 1 } else { 0 }, 0];
+    let first = [1u16, 1, 65535];
+    let second = [65535u16, 2, 65535];
+    let figure = [0i64; 3];
+    let parent = [0u16; 2];
+    let header = [0u16, 1];
+    let limit = [1u32, to_u16(number(field(line, 4))) as u32];
+    let multiplier = [0u64; 2];
+    columns(
+        t,
+        field(line, 1),
+        3,
+        m,
+        NONE,
+        &cost,
+        &inner,
+        &first,
+        &second,
+        &figure,
+        &parent,
+        &header,
+        &limit,
+        &multiplier,
+        true,
+        length,
+        steps,
+        field(line, 2),
+    )
+}
+
+fn long_walk(t: Tally, line: &[u8]) -> Tally {
+    let mut steps = [1u16; 1048577];
+    let length = number(field(line, 5));
+    set_ends(&mut steps, length);
+    long_steps(t, line, length, &steps)
+}
+
+fn set_ends(steps: &mut [u16; 1048577], length: usize) {
+    steps[0] = 0;
+    if length < 2 {
+        return;
+    }
+    if length > 1048577 {
+        return;
+    }
+    steps[length - 1] = 2;
+}
+
+fn long_steps(t: Tally, line: &[u8], length: usize, steps: &[u16; 1048577]) -> Tally {
+    long_case(t, line, length, steps)
+}
+
+// A line that starts with none of these letters is a heading.
+fn case(t: Tally, line: &[u8]) -> Tally {
+    let kind = first_byte(line);
+    if kind == b'b' || kind == b'l' {
+        return read_case(t, line, kind == b'b');
+    }
+    if kind == b't' || kind == b'w' {
+        return routine_case(t, line, kind == b'w');
+    }
+    if kind == b's' {
+        return sized_case(t, line);
+    }
+    if kind == b'r' {
+        return long_walk(t, line);
+    }
+    t
+}
+
+// Runs every case of the text.
+pub fn run(text: &[u8], none: Tally) -> Tally {
+    let mut t = none;
+    let mut start = 0;
+    for i in 0..text.len() {
+        if text[i] == 10 {
+            t = case(t, part(text, start, i));
+            start = i + 1;
+        }
+    }
+    t
+}
