@@ -69,17 +69,6 @@ pub fn to_u16(k: usize) -> u16 {
     k as u16
 }
 
-// The bytes from a on and below b, none where there are not so many.
-pub fn part(s: &[u8], a: usize, b: usize) -> &[u8] {
-    if b > s.len() {
-        return &s[0..0];
-    }
-    if a > b {
-        return &s[0..0];
-    }
-    &s[a..b]
-}
-
 // A sum that stays at 2^63 - 1 where a part passes that. What the rules admit is far below.
 pub fn plus(a: usize, b: usize) -> usize {
     if a > 9223372036854775807 {

@@ -2,6 +2,7 @@
 // and a checker that was written apart from it both reply to each case, and all three are compared.
 mod cells;
 mod making;
+mod parts;
 mod reading;
 mod rules;
 mod running;
@@ -9,8 +10,8 @@ mod script;
 mod stepping;
 mod tally;
 
-use cells::part;
 use libc::STDIN_FILENO;
+use parts::part;
 use tally::Tally;
 use tally::say;
 use tally::say_number;

@@ -31,49 +31,27 @@ pub fn push_signed(text: &mut [u8], at: usize, z: i64) -> usize {
     push_number(text, behind, ZERO - r)
 }
 
-// A row that says nothing but its number.
-fn push_row(text: &mut [u8], at: usize, i: usize, of_blocks: bool) -> usize {
+// A row that says nothing but its number, or one with as many bytes as a row can well have.
+fn push_row(text: &mut [u8], at: usize, i: usize, wide: bool, of_blocks: bool) -> usize {
     let behind = push_number(text, at, i);
+    if wide {
+        return push(
+            text,
+            behind,
+            b",\"4294967295\",\"65535\",\"65534\",\"65534\",\"1000000000000000000\"\r\n",
+        );
+    }
     if of_blocks {
         return push(text, behind, b",0,0,,,0\r\n");
     }
     push(text, behind, b",0,0,1,0\r\n")
 }
 
-// A power of ten, written with as many digits as the row number lacks of 20.
-fn push_power(text: &mut [u8], at: usize, i: usize) -> usize {
-    if i < 10 {
-        return push(text, at, b"1000000000000000000");
-    }
-    if i < 100 {
-        return push(text, at, b"100000000000000000");
-    }
-    if i < 1000 {
-        return push(text, at, b"10000000000000000");
-    }
-    push(text, at, b"1000000000000000")
-}
-
-// A block row of exactly 64 bytes.
-fn push_wide_row(text: &mut [u8], from: usize, i: usize) -> usize {
-    let a = push(text, from, b"\"");
-    let b = push_number(text, a, i);
-    let c = push(
-        text,
-        b,
-        b"\",\"4294967295\",\"65535\",\"65534\",\"65534\",\"",
-    );
-    let d = push_power(text, c, i);
-    push(text, d, b"\"\r\n")
-}
-
 // What is repeated: rows, wide rows or one byte.
 fn push_one(text: &mut [u8], at: usize, i: usize, what: u8, byte: u8, of_blocks: bool) -> usize {
-    if what == b'R' {
-        return push_row(text, at, i, of_blocks);
-    }
-    if what == b'W' {
-        return push_wide_row(text, at, i);
+    let wide = what == b'W';
+    if wide | (what == b'R') {
+        return push_row(text, at, i, wide, of_blocks);
     }
     put_u8(text, at, byte);
     plus(at, 1)
@@ -143,7 +121,7 @@ impl Maker {
                 at,
             };
         }
-        if b == b'R' || b == b'W' {
+        if (b == b'R') | (b == b'W') {
             return self.moved(OUTSIDE, push_many(text, at, count, b, 0, of_blocks));
         }
         let digits = with_digit(
@@ -198,7 +176,7 @@ fn escaped(b: u8) -> u8 {
     if b == b'b' { 187 } else { 191 }
 }
 
-// The text that is written in a case, and its length: `;` is CR LF, `%1024R` is 1,024 rows, `%1024W` rows of 64 bytes and `%64*x` a byte 64 times.
+// The text that is written in a case, and its length: `;` is CR LF, `%1024R` is 1,024 rows, `%1024W` rows of more bytes and `%64*x` a byte 64 times.
 pub fn make_text(written: &[u8], of_blocks: bool, text: &mut [u8]) -> usize {
     let mut s = Maker {
         state: OUTSIDE,

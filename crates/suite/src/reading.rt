@@ -93,61 +93,47 @@ fn digits_of(text: [u8; 64], from: usize, to: usize) -> Digits {
 
 // The largest number of a column. The figure's is larger by 1 below zero.
 fn largest(columns: usize, c: usize, negative: bool) -> usize {
-    if columns == 6 {
-        return largest_of_block(c, negative);
-    }
-    if c == 3 {
+    let of_blocks = columns == 6;
+    if (of_blocks & (c == 1)) | (!of_blocks & (c == 3)) {
         return 4294967295;
     }
-    if c == 4 {
-        return 18446744073709551615;
-    }
-    65535
-}
-
-fn largest_of_block(c: usize, negative: bool) -> usize {
-    if c == 1 {
-        return 4294967295;
-    }
-    if c == 3 || c == 4 {
+    if of_blocks & ((c == 3) | (c == 4)) {
         return 65534;
     }
-    if c == 5 {
+    if of_blocks & (c == 5) {
         return if negative {
             9223372036854775808
         } else {
             9223372036854775807
         };
     }
-    65535
-}
-
-fn empty_cell(columns: usize, c: usize) -> Cell {
-    let successor = columns == 6 && (c == 3 || c == 4);
-    Cell {
-        size: 65535,
-        negative: false,
-        bad: !successor,
+    if !of_blocks & (c == 4) {
+        18446744073709551615
+    } else {
+        65535
     }
 }
 
 fn cell_of(text: [u8; 64], length: usize, columns: usize, c: usize) -> Cell {
+    let of_blocks = columns == 6;
     if length == 0 {
-        return empty_cell(columns, c);
+        // An empty successor is missing; no other field may be empty.
+        return Cell {
+            size: 65535,
+            negative: false,
+            bad: !(of_blocks & ((c == 3) | (c == 4))),
+        };
     }
-    let negative = columns == 6 && c == 5 && byte_at(text, 0) == 45;
+    let negative = of_blocks & (c == 5) & (byte_at(text, 0) == 45);
     let from = if negative { 1 } else { 0 };
     let d = digits_of(text, from, length);
-    let zero = byte_at(text, from) == 48;
-    let mut bad = d.bad || length == from || d.size > largest(columns, c, negative);
-    if zero {
-        // 0 alone is the only number that starts so, and it has no sign.
-        bad = bad || negative || length > 1;
-    }
+    let size = d.size;
+    // 0 alone is the only number that starts so, and it has no sign.
+    let zero = (byte_at(text, from) == 48) & (negative | (length > 1));
     Cell {
-        size: d.size,
+        size,
         negative,
-        bad,
+        bad: d.bad | (length == from) | (size > largest(columns, c, negative)) | zero,
     }
 }
 
@@ -169,44 +155,29 @@ impl Reading {
         }
     }
 
-    fn broken(mut self) -> Reading {
-        self.fault = 102;
-        self
-    }
-
-    fn with_text(mut self, b: u8) -> Reading {
-        let length = self.length;
-        if length < 64 {
-            self.text[length] = b;
-            self.length = length + 1;
-        }
-        self
-    }
-
     // One byte more of the field as written, and of its text where it counts there. 64 are the most.
     fn with_byte(mut self, b: u8, counts: bool) -> Reading {
         let written = self.written;
+        let length = self.length;
         if written >= 64 {
-            return self.broken();
+            self.fault = 102;
+            return self;
         }
         self.written = written + 1;
         if counts {
-            return self.with_text(b);
+            if length < 64 {
+                self.text[length] = b;
+                self.length = length + 1;
+            }
         }
-        self
-    }
-
-    fn in_state(mut self, state: u8) -> Reading {
-        self.state = state;
         self
     }
 
     fn field_ended(mut self, columns: usize) -> Reading {
         let c = self.fields;
         let text = self.text;
-        let length = self.length;
-        let cell = cell_of(text, length, columns, c);
-        self.bad = self.bad || cell.bad;
+        let cell = cell_of(text, self.length, columns, c);
+        self.bad = self.bad | cell.bad;
         if c < 6 {
             self.values[c] = cell.size;
         }
@@ -220,51 +191,56 @@ impl Reading {
         self
     }
 
-    // A comma or a CR behind a field; anything else is not for here.
-    fn behind_field(self, b: u8, columns: usize) -> Reading {
+    // Behind a field stands a comma or a CR.
+    fn behind_field(mut self, b: u8, columns: usize) -> Reading {
         if b == 44 {
             return self.field_ended(columns);
         }
         if b == 13 {
-            return self.in_state(RETURN);
+            self.state = RETURN;
+            return self;
         }
-        self.broken()
+        self.fault = 102;
+        self
     }
 
-    fn in_plain(self, b: u8, columns: usize) -> Reading {
-        if b == 34 {
-            if self.state == START {
-                return self.in_state(QUOTED).with_byte(b, false);
-            }
-            return self.broken();
+    // A field's first byte, or a further one of a plain field.
+    fn in_plain(mut self, b: u8, columns: usize) -> Reading {
+        let first = self.state == START;
+        if first & (b == 34) {
+            self.state = QUOTED;
+            return self.with_byte(b, false);
         }
-        if b == 44 || b == 13 || b == 10 {
+        if (b == 34) | (b == 44) | (b == 13) | (b == 10) {
             return self.behind_field(b, columns);
         }
-        self.in_state(PLAIN).with_byte(b, true)
-    }
-
-    fn in_quotes(self, b: u8) -> Reading {
-        if b == 34 {
-            return self.in_state(MARK).with_byte(b, false);
-        }
+        self.state = PLAIN;
         self.with_byte(b, true)
     }
 
-    fn behind_mark(self, b: u8, columns: usize) -> Reading {
+    fn in_quotes(mut self, b: u8) -> Reading {
+        let mark = b == 34;
+        if mark {
+            self.state = MARK;
+        }
+        self.with_byte(b, !mark)
+    }
+
+    fn behind_mark(mut self, b: u8, columns: usize) -> Reading {
         if b == 34 {
-            return self.in_state(QUOTED).with_byte(b, true);
+            self.state = QUOTED;
+            return self.with_byte(b, true);
         }
         self.behind_field(b, columns)
     }
 
-    fn behind_return(self, b: u8, columns: usize) -> Reading {
+    fn behind_return(mut self, b: u8, columns: usize) -> Reading {
         if b != 10 {
-            return self.broken();
+            self.fault = 102;
+            return self;
         }
-        let mut next = self.field_ended(columns);
-        next.ended = true;
-        next
+        self.ended = true;
+        self.field_ended(columns)
     }
 
     fn with(mut self, b: u8, columns: usize) -> Reading {
@@ -283,11 +259,11 @@ impl Reading {
     }
 
     // The first number that the record is refused with, 0 where there is none.
-    fn record_fault(self, header: bool, columns: usize, room: usize) -> u32 {
+    fn record_fault(self, of_header: bool, columns: usize, room: usize) -> u32 {
         if self.fields != columns {
             return 103;
         }
-        if header && self.record == 1 {
+        if of_header {
             return 0;
         }
         if self.bad {
@@ -296,25 +272,7 @@ impl Reading {
         if self.values[0] != self.row {
             return 105;
         }
-        if self.row >= room {
-            return 106;
-        }
-        0
-    }
-
-    // Ready for the record behind this one.
-    fn next_record(mut self, header: bool) -> Reading {
-        let of_header = header && self.record == 1;
-        if !of_header {
-            self.row = plus(self.row, 1);
-        }
-        self.record = plus(self.record, 1);
-        self.fields = 0;
-        self.bad = false;
-        self.begun = false;
-        self.ended = false;
-        self.values[6] = 0;
-        self
+        if self.row >= room { 106 } else { 0 }
     }
 
     fn record_ended(
@@ -324,16 +282,28 @@ impl Reading {
         room: usize,
         out: &mut RowCells,
     ) -> Reading {
-        let fault = self.record_fault(header, columns, room);
+        let of_header = header & (self.record == 1);
+        let fault = self.record_fault(of_header, columns, room);
+        self.fault = fault;
         if fault != 0 {
-            self.fault = fault;
             return self;
         }
-        if !(header && self.record == 1) {
+        if !of_header {
             let values = self.values;
             put_row(out, self.row, values);
+            self.row = plus(self.row, 1);
         }
-        self.next_record(header)
+        self.next_record()
+    }
+
+    fn next_record(mut self) -> Reading {
+        self.record = plus(self.record, 1);
+        self.fields = 0;
+        self.bad = false;
+        self.begun = false;
+        self.ended = false;
+        self.values[6] = 0;
+        self
     }
 
     fn turn(self, b: u8, header: bool, columns: usize, room: usize, out: &mut RowCells) -> Reading {
@@ -341,19 +311,21 @@ impl Reading {
             return self;
         }
         let next = self.with(b, columns);
-        if next.ended && next.fault == 0 {
+        if next.ended & (next.fault == 0) {
             return next.record_ended(header, columns, room, out);
         }
         next
     }
 
     // The text ends: so does a record that has begun, unless a quote is open or a CR has no LF.
-    fn end(self, header: bool, columns: usize, room: usize, out: &mut RowCells) -> Reading {
-        if self.fault != 0 || !self.begun {
+    fn end(mut self, header: bool, columns: usize, room: usize, out: &mut RowCells) -> Reading {
+        let state = self.state;
+        if (self.fault != 0) | !self.begun {
             return self;
         }
-        if self.state == QUOTED || self.state == RETURN {
-            return self.broken();
+        if (state == QUOTED) | (state == RETURN) {
+            self.fault = 102;
+            return self;
         }
         self.field_ended(columns)
             .record_ended(header, columns, room, out)
@@ -363,7 +335,7 @@ impl Reading {
         if self.fault != 0 {
             return refused(self.fault, self.record);
         }
-        if header && self.record == 1 {
+        if header & (self.record == 1) {
             return refused(103, 1);
         }
         row_count(self.row)
@@ -374,14 +346,9 @@ fn put_row(out: &mut RowCells, row: usize, values: [usize; 7]) {
     if row >= 1026 {
         return;
     }
-    let at = row * 7;
-    out[at] = values[0];
-    out[at + 1] = values[1];
-    out[at + 2] = values[2];
-    out[at + 3] = values[3];
-    out[at + 4] = values[4];
-    out[at + 5] = values[5];
-    out[at + 6] = values[6];
+    for c in 0..7 {
+        out[row * 7 + c] = values[c];
+    }
 }
 
 // Number c of a row; number 6 is 1 where the figure is negative.

@@ -85,13 +85,13 @@ fn more_if(one: bool, count: usize) -> usize {
 
 // Whether u is the last of n blocks.
 pub fn is_exit(n: usize, u: usize) -> bool {
-    n > 0 && u == n - 1
+    plus(u, 1) == n
 }
 
 // Whether an edge enters a loop elsewhere than at its header.
 fn passes_header(b: &BlockCells, l: &LoopCells, m: usize, u: usize, v: usize) -> bool {
     for k in 0..m {
-        if inside(b, l, v, k) && !inside(b, l, u, k) && v != of_loop(l, k, HEADER) {
+        if inside(b, l, v, k) & !inside(b, l, u, k) & (v != of_loop(l, k, HEADER)) {
             return true;
         }
     }
@@ -144,7 +144,7 @@ fn edge_broken(
         return false;
     }
     if rule == 206 {
-        return v == 0 || is_exit(n, u);
+        return (v == 0) | is_exit(n, u);
     }
     if rule == 207 {
         return passes_header(b, l, m, u, v);
@@ -158,25 +158,22 @@ fn loop_broken(l: &LoopCells, n: usize, k: usize) -> bool {
     let limit = of_loop(l, k, LIMIT);
     let multiplier = of_loop(l, k, MULTIPLIER);
     if k == 0 {
-        return parent != 0 || header != 0 || limit != 1 || multiplier != 0;
+        return (parent != 0) | (header != 0) | (limit != 1) | (multiplier != 0);
     }
-    parent >= k || header >= n || limit < 1 || limit > 65535 || multiplier > 1099511627776
+    (parent >= k) | (header >= n) | (limit < 1) | (limit > 65535) | (multiplier > 1099511627776)
 }
 
 fn successor_broken(n: usize, v: usize) -> bool {
-    v != MISSING && v >= n
+    (v != MISSING) & (v >= n)
 }
 
 fn block_broken(b: &BlockCells, n: usize, m: usize, u: usize) -> bool {
     let figure = of_block(b, u, FIGURE);
-    if of_block(b, u, COST) > 1000000 || of_block(b, u, LOOP) >= m {
-        return true;
-    }
-    if successor_broken(n, of_block(b, u, FIRST)) || successor_broken(n, of_block(b, u, SECOND)) {
-        return true;
-    }
+    let size = (of_block(b, u, COST) > 1000000) | (of_block(b, u, LOOP) >= m);
+    let ends = successor_broken(n, of_block(b, u, FIRST))
+        | successor_broken(n, of_block(b, u, SECOND));
     // 2^62 - 2^60 and 2^62 + 2^60
-    figure < 3458764513820540928 || figure > 5764607523034234880
+    size | ends | (figure < 3458764513820540928) | (figure > 5764607523034234880)
 }
 
 fn broken(rule: u32, b: &BlockCells, l: &LoopCells, n: usize, m: usize, i: usize) -> bool {
@@ -194,12 +191,12 @@ fn broken(rule: u32, b: &BlockCells, l: &LoopCells, n: usize, m: usize, i: usize
         return depth(b, l, m, header) > 16;
     }
     edge_broken(rule, b, l, n, m, i, of_block(b, i, FIRST))
-        || edge_broken(rule, b, l, n, m, i, of_block(b, i, SECOND))
+        | edge_broken(rule, b, l, n, m, i, of_block(b, i, SECOND))
 }
 
 // How many places a rule has: loops or blocks.
 fn places_of(rule: u32, n: usize, m: usize) -> usize {
-    if rule == 202 || rule == 204 || rule == 205 {
+    if (rule == 202) | (rule == 204) | (rule == 205) {
         m
     } else {
         n
@@ -234,16 +231,13 @@ pub fn first_refusal(b: &BlockCells, l: &LoopCells, n: usize, m: usize, end: u32
     accepted(0, 0)
 }
 
-pub fn sizes_broken(sizes: [usize; 9]) -> bool {
-    let n = sizes[0];
-    let m = sizes[5];
-    if n < 2 || n > 1024 || m < 1 || m > 64 {
-        return true;
-    }
-    if sizes[1] != n || sizes[2] != n || sizes[3] != n || sizes[4] != n {
-        return true;
-    }
-    sizes[6] != m || sizes[7] != m || sizes[8] != m
+// Whether one of three lengths is not the first.
+pub fn differ(first: usize, a: usize, b: usize, c: usize) -> bool {
+    (a != first) | (b != first) | (c != first)
+}
+
+pub fn sizes_broken(n: usize, m: usize) -> bool {
+    (n < 2) | (n > 1024) | (m < 1) | (m > 64)
 }
 
 fn put_block(
@@ -325,7 +319,7 @@ pub fn copy_loops(
     }
 }
 
-fn bound(b: &BlockCells, n: usize) -> Reply {
+pub fn bound(b: &BlockCells, n: usize) -> Reply {
     if n == 0 {
         return impossible();
     }
@@ -335,43 +329,4 @@ fn bound(b: &BlockCells, n: usize) -> Reply {
         return accepted(signed(true, exit - entry), 0);
     }
     accepted(signed(false, entry - exit), 0)
-}
-
-// The reply to a pair of tables.
-pub fn check(
-    cost: &[u32],
-    inner: &[u16],
-    first: &[u16],
-    second: &[u16],
-    figure: &[i64],
-    parent: &[u16],
-    header: &[u16],
-    limit: &[u32],
-    multiplier: &[u64],
-) -> Reply {
-    let n = cost.len();
-    let m = parent.len();
-    let sizes = [
-        n,
-        inner.len(),
-        first.len(),
-        second.len(),
-        figure.len(),
-        m,
-        header.len(),
-        limit.len(),
-        multiplier.len(),
-    ];
-    if sizes_broken(sizes) {
-        return refused(201, 0);
-    }
-    let mut b = [0usize; 5125];
-    let mut l = [0usize; 260];
-    copy_blocks(cost, inner, first, second, figure, &mut b);
-    copy_loops(parent, header, limit, multiplier, &mut l);
-    let refusal = first_refusal(&b, &l, n, m, 209);
-    if refusal.number != 0 {
-        return refusal;
-    }
-    bound(&b, n)
 }

@@ -1,5 +1,4 @@
 // Runs one case: by the library, and by the checker of this program; both replies are compared with the one that the case names.
-ghost use Prim.Native.Nat.{_≤_};
 use crate::cells::RowCells;
 use crate::cells::ZERO;
 use crate::cells::from_u16;
@@ -7,9 +6,18 @@ use crate::cells::from_u32;
 use crate::cells::from_u64;
 use crate::cells::raised;
 use crate::cells::signed;
+use crate::parts::NONE;
+use crate::parts::first_i64;
+use crate::parts::first_u16;
+use crate::parts::first_u32;
+use crate::parts::first_u64;
+use crate::parts::lent_i64;
+use crate::parts::lent_u16;
+use crate::parts::lent_u32;
+use crate::parts::lent_u64;
+use crate::parts::room_of;
 use crate::reading;
 use crate::reading::row_cell;
-use crate::rules;
 use crate::stepping;
 use crate::tally::Tally;
 use rolkeyda::Reply;
@@ -23,22 +31,6 @@ const OLD_U64: u64 = 12297829382473034410;
 
 const OLD_I64: i64 = -6148914691236517206;
 
-// No column is shorter than the others.
-pub const NONE: usize = 9;
-
-// How much of column c is lent: `room` places, and one less of the column that is to be shorter.
-pub fn room_of(length: usize, room: usize, shorter: usize, c: usize) -> usize
-    ensures { λ r. ⌜ r ≤ length ⌝ }
-{
-    if room > length {
-        return length;
-    }
-    if c != shorter {
-        return room;
-    }
-    if room == 0 { 0 } else { room - 1 }
-}
-
 // The rows that a reader has place for.
 fn places(room: usize, shorter: usize, most: usize) -> usize {
     let least = room_of(
@@ -50,15 +42,30 @@ fn places(room: usize, shorter: usize, most: usize) -> usize {
     if least < most { least } else { most }
 }
 
+// The rows that an accepted text has; 0 where it is refused.
 fn count_of(r: Reply) -> usize {
     let value = raised(r.value);
-    if r.number != 0 || value < ZERO {
+    if value < ZERO {
         return 0;
     }
     value - ZERO
 }
 
-// Whether row i of the block columns is the checker's, or the old one behind the rows that were read.
+// What number c of row i must be: the checker's, or the old one behind the rows that were read.
+fn due(i: usize, count: usize, rows: &RowCells, c: usize, old: usize) -> usize {
+    if i < count {
+        return row_cell(rows, i, c);
+    }
+    old
+}
+
+fn due_figure(i: usize, count: usize, rows: &RowCells) -> i64 {
+    if i < count {
+        return signed(row_cell(rows, i, 6) == 1, row_cell(rows, i, 5));
+    }
+    OLD_I64
+}
+
 fn block_row(
     i: usize,
     count: usize,
@@ -69,20 +76,13 @@ fn block_row(
     second: u16,
     figure: i64,
 ) -> bool {
-    if i >= count {
-        return cost == OLD_U32
-            && inner == OLD_U16
-            && first == OLD_U16
-            && second == OLD_U16
-            && figure == OLD_I64;
-    }
-    if from_u32(cost) != row_cell(rows, i, 1) || from_u16(inner) != row_cell(rows, i, 2) {
-        return false;
-    }
-    if from_u16(first) != row_cell(rows, i, 3) || from_u16(second) != row_cell(rows, i, 4) {
-        return false;
-    }
-    figure == signed(row_cell(rows, i, 6) == 1, row_cell(rows, i, 5))
+    let old = from_u16(OLD_U16);
+    let a = from_u32(cost) == due(i, count, rows, 1, from_u32(OLD_U32));
+    let b = from_u16(inner) == due(i, count, rows, 2, old);
+    let c = from_u16(first) == due(i, count, rows, 3, old);
+    let d = from_u16(second) == due(i, count, rows, 4, old);
+    let e = figure == due_figure(i, count, rows);
+    a & b & c & d & e
 }
 
 fn blocks_kept(
@@ -94,21 +94,21 @@ fn blocks_kept(
     second: &[u16; 1026],
     figure: &[i64; 1026],
 ) -> bool {
+    let mut kept = true;
     for i in 0..1026 {
-        if !block_row(
-            i,
-            count,
-            rows,
-            cost[i],
-            inner[i],
-            first[i],
-            second[i],
-            figure[i],
-        ) {
-            return false;
-        }
+        kept = kept
+            & block_row(
+                i,
+                count,
+                rows,
+                cost[i],
+                inner[i],
+                first[i],
+                second[i],
+                figure[i],
+            );
     }
-    true
+    kept
 }
 
 fn loop_row(
@@ -120,13 +120,12 @@ fn loop_row(
     limit: u32,
     multiplier: u64,
 ) -> bool {
-    if i >= count {
-        return parent == OLD_U16 && header == OLD_U16 && limit == OLD_U32 && multiplier == OLD_U64;
-    }
-    if from_u16(parent) != row_cell(rows, i, 1) || from_u16(header) != row_cell(rows, i, 2) {
-        return false;
-    }
-    from_u32(limit) == row_cell(rows, i, 3) && from_u64(multiplier) == row_cell(rows, i, 4)
+    let old = from_u16(OLD_U16);
+    let a = from_u16(parent) == due(i, count, rows, 1, old);
+    let b = from_u16(header) == due(i, count, rows, 2, old);
+    let c = from_u32(limit) == due(i, count, rows, 3, from_u32(OLD_U32));
+    let d = from_u64(multiplier) == due(i, count, rows, 4, from_u64(OLD_U64));
+    a & b & c & d
 }
 
 fn loops_kept(
@@ -137,71 +136,20 @@ fn loops_kept(
     limit: &[u32; 66],
     multiplier: &[u64; 66],
 ) -> bool {
+    let mut kept = true;
     for i in 0..66 {
-        if !loop_row(
-            i,
-            count,
-            rows,
-            parent[i],
-            header[i],
-            limit[i],
-            multiplier[i],
-        ) {
-            return false;
-        }
+        kept = kept
+            & loop_row(
+                i,
+                count,
+                rows,
+                parent[i],
+                header[i],
+                limit[i],
+                multiplier[i],
+            );
     }
-    true
-}
-
-fn lend_blocks(
-    text: &[u8],
-    header: bool,
-    room: usize,
-    shorter: usize,
-    cost: &mut [u32],
-    inner: &mut [u16],
-    first: &mut [u16],
-    second: &mut [u16],
-    figure: &mut [i64],
-) -> Reply {
-    let a = room_of(cost.len(), room, shorter, 0);
-    let b = room_of(inner.len(), room, shorter, 1);
-    let c = room_of(first.len(), room, shorter, 2);
-    let d = room_of(second.len(), room, shorter, 3);
-    let e = room_of(figure.len(), room, shorter, 4);
-    rolkeyda::rolkeyda_read_blocks(
-        text,
-        header,
-        &mut cost[0..a],
-        &mut inner[0..b],
-        &mut first[0..c],
-        &mut second[0..d],
-        &mut figure[0..e],
-    )
-}
-
-fn lend_loops(
-    text: &[u8],
-    header: bool,
-    room: usize,
-    shorter: usize,
-    parent: &mut [u16],
-    head: &mut [u16],
-    limit: &mut [u32],
-    multiplier: &mut [u64],
-) -> Reply {
-    let a = room_of(parent.len(), room, shorter, 0);
-    let b = room_of(head.len(), room, shorter, 1);
-    let c = room_of(limit.len(), room, shorter, 2);
-    let d = room_of(multiplier.len(), room, shorter, 3);
-    rolkeyda::rolkeyda_read_loops(
-        text,
-        header,
-        &mut parent[0..a],
-        &mut head[0..b],
-        &mut limit[0..c],
-        &mut multiplier[0..d],
-    )
+    kept
 }
 
 // A block table read into columns of `room` places, column number `shorter` one less.
@@ -219,16 +167,14 @@ pub fn blocks_into(
     let mut first = [OLD_U16; 1026];
     let mut second = [OLD_U16; 1026];
     let mut figure = [OLD_I64; 1026];
-    let got = lend_blocks(
+    let got = rolkeyda::rolkeyda_read_blocks(
         text,
         header,
-        room,
-        shorter,
-        &mut cost,
-        &mut inner,
-        &mut first,
-        &mut second,
-        &mut figure,
+        lent_u32(&mut cost, room, shorter, 0),
+        lent_u16(&mut inner, room, shorter, 1),
+        lent_u16(&mut first, room, shorter, 2),
+        lent_u16(&mut second, room, shorter, 3),
+        lent_i64(&mut figure, room, shorter, 4),
     );
     let mut rows = [0usize; 7182];
     let checked = reading::read(text, header, 6, places(room, shorter, 1024), &mut rows);
@@ -258,15 +204,13 @@ pub fn loops_into(
     let mut head = [OLD_U16; 66];
     let mut limit = [OLD_U32; 66];
     let mut multiplier = [OLD_U64; 66];
-    let got = lend_loops(
+    let got = rolkeyda::rolkeyda_read_loops(
         text,
         header,
-        room,
-        shorter,
-        &mut parent,
-        &mut head,
-        &mut limit,
-        &mut multiplier,
+        lent_u16(&mut parent, room, shorter, 0),
+        lent_u16(&mut head, room, shorter, 1),
+        lent_u32(&mut limit, room, shorter, 2),
+        lent_u64(&mut multiplier, room, shorter, 3),
     );
     let mut rows = [0usize; 7182];
     let checked = reading::read(text, header, 5, places(room, shorter, 64), &mut rows);
@@ -298,20 +242,21 @@ fn judged(
     steps: &[u16],
     wanted: &[u8],
 ) -> Tally {
+    let checked = stepping::reply(
+        cost,
+        inner,
+        first,
+        second,
+        figure,
+        parent,
+        header,
+        limit,
+        multiplier,
+        walked,
+        steps,
+    );
     if walked {
         let got = rolkeyda::rolkeyda_walk(
-            cost,
-            inner,
-            first,
-            second,
-            figure,
-            parent,
-            header,
-            limit,
-            multiplier,
-            steps,
-        );
-        let checked = stepping::walk(
             cost,
             inner,
             first,
@@ -326,17 +271,6 @@ fn judged(
         return t.told(name, got, checked, wanted, true);
     }
     let got = rolkeyda::rolkeyda_check(
-        cost,
-        inner,
-        first,
-        second,
-        figure,
-        parent,
-        header,
-        limit,
-        multiplier,
-    );
-    let checked = rules::check(
         cost,
         inner,
         first,
@@ -371,30 +305,20 @@ pub fn columns(
     steps: &[u16],
     wanted: &[u8],
 ) -> Tally {
-    let a = room_of(cost.len(), n, shorter, 0);
-    let b = room_of(inner.len(), n, shorter, 1);
-    let c = room_of(first.len(), n, shorter, 2);
-    let d = room_of(second.len(), n, shorter, 3);
-    let e = room_of(figure.len(), n, shorter, 4);
-    let f = room_of(parent.len(), m, shorter, 5);
-    let g = room_of(header.len(), m, shorter, 6);
-    let h = room_of(limit.len(), m, shorter, 7);
-    let i = room_of(multiplier.len(), m, shorter, 8);
-    let j = room_of(steps.len(), length, NONE, 0);
     judged(
         t,
         name,
-        &cost[0..a],
-        &inner[0..b],
-        &first[0..c],
-        &second[0..d],
-        &figure[0..e],
-        &parent[0..f],
-        &header[0..g],
-        &limit[0..h],
-        &multiplier[0..i],
+        first_u32(cost, n, shorter, 0),
+        first_u16(inner, n, shorter, 1),
+        first_u16(first, n, shorter, 2),
+        first_u16(second, n, shorter, 3),
+        first_i64(figure, n, shorter, 4),
+        first_u16(parent, m, shorter, 5),
+        first_u16(header, m, shorter, 6),
+        first_u32(limit, m, shorter, 7),
+        first_u64(multiplier, m, shorter, 8),
         walked,
-        &steps[0..j],
+        first_u16(steps, length, NONE, 0),
         wanted,
     )
 }
@@ -419,7 +343,7 @@ pub fn texts(
     let mut header = [0u16; 32];
     let mut limit = [0u32; 32];
     let mut multiplier = [0u64; 32];
-    let n = count_of(rolkeyda::rolkeyda_read_blocks(
+    let b = rolkeyda::rolkeyda_read_blocks(
         block_text,
         false,
         &mut cost,
@@ -427,20 +351,20 @@ pub fn texts(
         &mut first,
         &mut second,
         &mut figure,
-    ));
-    let m = count_of(rolkeyda::rolkeyda_read_loops(
+    );
+    let l = rolkeyda::rolkeyda_read_loops(
         loop_text,
         false,
         &mut parent,
         &mut header,
         &mut limit,
         &mut multiplier,
-    ));
+    );
     columns(
         t,
         name,
-        n,
-        m,
+        count_of(b),
+        count_of(l),
         NONE,
         &cost,
         &inner,

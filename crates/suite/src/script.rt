@@ -1,14 +1,12 @@
 // The cases are lines of text: what to run, a name, the reply that it must have, and what it is run on, with a bar between them.
-use crate::cells::part;
 use crate::cells::plus;
-use crate::cells::put_u16;
-use crate::cells::to_u16;
 use crate::making::declare_all;
 use crate::making::make_steps;
 use crate::making::make_text;
+use crate::parts::NONE;
+use crate::parts::part;
 use crate::reading::Digits;
 use crate::reading::with_digit;
-use crate::running::NONE;
 use crate::running::blocks_into;
 use crate::running::columns;
 use crate::running::loops_into;
@@ -119,14 +117,12 @@ fn read_case(t: Tally, line: &[u8], of_blocks: bool) -> Tally {
     )
 }
 
-// block text | loop text | walk
-fn routine_case(t: Tally, line: &[u8], walked: bool) -> Tally {
+// block text | loop text
+fn routine_case(t: Tally, line: &[u8], walked: bool, length: usize, steps: &[u16]) -> Tally {
     let mut block_text = [0u8; 1024];
     let mut loop_text = [0u8; 1024];
-    let mut steps = [0u16; 64];
     let n = make_text(field(line, 3), true, &mut block_text);
     let m = make_text(field(line, 4), false, &mut loop_text);
-    let length = make_steps(field(line, 5), &mut steps);
     texts(
         t,
         field(line, 1),
@@ -134,9 +130,16 @@ fn routine_case(t: Tally, line: &[u8], walked: bool) -> Tally {
         part(&loop_text, 0, m),
         walked,
         length,
-        &steps,
+        steps,
         field(line, 2),
     )
+}
+
+// block text | loop text | walk
+fn walk_case(t: Tally, line: &[u8], walked: bool) -> Tally {
+    let mut steps = [0u16; 64];
+    let length = make_steps(field(line, 5), &mut steps);
+    routine_case(t, line, walked, length, &steps)
 }
 
 // blocks | loops | whether the loops are nested | shorter column: blocks without edges, costs and figures
@@ -181,41 +184,8 @@ fn sized_case(t: Tally, line: &[u8]) -> Tally {
     )
 }
 
-// loops | limit | length: the walk 0 1 1 .. 1 2 over three blocks of the highest cost, of which block 1 names itself
-fn long_case(t: Tally, line: &[u8], length: usize, steps: &[u16]) -> Tally {
-    let m = number(field(line, 3));
-    let cost = [1000000u32; 3];
-    let inner = [0u16, if m == 2 { 1 } else { 0 }, 0];
-    let first = [1u16, 1, 65535];
-    let second = [65535u16, 2, 65535];
-    let figure = [0i64; 3];
-    let parent = [0u16; 2];
-    let header = [0u16, 1];
-    let limit = [1u32, to_u16(number(field(line, 4))) as u32];
-    let multiplier = [0u64; 2];
-    columns(
-        t,
-        field(line, 1),
-        3,
-        m,
-        NONE,
-        &cost,
-        &inner,
-        &first,
-        &second,
-        &figure,
-        &parent,
-        &header,
-        &limit,
-        &multiplier,
-        true,
-        length,
-        steps,
-        field(line, 2),
-    )
-}
-
-fn long_walk(t: Tally, line: &[u8]) -> Tally {
+// block text | loop text | length: the walk 0 1 1 .. 1 2
+fn long_case(t: Tally, line: &[u8]) -> Tally {
     let mut steps = [1u16; 1048577];
     let length = number(field(line, 5));
     set_ends(&mut steps, length);
@@ -234,23 +204,23 @@ fn set_ends(steps: &mut [u16; 1048577], length: usize) {
 }
 
 fn long_steps(t: Tally, line: &[u8], length: usize, steps: &[u16; 1048577]) -> Tally {
-    long_case(t, line, length, steps)
+    routine_case(t, line, true, length, steps)
 }
 
 // A line that starts with none of these letters is a heading.
 fn case(t: Tally, line: &[u8]) -> Tally {
     let kind = first_byte(line);
-    if kind == b'b' || kind == b'l' {
+    if (kind == b'b') | (kind == b'l') {
         return read_case(t, line, kind == b'b');
     }
-    if kind == b't' || kind == b'w' {
-        return routine_case(t, line, kind == b'w');
+    if (kind == b't') | (kind == b'w') {
+        return walk_case(t, line, kind == b'w');
     }
     if kind == b's' {
         return sized_case(t, line);
     }
     if kind == b'r' {
-        return long_walk(t, line);
+        return long_case(t, line);
     }
     t
 }

@@ -3,8 +3,10 @@ use crate::cells::BlockCells;
 use crate::cells::LoopCells;
 use crate::cells::plus;
 use crate::cells::u16_at;
+use crate::rules::bound;
 use crate::rules::copy_blocks;
 use crate::rules::copy_loops;
+use crate::rules::differ;
 use crate::rules::first_refusal;
 use crate::rules::inside;
 use crate::rules::is_exit;
@@ -24,7 +26,7 @@ fn counted(b: &BlockCells, l: &LoopCells, k: usize, u: usize, v: usize, count: u
         }
         return plus(count, 1);
     }
-    if inside(b, l, u, k) && !inside(b, l, v, k) {
+    if inside(b, l, u, k) & !inside(b, l, v, k) {
         return 0;
     }
     count
@@ -44,14 +46,14 @@ fn passes_limit(
         if k < 64 {
             let count = counted(b, l, k, u, v, counts[k]);
             counts[k] = count;
-            passed = passed || count > of_loop(l, k, 2);
+            passed = passed | (count > of_loop(l, k, 2));
         }
     }
     passed
 }
 
 fn edge(b: &BlockCells, u: usize, v: usize) -> bool {
-    v == of_block(b, u, 2) || v == of_block(b, u, 3)
+    (v == of_block(b, u, 2)) | (v == of_block(b, u, 3))
 }
 
 // The first number that the block at an index of the walk is refused with, 0 where there is none.
@@ -100,6 +102,9 @@ fn finish(n: usize, blocks: &[u16], sum: usize) -> Reply {
 }
 
 fn follow(b: &BlockCells, l: &LoopCells, n: usize, m: usize, blocks: &[u16]) -> Reply {
+    if (blocks.len() == 0) | (blocks.len() > 1048576) {
+        return refused(301, 0);
+    }
     let mut counts = [0usize; 64];
     counts[0] = 1;
     let mut sum = 0;
@@ -113,8 +118,8 @@ fn follow(b: &BlockCells, l: &LoopCells, n: usize, m: usize, blocks: &[u16]) -> 
     finish(n, blocks, sum)
 }
 
-// The reply to a walk over a pair of tables.
-pub fn walk(
+// The reply to a pair of tables, or to a walk over it.
+pub fn reply(
     cost: &[u32],
     inner: &[u16],
     first: &[u16],
@@ -124,34 +129,26 @@ pub fn walk(
     header: &[u16],
     limit: &[u32],
     multiplier: &[u64],
-    blocks: &[u16],
+    walked: bool,
+    steps: &[u16],
 ) -> Reply {
     let n = cost.len();
     let m = parent.len();
-    let sizes = [
-        n,
-        inner.len(),
-        first.len(),
-        second.len(),
-        figure.len(),
-        m,
-        header.len(),
-        limit.len(),
-        multiplier.len(),
-    ];
-    if sizes_broken(sizes) {
+    let of_blocks = differ(n, inner.len(), first.len(), second.len()) | (figure.len() != n);
+    if differ(m, header.len(), limit.len(), multiplier.len()) | of_blocks | sizes_broken(n, m) {
         return refused(201, 0);
     }
     let mut b = [0usize; 5125];
     let mut l = [0usize; 260];
     copy_blocks(cost, inner, first, second, figure, &mut b);
     copy_loops(parent, header, limit, multiplier, &mut l);
-    let refusal = first_refusal(&b, &l, n, m, 208);
+    let refusal = first_refusal(&b, &l, n, m, if walked { 208 } else { 209 });
     if refusal.number != 0 {
         return refusal;
     }
-    if blocks.len() == 0 || blocks.len() > 1048576 {
-        return refused(301, 0);
+    if walked {
+        follow(&b, &l, n, m, steps)
+    } else {
+        bound(&b, n)
     }
-    follow(&b, &l, n, m, blocks)
 }

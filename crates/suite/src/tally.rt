@@ -1,10 +1,10 @@
 // What the cases gave: a line for each, and how many were wrong.
 use crate::cells::from_u32;
 use crate::cells::from_u64;
-use crate::cells::part;
 use crate::making::push;
 use crate::making::push_number;
 use crate::making::push_signed;
+use crate::parts::part;
 use libc::STDOUT_FILENO;
 use rolkeyda::Reply;
 
@@ -55,7 +55,7 @@ fn more(count: u64) -> u64 {
 }
 
 fn same(a: Reply, b: Reply) -> bool {
-    a.number == b.number && a.place == b.place && a.value == b.value && a.more == b.more
+    (a.number == b.number) & (a.place == b.place) & (a.value == b.value) & (a.more == b.more)
 }
 
 // A reply as text, and its length.
@@ -65,6 +65,10 @@ fn word(r: Reply, out: &mut [u8]) -> usize {
         let at = push(out, number, b" at ");
         return push_number(out, at, from_u32(r.place));
     }
+    accepted_word(r, out)
+}
+
+fn accepted_word(r: Reply, out: &mut [u8]) -> usize {
     let start = push(out, 0, b"accepted ");
     let value = push_signed(out, start, r.value);
     if r.more == 0 {
@@ -118,7 +122,7 @@ impl Tally {
         wanted: &[u8],
         kept: bool,
     ) -> Tally {
-        let right = kept && same(got, checked) && is_worded(got, wanted);
+        let right = kept & same(got, checked) & is_worded(got, wanted);
         say(name);
         say(b": ");
         say_reply(got);

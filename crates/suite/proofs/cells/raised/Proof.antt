@@ -7,31 +7,24 @@ use Rattle.integers.proofs.Laws.{ints, sum, size}
 use borrow.Author.Needs.{needs}
 use Rattle.suite.proofs.cells.raised.Statement.{statement}
 use Rattle.suite.proofs.cells.raised.Tie as tie
-use Rattle.suite.proofs.cells.raised.Reads as reads
-use Rattle.suite.proofs.cells.raised.Lts as lts
 
--- src/cells.rt:79:9
 returns : tie.Need-returns
 returns c = search needs
 
--- src/cells.rt:82:9
 returns-2 : tie.Need-returns-2
 returns-2 c = search needs
 
--- src/cells.rt:84:6
 add-result : tie.Need-add-result
 add-result c =
     let z : ℤ = toZ w64 (ofZ w64 (c .before .before .args .z)) in
     let fits : SFits w64 (z +ℤ pos 4611686018427387904) = omega (ints, sum z (pos 4611686018427387904), size (z +ℤ pos 4611686018427387904), size z) in
     fits
 
--- src/cells.rt:84:5
 cast-result : tie.Need-cast-result
 cast-result c =
     let z : ℤ = toZ w64 (ofZ w64 (c .before .before .args .z)) in
     rw (toZ-ofZ (add-result c)) (yes-nonNeg {z = z +ℤ pos 4611686018427387904} (omega (ints, sum z (pos 4611686018427387904))), fits-natAbs tt (add-result c))
 
--- src/cells.rt:77:1
 returns-3 : tie.Need-returns-3
 returns-3 c = search needs
 

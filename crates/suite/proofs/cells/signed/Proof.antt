@@ -7,49 +7,38 @@ use mir.Facts.{toZ-pos}
 use borrow.Author.Needs.{needs}
 use Rattle.suite.proofs.cells.signed.Statement.{statement}
 use Rattle.suite.proofs.cells.signed.Tie as tie
-use Rattle.suite.proofs.cells.signed.Reads as reads
-use Rattle.suite.proofs.cells.signed.Lts as lts
 
 -- -1 less at most 2^63 - 1 is no less than -2^63
 below-fits : (n : ℕ) → n < 2 ^ 63 → SFits w64 (negsuc 0 -ℤ pos n)
 below-fits zero h = record { sfits = omega arith }
 below-fits (suc n) h = record { sfits = omega arith }
 
--- src/cells.rt:90:9
 returns : tie.Need-returns
 returns c = search needs
 
--- src/cells.rt:94:13
 returns-2 : tie.Need-returns-2
 returns-2 c = search needs
 
--- src/cells.rt:96:16
 cast-result : tie.Need-cast-result
 cast-result c = search needs
 
--- src/cells.rt:96:9
 returns-3 : tie.Need-returns-3
 returns-3 c = search needs
 
--- src/cells.rt:99:9
 returns-4 : tie.Need-returns-4
 returns-4 c = search needs
 
--- src/cells.rt:101:11
 sub-result : tie.Need-sub-result
 sub-result c = search needs
 
--- src/cells.rt:101:10
 cast-result-2 : tie.Need-cast-result-2
 cast-result-2 c = search needs
 
--- src/cells.rt:101:5
 sub-result-2 : tie.Need-sub-result-2
 sub-result-2 c =
     let n : ℕ = c .before .before .before .args .size - 1 in
     rw (toZ-pos w64 {n = n} (omega arith)) (below-fits n (omega arith))
 
--- src/cells.rt:88:1
 returns-5 : tie.Need-returns-5
 returns-5 c = search needs
 

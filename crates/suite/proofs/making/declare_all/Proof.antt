@@ -4,9 +4,6 @@ use lib.ListN.{length}
 use Prim.Native.Nat.{_-_}
 use Rattle.suite.proofs.making.declare_all.Statement.{statement}
 use Rattle.suite.proofs.making.declare_all.Tie as tie
-use Rattle.suite.proofs.making.declare_all.Reads as reads
-use Rattle.suite.proofs.making.declare_all.Lts as lts
-use Rattle.suite.proofs.making.declare.Reads as declare-reads
 
 abbrev Inv-loop : tie.InvT-loop
 Inv-loop inner₀ parent₀ header₀ m nested k₀ inner parent header k = (length inner ≡ length inner₀) × (length parent ≡ length parent₀) × (length header ≡ length header₀)
@@ -14,39 +11,30 @@ Inv-loop inner₀ parent₀ header₀ m nested k₀ inner parent header k = (len
 abbrev μ-loop : tie.MeasureT-loop
 μ-loop inner₀ parent₀ header₀ m nested k₀ inner parent header k = m - k
 
--- src/making.rt:230:5
 loop-holds : tie.Need-loop-holds Inv-loop μ-loop
 loop-holds c = search needs
 
--- src/making.rt:231:9
 declare-requires : tie.Need-declare-requires Inv-loop μ-loop
 declare-requires c κs = search needs
 
--- src/making.rt:230:9
 add-k : tie.Need-add-k Inv-loop μ-loop
 add-k c = search needs
 
--- src/making.rt:230:5
 loop-less : tie.Need-loop-less Inv-loop μ-loop
 loop-less c = search needs
 
--- src/making.rt:230:5
 loop-again : tie.Need-loop-again Inv-loop μ-loop
 loop-again c = search needs
 
--- src/making.rt:229:1
 same-length : tie.Need-same-length Inv-loop μ-loop
 same-length c = search needs
 
--- src/making.rt:229:1
 same-length-2 : tie.Need-same-length-2 Inv-loop μ-loop
 same-length-2 c = search needs
 
--- src/making.rt:229:1
 same-length-3 : tie.Need-same-length-3 Inv-loop μ-loop
 same-length-3 c = search needs
 
--- src/making.rt:229:1
 returns : tie.Need-returns Inv-loop μ-loop
 returns c = search needs
 

@@ -4,9 +4,6 @@ use lib.ListN.{length}
 use Prim.Native.Nat.{_-_}
 use Rattle.suite.proofs.making.make_steps.Statement.{statement}
 use Rattle.suite.proofs.making.make_steps.Tie as tie
-use Rattle.suite.proofs.making.make_steps.Reads as reads
-use Rattle.suite.proofs.making.make_steps.Lts as lts
-use Rattle.suite.proofs.making.with_step.Reads as with-step-reads
 
 abbrev Inv-loop : tie.InvT-loop
 Inv-loop written steps₀ s₀ i₀ i-end steps s i = length steps ≡ length steps₀
@@ -14,35 +11,27 @@ Inv-loop written steps₀ s₀ i₀ i-end steps s i = length steps ≡ length st
 abbrev μ-loop : tie.MeasureT-loop
 μ-loop written steps₀ s₀ i₀ i-end steps s i = i-end - i
 
--- src/making.rt:212:5
 loop-holds : tie.Need-loop-holds Inv-loop μ-loop
 loop-holds c = search needs
 
--- src/making.rt:213:26
 shared-slice-read-with-step : tie.Need-shared-slice-read-with-step Inv-loop μ-loop
 shared-slice-read-with-step c = search needs
 
--- src/making.rt:213:9
 with-step-requires : tie.Need-with-step-requires Inv-loop μ-loop
 with-step-requires c κs = search needs
 
--- src/making.rt:212:9
 add-i : tie.Need-add-i Inv-loop μ-loop
 add-i c = search needs
 
--- src/making.rt:212:5
 loop-less : tie.Need-loop-less Inv-loop μ-loop
 loop-less c = search needs
 
--- src/making.rt:212:5
 loop-again : tie.Need-loop-again Inv-loop μ-loop
 loop-again c = search needs
 
--- src/making.rt:210:1
 same-length : tie.Need-same-length Inv-loop μ-loop
 same-length c = search needs
 
--- src/making.rt:210:1
 returns : tie.Need-returns Inv-loop μ-loop
 returns c = search needs
 

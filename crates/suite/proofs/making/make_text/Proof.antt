@@ -4,9 +4,6 @@ use lib.ListN.{length}
 use Prim.Native.Nat.{_-_}
 use Rattle.suite.proofs.making.make_text.Statement.{statement}
 use Rattle.suite.proofs.making.make_text.Tie as tie
-use Rattle.suite.proofs.making.make_text.Reads as reads
-use Rattle.suite.proofs.making.make_text.Lts as lts
-use Rattle.suite.proofs.making.Maker.with.Reads as with-reads
 
 abbrev Inv-loop : tie.InvT-loop
 Inv-loop written of-blocks text₀ s₀ i₀ i-end text s i = length text ≡ length text₀
@@ -14,35 +11,27 @@ Inv-loop written of-blocks text₀ s₀ i₀ i-end text s i = length text ≡ le
 abbrev μ-loop : tie.MeasureT-loop
 μ-loop written of-blocks text₀ s₀ i₀ i-end text s i = i-end - i
 
--- src/making.rt:188:5
 loop-holds : tie.Need-loop-holds Inv-loop μ-loop
 loop-holds c = search needs
 
--- src/making.rt:189:20
 shared-slice-read-with : tie.Need-shared-slice-read-with Inv-loop μ-loop
 shared-slice-read-with c = search needs
 
--- src/making.rt:189:9
 with-requires : tie.Need-with-requires Inv-loop μ-loop
 with-requires c κs = search needs
 
--- src/making.rt:188:9
 add-i : tie.Need-add-i Inv-loop μ-loop
 add-i c = search needs
 
--- src/making.rt:188:5
 loop-less : tie.Need-loop-less Inv-loop μ-loop
 loop-less c = search needs
 
--- src/making.rt:188:5
 loop-again : tie.Need-loop-again Inv-loop μ-loop
 loop-again c = search needs
 
--- src/making.rt:182:1
 same-length : tie.Need-same-length Inv-loop μ-loop
 same-length c = search needs
 
--- src/making.rt:182:1
 returns : tie.Need-returns Inv-loop μ-loop
 returns c = search needs
 

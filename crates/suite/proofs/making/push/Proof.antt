@@ -4,10 +4,6 @@ use lib.ListN.{length}
 use Prim.Native.Nat.{_-_}
 use Rattle.suite.proofs.making.push.Statement.{statement}
 use Rattle.suite.proofs.making.push.Tie as tie
-use Rattle.suite.proofs.making.push.Reads as reads
-use Rattle.suite.proofs.making.push.Lts as lts
-use Rattle.suite.proofs.cells.plus.Reads as plus-reads
-use Rattle.suite.proofs.cells.put_u8.Reads as put-u8-reads
 
 abbrev Inv-loop : tie.InvT-loop
 Inv-loop text₀ at piece i₀ i-end text i = length text ≡ length text₀
@@ -15,43 +11,33 @@ Inv-loop text₀ at piece i₀ i-end text i = length text ≡ length text₀
 abbrev μ-loop : tie.MeasureT-loop
 μ-loop text₀ at piece i₀ i-end text i = i-end - i
 
--- src/making.rt:13:5
 loop-holds : tie.Need-loop-holds Inv-loop μ-loop
 loop-holds c = search needs
 
--- src/making.rt:14:22
 plus-requires : tie.Need-plus-requires Inv-loop μ-loop
 plus-requires c κs = search needs
 
--- src/making.rt:14:35
 shared-slice-read-put-u8 : tie.Need-shared-slice-read-put-u8 Inv-loop μ-loop
 shared-slice-read-put-u8 c = search needs
 
--- src/making.rt:14:9
 put-u8-requires : tie.Need-put-u8-requires Inv-loop μ-loop
 put-u8-requires c κs = search needs
 
--- src/making.rt:13:9
 add-i : tie.Need-add-i Inv-loop μ-loop
 add-i c = search needs
 
--- src/making.rt:13:5
 loop-less : tie.Need-loop-less Inv-loop μ-loop
 loop-less c = search needs
 
--- src/making.rt:13:5
 loop-again : tie.Need-loop-again Inv-loop μ-loop
 loop-again c = search needs
 
--- src/making.rt:16:5
 plus-requires-2 : tie.Need-plus-requires-2 Inv-loop μ-loop
 plus-requires-2 c κs = search needs
 
--- src/making.rt:12:1
 same-length : tie.Need-same-length Inv-loop μ-loop
 same-length c = search needs
 
--- src/making.rt:12:1
 returns : tie.Need-returns Inv-loop μ-loop
 returns c = search needs
 

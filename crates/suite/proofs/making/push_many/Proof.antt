@@ -4,9 +4,6 @@ use lib.ListN.{length}
 use Prim.Native.Nat.{_-_}
 use Rattle.suite.proofs.making.push_many.Statement.{statement}
 use Rattle.suite.proofs.making.push_many.Tie as tie
-use Rattle.suite.proofs.making.push_many.Reads as reads
-use Rattle.suite.proofs.making.push_many.Lts as lts
-use Rattle.suite.proofs.making.push_one.Reads as push-one-reads
 
 abbrev Inv-loop : tie.InvT-loop
 Inv-loop text₀ from count what byte of-blocks at₀ i₀ text at i = length text ≡ length text₀
@@ -14,31 +11,24 @@ Inv-loop text₀ from count what byte of-blocks at₀ i₀ text at i = length te
 abbrev μ-loop : tie.MeasureT-loop
 μ-loop text₀ from count what byte of-blocks at₀ i₀ text at i = count - i
 
--- src/making.rt:80:5
 loop-holds : tie.Need-loop-holds Inv-loop μ-loop
 loop-holds c = search needs
 
--- src/making.rt:81:9
 push-one-requires : tie.Need-push-one-requires Inv-loop μ-loop
 push-one-requires c κs = search needs
 
--- src/making.rt:80:9
 add-i : tie.Need-add-i Inv-loop μ-loop
 add-i c = search needs
 
--- src/making.rt:80:5
 loop-less : tie.Need-loop-less Inv-loop μ-loop
 loop-less c = search needs
 
--- src/making.rt:80:5
 loop-again : tie.Need-loop-again Inv-loop μ-loop
 loop-again c = search needs
 
--- src/making.rt:78:1
 same-length : tie.Need-same-length Inv-loop μ-loop
 same-length c = search needs
 
--- src/making.rt:78:1
 returns : tie.Need-returns Inv-loop μ-loop
 returns c = search needs
 

@@ -2,10 +2,6 @@ use borrow.Author.Needs.{needs}
 use Prim.Native.Nat.{_-_}
 use Rattle.suite.proofs.reading.digits_of.Statement.{statement}
 use Rattle.suite.proofs.reading.digits_of.Tie as tie
-use Rattle.suite.proofs.reading.digits_of.Reads as reads
-use Rattle.suite.proofs.reading.digits_of.Lts as lts
-use Rattle.suite.proofs.reading.byte_at.Reads as byte-at-reads
-use Rattle.suite.proofs.reading.with_digit.Reads as with-digit-reads
 
 abbrev Inv-loop : tie.InvT-loop
 Inv-loop text from to d₀ i₀ d i = Unit {0}
@@ -13,31 +9,24 @@ Inv-loop text from to d₀ i₀ d i = Unit {0}
 abbrev μ-loop : tie.MeasureT-loop
 μ-loop text from to d₀ i₀ d i = to - i
 
--- src/reading.rt:77:5
 loop-holds : tie.Need-loop-holds Inv-loop μ-loop
 loop-holds c = search needs
 
--- src/reading.rt:78:27
 byte-at-requires : tie.Need-byte-at-requires Inv-loop μ-loop
 byte-at-requires c κs = search needs
 
--- src/reading.rt:78:9
 with-digit-requires : tie.Need-with-digit-requires Inv-loop μ-loop
 with-digit-requires c κs = search needs
 
--- src/reading.rt:77:9
 add-i : tie.Need-add-i Inv-loop μ-loop
 add-i c = search needs
 
--- src/reading.rt:77:5
 loop-less : tie.Need-loop-less Inv-loop μ-loop
 loop-less c = search needs
 
--- src/reading.rt:77:5
 loop-again : tie.Need-loop-again Inv-loop μ-loop
 loop-again c = search needs
 
--- src/reading.rt:75:1
 returns : tie.Need-returns Inv-loop μ-loop
 returns c = search needs
 

@@ -2,13 +2,6 @@ use borrow.Author.Needs.{needs}
 use Prim.Native.Nat.{_-_}
 use Rattle.suite.proofs.reading.read.Statement.{statement}
 use Rattle.suite.proofs.reading.read.Tie as tie
-use Rattle.suite.proofs.reading.read.Reads as reads
-use Rattle.suite.proofs.reading.read.Lts as lts
-use Rattle.suite.proofs.reading.Reading.end.Reads as end-reads
-use Rattle.suite.proofs.reading.Reading.new.Reads as new-reads
-use Rattle.suite.proofs.reading.Reading.reply.Reads as reply-reads
-use Rattle.suite.proofs.reading.Reading.turn.Reads as turn-reads
-use Rattle.suite.proofs.tally.refused.Reads as refused-reads
 
 abbrev Inv-loop : tie.InvT-loop
 Inv-loop text header columns room out₀ s₀ i₀ i-end out s i = Unit {0}
@@ -16,51 +9,39 @@ Inv-loop text header columns room out₀ s₀ i₀ i-end out s i = Unit {0}
 abbrev μ-loop : tie.MeasureT-loop
 μ-loop text header columns room out₀ s₀ i₀ i-end out s i = i-end - i
 
--- src/reading.rt:380:9
 refused-requires : tie.Need-refused-requires Inv-loop μ-loop
 refused-requires c κs = search needs
 
--- src/reading.rt:380:9
 returns : tie.Need-returns Inv-loop μ-loop
 returns c = search needs
 
--- src/reading.rt:382:9
 new-requires : tie.Need-new-requires Inv-loop μ-loop
 new-requires c κs = search needs
 
--- src/reading.rt:383:5
 loop-holds : tie.Need-loop-holds Inv-loop μ-loop
 loop-holds c = search needs
 
--- src/reading.rt:384:20
 shared-slice-read-turn : tie.Need-shared-slice-read-turn Inv-loop μ-loop
 shared-slice-read-turn c = search needs
 
--- src/reading.rt:384:9
 turn-requires : tie.Need-turn-requires Inv-loop μ-loop
 turn-requires c κs = search needs
 
--- src/reading.rt:383:9
 add-i : tie.Need-add-i Inv-loop μ-loop
 add-i c = search needs
 
--- src/reading.rt:383:5
 loop-less : tie.Need-loop-less Inv-loop μ-loop
 loop-less c = search needs
 
--- src/reading.rt:383:5
 loop-again : tie.Need-loop-again Inv-loop μ-loop
 loop-again c = search needs
 
--- src/reading.rt:386:5
 end-requires : tie.Need-end-requires Inv-loop μ-loop
 end-requires c κs = search needs
 
--- src/reading.rt:387:5
 reply-requires : tie.Need-reply-requires Inv-loop μ-loop
 reply-requires c κs = search needs
 
--- src/reading.rt:378:1
 returns-2 : tie.Need-returns-2 Inv-loop μ-loop
 returns-2 c = search needs
 

@@ -2,9 +2,6 @@ use borrow.Author.Needs.{needs}
 use Prim.Native.Nat.{_-_}
 use Rattle.suite.proofs.rules.around.Statement.{statement}
 use Rattle.suite.proofs.rules.around.Tie as tie
-use Rattle.suite.proofs.rules.around.Reads as reads
-use Rattle.suite.proofs.rules.around.Lts as lts
-use Rattle.suite.proofs.rules.of_loop.Reads as of-loop-reads
 
 abbrev Inv-loop : tie.InvT-loop
 Inv-loop loops l k at₀ counter₀ at counter = Unit {0}
@@ -12,31 +9,24 @@ Inv-loop loops l k at₀ counter₀ at counter = Unit {0}
 abbrev μ-loop : tie.MeasureT-loop
 μ-loop loops l k at₀ counter₀ at counter = 65 - counter
 
--- src/rules.rt:44:5
 loop-holds : tie.Need-loop-holds Inv-loop μ-loop
 loop-holds c = search needs
 
--- src/rules.rt:46:13
 returns : tie.Need-returns Inv-loop μ-loop
 returns c = search needs
 
--- src/rules.rt:48:9
 of-loop-requires : tie.Need-of-loop-requires Inv-loop μ-loop
 of-loop-requires c κs = search needs
 
--- src/rules.rt:44:9
 add-counter : tie.Need-add-counter Inv-loop μ-loop
 add-counter c = search needs
 
--- src/rules.rt:44:5
 loop-less : tie.Need-loop-less Inv-loop μ-loop
 loop-less c = search needs
 
--- src/rules.rt:44:5
 loop-again : tie.Need-loop-again Inv-loop μ-loop
 loop-again c = search needs
 
--- src/rules.rt:42:1
 returns-2 : tie.Need-returns-2 Inv-loop μ-loop
 returns-2 c = search needs
 

@@ -2,13 +2,6 @@ use borrow.Author.Needs.{needs}
 use Prim.Native.Nat.{_-_}
 use Rattle.suite.proofs.rules.copy_blocks.Statement.{statement}
 use Rattle.suite.proofs.rules.copy_blocks.Tie as tie
-use Rattle.suite.proofs.rules.copy_blocks.Reads as reads
-use Rattle.suite.proofs.rules.copy_blocks.Lts as lts
-use Rattle.suite.proofs.cells.i64_at.Reads as i64-at-reads
-use Rattle.suite.proofs.cells.raised.Reads as raised-reads
-use Rattle.suite.proofs.cells.u16_at.Reads as u16-at-reads
-use Rattle.suite.proofs.cells.u32_at.Reads as u32-at-reads
-use Rattle.suite.proofs.rules.put_block.Reads as put-block-reads
 
 abbrev Inv-loop : tie.InvT-loop
 Inv-loop cost inner first second figure out₀ u₀ u-end out u = Unit {0}
@@ -16,51 +9,39 @@ Inv-loop cost inner first second figure out₀ u₀ u-end out u = Unit {0}
 abbrev μ-loop : tie.MeasureT-loop
 μ-loop cost inner first second figure out₀ u₀ u-end out u = u-end - u
 
--- src/rules.rt:242:5
 loop-holds : tie.Need-loop-holds Inv-loop μ-loop
 loop-holds c = search needs
 
--- src/rules.rt:246:13
 u32-at-requires : tie.Need-u32-at-requires Inv-loop μ-loop
 u32-at-requires c κs = search needs
 
--- src/rules.rt:247:13
 u16-at-requires : tie.Need-u16-at-requires Inv-loop μ-loop
 u16-at-requires c κs = search needs
 
--- src/rules.rt:248:13
 u16-at-requires-2 : tie.Need-u16-at-requires-2 Inv-loop μ-loop
 u16-at-requires-2 c κs = search needs
 
--- src/rules.rt:249:13
 u16-at-requires-3 : tie.Need-u16-at-requires-3 Inv-loop μ-loop
 u16-at-requires-3 c κs = search needs
 
--- src/rules.rt:250:20
 i64-at-requires : tie.Need-i64-at-requires Inv-loop μ-loop
 i64-at-requires c κs = search needs
 
--- src/rules.rt:250:13
 raised-requires : tie.Need-raised-requires Inv-loop μ-loop
 raised-requires c κs = search needs
 
--- src/rules.rt:243:9
 put-block-requires : tie.Need-put-block-requires Inv-loop μ-loop
 put-block-requires c κs = search needs
 
--- src/rules.rt:242:9
 add-u : tie.Need-add-u Inv-loop μ-loop
 add-u c = search needs
 
--- src/rules.rt:242:5
 loop-less : tie.Need-loop-less Inv-loop μ-loop
 loop-less c = search needs
 
--- src/rules.rt:242:5
 loop-again : tie.Need-loop-again Inv-loop μ-loop
 loop-again c = search needs
 
--- src/rules.rt:234:1
 returns : tie.Need-returns Inv-loop μ-loop
 returns c = search needs
 

@@ -2,12 +2,6 @@ use borrow.Author.Needs.{needs}
 use Prim.Native.Nat.{_-_}
 use Rattle.suite.proofs.rules.copy_loops.Statement.{statement}
 use Rattle.suite.proofs.rules.copy_loops.Tie as tie
-use Rattle.suite.proofs.rules.copy_loops.Reads as reads
-use Rattle.suite.proofs.rules.copy_loops.Lts as lts
-use Rattle.suite.proofs.cells.u16_at.Reads as u16-at-reads
-use Rattle.suite.proofs.cells.u32_at.Reads as u32-at-reads
-use Rattle.suite.proofs.cells.u64_at.Reads as u64-at-reads
-use Rattle.suite.proofs.rules.put_loop.Reads as put-loop-reads
 
 abbrev Inv-loop : tie.InvT-loop
 Inv-loop parent header limit multiplier out₀ k₀ k-end out k = Unit {0}
@@ -15,43 +9,33 @@ Inv-loop parent header limit multiplier out₀ k₀ k-end out k = Unit {0}
 abbrev μ-loop : tie.MeasureT-loop
 μ-loop parent header limit multiplier out₀ k₀ k-end out k = k-end - k
 
--- src/rules.rt:262:5
 loop-holds : tie.Need-loop-holds Inv-loop μ-loop
 loop-holds c = search needs
 
--- src/rules.rt:266:13
 u16-at-requires : tie.Need-u16-at-requires Inv-loop μ-loop
 u16-at-requires c κs = search needs
 
--- src/rules.rt:267:13
 u16-at-requires-2 : tie.Need-u16-at-requires-2 Inv-loop μ-loop
 u16-at-requires-2 c κs = search needs
 
--- src/rules.rt:268:13
 u32-at-requires : tie.Need-u32-at-requires Inv-loop μ-loop
 u32-at-requires c κs = search needs
 
--- src/rules.rt:269:13
 u64-at-requires : tie.Need-u64-at-requires Inv-loop μ-loop
 u64-at-requires c κs = search needs
 
--- src/rules.rt:263:9
 put-loop-requires : tie.Need-put-loop-requires Inv-loop μ-loop
 put-loop-requires c κs = search needs
 
--- src/rules.rt:262:9
 add-k : tie.Need-add-k Inv-loop μ-loop
 add-k c = search needs
 
--- src/rules.rt:262:5
 loop-less : tie.Need-loop-less Inv-loop μ-loop
 loop-less c = search needs
 
--- src/rules.rt:262:5
 loop-again : tie.Need-loop-again Inv-loop μ-loop
 loop-again c = search needs
 
--- src/rules.rt:255:1
 returns : tie.Need-returns Inv-loop μ-loop
 returns c = search needs
 

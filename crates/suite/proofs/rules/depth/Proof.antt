@@ -2,10 +2,6 @@ use borrow.Author.Needs.{needs}
 use Prim.Native.Nat.{_-_}
 use Rattle.suite.proofs.rules.depth.Statement.{statement}
 use Rattle.suite.proofs.rules.depth.Tie as tie
-use Rattle.suite.proofs.rules.depth.Reads as reads
-use Rattle.suite.proofs.rules.depth.Lts as lts
-use Rattle.suite.proofs.rules.inside.Reads as inside-reads
-use Rattle.suite.proofs.rules.more_if.Reads as more-if-reads
 
 abbrev Inv-loop : tie.InvT-loop
 Inv-loop b l m u count₀ k₀ count k = Unit {0}
@@ -13,31 +9,24 @@ Inv-loop b l m u count₀ k₀ count k = Unit {0}
 abbrev μ-loop : tie.MeasureT-loop
 μ-loop b l m u count₀ k₀ count k = m - k
 
--- src/rules.rt:66:5
 loop-holds : tie.Need-loop-holds Inv-loop μ-loop
 loop-holds c = search needs
 
--- src/rules.rt:67:25
 inside-requires : tie.Need-inside-requires Inv-loop μ-loop
 inside-requires c κs = search needs
 
--- src/rules.rt:67:9
 more-if-requires : tie.Need-more-if-requires Inv-loop μ-loop
 more-if-requires c κs = search needs
 
--- src/rules.rt:66:9
 add-k : tie.Need-add-k Inv-loop μ-loop
 add-k c = search needs
 
--- src/rules.rt:66:5
 loop-less : tie.Need-loop-less Inv-loop μ-loop
 loop-less c = search needs
 
--- src/rules.rt:66:5
 loop-again : tie.Need-loop-again Inv-loop μ-loop
 loop-again c = search needs
 
--- src/rules.rt:64:1
 returns : tie.Need-returns Inv-loop μ-loop
 returns c = search needs
 

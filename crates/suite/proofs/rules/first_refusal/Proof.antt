@@ -2,12 +2,6 @@ use borrow.Author.Needs.{needs}
 use Prim.Native.Nat.{_-_}
 use Rattle.suite.proofs.rules.first_refusal.Statement.{statement}
 use Rattle.suite.proofs.rules.first_refusal.Tie as tie
-use Rattle.suite.proofs.rules.first_refusal.Reads as reads
-use Rattle.suite.proofs.rules.first_refusal.Lts as lts
-use Rattle.suite.proofs.rules.first_broken.Reads as first-broken-reads
-use Rattle.suite.proofs.rules.places_of.Reads as places-of-reads
-use Rattle.suite.proofs.tally.accepted.Reads as accepted-reads
-use Rattle.suite.proofs.tally.refused.Reads as refused-reads
 
 abbrev Inv-loop : tie.InvT-loop
 Inv-loop b l n m end rule₀ rule = Unit {0}
@@ -15,43 +9,33 @@ Inv-loop b l n m end rule₀ rule = Unit {0}
 abbrev μ-loop : tie.MeasureT-loop
 μ-loop b l n m end rule₀ rule = end - rule
 
--- src/rules.rt:198:5
 loop-holds : tie.Need-loop-holds Inv-loop μ-loop
 loop-holds c = search needs
 
--- src/rules.rt:199:52
 places-of-requires : tie.Need-places-of-requires Inv-loop μ-loop
 places-of-requires c κs = search needs
 
--- src/rules.rt:199:13
 first-broken-requires : tie.Need-first-broken-requires Inv-loop μ-loop
 first-broken-requires c κs = search needs
 
--- src/rules.rt:201:13
 refused-requires : tie.Need-refused-requires Inv-loop μ-loop
 refused-requires c κs = search needs
 
--- src/rules.rt:201:13
 returns : tie.Need-returns Inv-loop μ-loop
 returns c = search needs
 
--- src/rules.rt:198:9
 add-rule : tie.Need-add-rule Inv-loop μ-loop
 add-rule c = search needs
 
--- src/rules.rt:198:5
 loop-less : tie.Need-loop-less Inv-loop μ-loop
 loop-less c = search needs
 
--- src/rules.rt:198:5
 loop-again : tie.Need-loop-again Inv-loop μ-loop
 loop-again c = search needs
 
--- src/rules.rt:204:5
 accepted-requires : tie.Need-accepted-requires Inv-loop μ-loop
 accepted-requires c κs = search needs
 
--- src/rules.rt:197:1
 returns-2 : tie.Need-returns-2 Inv-loop μ-loop
 returns-2 c = search needs
 

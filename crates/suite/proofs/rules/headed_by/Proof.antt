@@ -2,9 +2,6 @@ use borrow.Author.Needs.{needs}
 use Prim.Native.Nat.{_-_}
 use Rattle.suite.proofs.rules.headed_by.Statement.{statement}
 use Rattle.suite.proofs.rules.headed_by.Tie as tie
-use Rattle.suite.proofs.rules.headed_by.Reads as reads
-use Rattle.suite.proofs.rules.headed_by.Lts as lts
-use Rattle.suite.proofs.rules.of_loop.Reads as of-loop-reads
 
 abbrev Inv-loop : tie.InvT-loop
 Inv-loop l m v k₀ k = Unit {0}
@@ -12,31 +9,24 @@ Inv-loop l m v k₀ k = Unit {0}
 abbrev μ-loop : tie.MeasureT-loop
 μ-loop l m v k₀ k = m - k
 
--- src/rules.rt:87:5
 loop-holds : tie.Need-loop-holds Inv-loop μ-loop
 loop-holds c = search needs
 
--- src/rules.rt:88:12
 of-loop-requires : tie.Need-of-loop-requires Inv-loop μ-loop
 of-loop-requires c κs = search needs
 
--- src/rules.rt:89:13
 returns : tie.Need-returns Inv-loop μ-loop
 returns c = search needs
 
--- src/rules.rt:87:9
 add-k : tie.Need-add-k Inv-loop μ-loop
 add-k c = search needs
 
--- src/rules.rt:87:5
 loop-less : tie.Need-loop-less Inv-loop μ-loop
 loop-less c = search needs
 
--- src/rules.rt:87:5
 loop-again : tie.Need-loop-again Inv-loop μ-loop
 loop-again c = search needs
 
--- src/rules.rt:86:1
 returns-2 : tie.Need-returns-2 Inv-loop μ-loop
 returns-2 c = search needs
 

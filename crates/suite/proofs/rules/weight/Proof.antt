@@ -2,9 +2,6 @@ use borrow.Author.Needs.{needs}
 use Prim.Native.Nat.{_-_}
 use Rattle.suite.proofs.rules.weight.Statement.{statement}
 use Rattle.suite.proofs.rules.weight.Tie as tie
-use Rattle.suite.proofs.rules.weight.Reads as reads
-use Rattle.suite.proofs.rules.weight.Lts as lts
-use Rattle.suite.proofs.cells.plus.Reads as plus-reads
 
 abbrev Inv-loop : tie.InvT-loop
 Inv-loop multiplier limit sum₀ counter₀ sum counter = Unit {0}
@@ -12,27 +9,21 @@ Inv-loop multiplier limit sum₀ counter₀ sum counter = Unit {0}
 abbrev μ-loop : tie.MeasureT-loop
 μ-loop multiplier limit sum₀ counter₀ sum counter = limit - counter
 
--- src/rules.rt:98:5
 loop-holds : tie.Need-loop-holds Inv-loop μ-loop
 loop-holds c = search needs
 
--- src/rules.rt:99:9
 plus-requires : tie.Need-plus-requires Inv-loop μ-loop
 plus-requires c κs = search needs
 
--- src/rules.rt:98:9
 add-counter : tie.Need-add-counter Inv-loop μ-loop
 add-counter c = search needs
 
--- src/rules.rt:98:5
 loop-less : tie.Need-loop-less Inv-loop μ-loop
 loop-less c = search needs
 
--- src/rules.rt:98:5
 loop-again : tie.Need-loop-again Inv-loop μ-loop
 loop-again c = search needs
 
--- src/rules.rt:96:1
 returns : tie.Need-returns Inv-loop μ-loop
 returns c = search needs
 

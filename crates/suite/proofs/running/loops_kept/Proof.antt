@@ -2,75 +2,54 @@ use borrow.Author.Needs.{needs}
 use Prim.Native.Nat.{_-_}
 use Rattle.suite.proofs.running.loops_kept.Statement.{statement}
 use Rattle.suite.proofs.running.loops_kept.Tie as tie
-use Rattle.suite.proofs.running.loops_kept.Reads as reads
-use Rattle.suite.proofs.running.loops_kept.Lts as lts
-use Rattle.suite.proofs.running.loop_row.Reads as loop-row-reads
 
 abbrev Inv-loop : tie.InvT-loop
-Inv-loop count rows parent header limit multiplier i₀ i = Unit {0}
+Inv-loop count rows parent header limit multiplier kept₀ i₀ kept i = Unit {0}
 
 abbrev μ-loop : tie.MeasureT-loop
-μ-loop count rows parent header limit multiplier i₀ i = 66 - i
+μ-loop count rows parent header limit multiplier kept₀ i₀ kept i = 66 - i
 
--- src/running.rt:85:5
 loop-holds : tie.Need-loop-holds Inv-loop μ-loop
 loop-holds c = search needs
 
--- src/running.rt:86:38
 mul-loop-row : tie.Need-mul-loop-row Inv-loop μ-loop
 mul-loop-row c = search needs
 
--- src/running.rt:86:38
 element-copy-out-loop-row : tie.Need-element-copy-out-loop-row Inv-loop μ-loop
 element-copy-out-loop-row c = search needs
 
--- src/running.rt:86:49
 mul-loop-row-2 : tie.Need-mul-loop-row-2 Inv-loop μ-loop
 mul-loop-row-2 c = search needs
 
--- src/running.rt:86:49
 element-copy-out-loop-row-2 : tie.Need-element-copy-out-loop-row-2 Inv-loop μ-loop
 element-copy-out-loop-row-2 c = search needs
 
--- src/running.rt:86:60
 mul-loop-row-3 : tie.Need-mul-loop-row-3 Inv-loop μ-loop
 mul-loop-row-3 c = search needs
 
--- src/running.rt:86:60
 element-copy-out-loop-row-3 : tie.Need-element-copy-out-loop-row-3 Inv-loop μ-loop
 element-copy-out-loop-row-3 c = search needs
 
--- src/running.rt:86:70
 mul-loop-row-4 : tie.Need-mul-loop-row-4 Inv-loop μ-loop
 mul-loop-row-4 c = search needs
 
--- src/running.rt:86:70
 element-copy-out-loop-row-4 : tie.Need-element-copy-out-loop-row-4 Inv-loop μ-loop
 element-copy-out-loop-row-4 c = search needs
 
--- src/running.rt:86:13
 loop-row-requires : tie.Need-loop-row-requires Inv-loop μ-loop
 loop-row-requires c κs = search needs
 
--- src/running.rt:87:13
-returns : tie.Need-returns Inv-loop μ-loop
-returns c = search needs
-
--- src/running.rt:85:9
 add-i : tie.Need-add-i Inv-loop μ-loop
 add-i c = search needs
 
--- src/running.rt:85:5
 loop-less : tie.Need-loop-less Inv-loop μ-loop
 loop-less c = search needs
 
--- src/running.rt:85:5
 loop-again : tie.Need-loop-again Inv-loop μ-loop
 loop-again c = search needs
 
--- src/running.rt:84:1
-returns-2 : tie.Need-returns-2 Inv-loop μ-loop
-returns-2 c = search needs
+returns : tie.Need-returns Inv-loop μ-loop
+returns c = search needs
 
 pub loops-kept-spec : {M : Type 1} → statement M
 loops-kept-spec =
@@ -88,8 +67,7 @@ loops-kept-spec =
     mul-loop-row-4
     element-copy-out-loop-row-4
     loop-row-requires
-    returns
     add-i
     loop-less
     loop-again
-    returns-2)
+    returns)

@@ -2,10 +2,6 @@ use borrow.Author.Needs.{needs}
 use Prim.Native.Nat.{_-_}
 use Rattle.suite.proofs.script.field.Statement.{statement}
 use Rattle.suite.proofs.script.field.Tie as tie
-use Rattle.suite.proofs.script.field.Reads as reads
-use Rattle.suite.proofs.script.field.Lts as lts
-use Rattle.suite.proofs.cells.part.Reads as part-reads
-use Rattle.suite.proofs.script.with_byte.Reads as with-byte-reads
 
 abbrev Inv-loop : tie.InvT-loop
 Inv-loop line k s₀ i₀ i-end s i = Unit {0}
@@ -13,35 +9,27 @@ Inv-loop line k s₀ i₀ i-end s i = Unit {0}
 abbrev μ-loop : tie.MeasureT-loop
 μ-loop line k s₀ i₀ i-end s i = i-end - i
 
--- src/script.rt:43:5
 loop-holds : tie.Need-loop-holds Inv-loop μ-loop
 loop-holds c = search needs
 
--- src/script.rt:44:32
 shared-slice-read-with-byte : tie.Need-shared-slice-read-with-byte Inv-loop μ-loop
 shared-slice-read-with-byte c = search needs
 
--- src/script.rt:44:9
 with-byte-requires : tie.Need-with-byte-requires Inv-loop μ-loop
 with-byte-requires c κs = search needs
 
--- src/script.rt:43:9
 add-i : tie.Need-add-i Inv-loop μ-loop
 add-i c = search needs
 
--- src/script.rt:43:5
 loop-less : tie.Need-loop-less Inv-loop μ-loop
 loop-less c = search needs
 
--- src/script.rt:43:5
 loop-again : tie.Need-loop-again Inv-loop μ-loop
 loop-again c = search needs
 
--- src/script.rt:46:5
 part-requires : tie.Need-part-requires Inv-loop μ-loop
 part-requires c κs = search needs
 
--- src/script.rt:41:1
 returns : tie.Need-returns Inv-loop μ-loop
 returns c = search needs
 

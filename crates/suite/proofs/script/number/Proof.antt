@@ -2,9 +2,6 @@ use borrow.Author.Needs.{needs}
 use Prim.Native.Nat.{_-_}
 use Rattle.suite.proofs.script.number.Statement.{statement}
 use Rattle.suite.proofs.script.number.Tie as tie
-use Rattle.suite.proofs.script.number.Reads as reads
-use Rattle.suite.proofs.script.number.Lts as lts
-use Rattle.suite.proofs.reading.with_digit.Reads as with-digit-reads
 
 abbrev Inv-loop : tie.InvT-loop
 Inv-loop s d₀ i₀ i-end d i = Unit {0}
@@ -12,31 +9,24 @@ Inv-loop s d₀ i₀ i-end d i = Unit {0}
 abbrev μ-loop : tie.MeasureT-loop
 μ-loop s d₀ i₀ i-end d i = i-end - i
 
--- src/script.rt:58:5
 loop-holds : tie.Need-loop-holds Inv-loop μ-loop
 loop-holds c = search needs
 
--- src/script.rt:59:27
 shared-slice-read-with-digit : tie.Need-shared-slice-read-with-digit Inv-loop μ-loop
 shared-slice-read-with-digit c = search needs
 
--- src/script.rt:59:9
 with-digit-requires : tie.Need-with-digit-requires Inv-loop μ-loop
 with-digit-requires c κs = search needs
 
--- src/script.rt:58:9
 add-i : tie.Need-add-i Inv-loop μ-loop
 add-i c = search needs
 
--- src/script.rt:58:5
 loop-less : tie.Need-loop-less Inv-loop μ-loop
 loop-less c = search needs
 
--- src/script.rt:58:5
 loop-again : tie.Need-loop-again Inv-loop μ-loop
 loop-again c = search needs
 
--- src/script.rt:56:1
 returns : tie.Need-returns Inv-loop μ-loop
 returns c = search needs
 

@@ -2,10 +2,6 @@ use borrow.Author.Needs.{needs}
 use Prim.Native.Nat.{_-_}
 use Rattle.suite.proofs.stepping.passes_limit.Statement.{statement}
 use Rattle.suite.proofs.stepping.passes_limit.Tie as tie
-use Rattle.suite.proofs.stepping.passes_limit.Reads as reads
-use Rattle.suite.proofs.stepping.passes_limit.Lts as lts
-use Rattle.suite.proofs.rules.of_loop.Reads as of-loop-reads
-use Rattle.suite.proofs.stepping.counted.Reads as counted-reads
 
 abbrev Inv-loop : tie.InvT-loop
 Inv-loop b l m u v counts₀ passed₀ k₀ counts passed k = Unit {0}
@@ -13,47 +9,36 @@ Inv-loop b l m u v counts₀ passed₀ k₀ counts passed k = Unit {0}
 abbrev μ-loop : tie.MeasureT-loop
 μ-loop b l m u v counts₀ passed₀ k₀ counts passed k = m - k
 
--- src/stepping.rt:35:5
 loop-holds : tie.Need-loop-holds Inv-loop μ-loop
 loop-holds c = search needs
 
--- src/stepping.rt:37:48
 mul-counted : tie.Need-mul-counted Inv-loop μ-loop
 mul-counted c = search needs
 
--- src/stepping.rt:37:48
 element-copy-out-counted : tie.Need-element-copy-out-counted Inv-loop μ-loop
 element-copy-out-counted c = search needs
 
--- src/stepping.rt:37:17
 counted-requires : tie.Need-counted-requires Inv-loop μ-loop
 counted-requires c κs = search needs
 
--- src/stepping.rt:38:13
 mul-counts : tie.Need-mul-counts Inv-loop μ-loop
 mul-counts c = search needs
 
--- src/stepping.rt:38:13
 element-write-counts : tie.Need-element-write-counts Inv-loop μ-loop
 element-write-counts c = search needs
 
--- src/stepping.rt:39:40
 of-loop-requires : tie.Need-of-loop-requires Inv-loop μ-loop
 of-loop-requires c κs = search needs
 
--- src/stepping.rt:35:9
 add-k : tie.Need-add-k Inv-loop μ-loop
 add-k c = search needs
 
--- src/stepping.rt:35:5
 loop-less : tie.Need-loop-less Inv-loop μ-loop
 loop-less c = search needs
 
--- src/stepping.rt:35:5
 loop-again : tie.Need-loop-again Inv-loop μ-loop
 loop-again c = search needs
 
--- src/stepping.rt:33:1
 returns : tie.Need-returns Inv-loop μ-loop
 returns c = search needs
 
