@@ -46,7 +46,7 @@ typedef struct rolkeyda_reply {
 /*
  * Reads a block table (number, cost, loop, first successor, second successor, figure; RFC 4180) into five columns. `header` says whether
  * record 1 is a header. Accepted: the first `value` places of each column hold the rows and later places keep their contents. Refused: no
- * column is changed. 106 where the shortest column has no place for a row.
+ * column is changed. 106 where the shortest column has no place for a row. A reader takes some 96 KiB of the stack.
  */
 rolkeyda_reply rolkeyda_read_blocks(
     const uint8_t *text, size_t text_length,

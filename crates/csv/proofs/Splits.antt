@@ -12,7 +12,7 @@ use lib.ListN.{length, take, drop, getD, set, length-drop, length-take, length-s
 use lib.Seq.{drop-drop, getD-set-same, getD-set-other, length-take-le}
 use native.Mathlib.Decide.{decLe}
 use lib.Dec.{leb, ltb, leb·zero}
-use Rattle.csv.specs.Grammar.{Field, comma, ends, broken, width, field, Record, recordOf, recordIn, recordWith, joined, only, torn}
+use Rattle.csv.specs.Grammar.{Field, comma, ends, broken, width, field, Record, recordOf, recordIn, recordWith, joined, only, unsound}
 use Rattle.csv.specs.Place.{foundAt, noPlaces, note, noted, startsOf, stopsOf, splitOf, fieldAt}
 use Rattle.csv.specs.declared.Ending.{Ending}
 use Rattle.csv.specs.declared.Ending.the-variants.{EndOfText}
@@ -118,7 +118,7 @@ module _ (s : List ℕ) (p : ℕ) {r : Found} (q : r ≡ foundAt p (field (drop 
     pub scan-broken : {x : Split} (starts stops : List ℕ) (count : ℕ) → x ≡ splitOf starts stops count p (recordOf (drop p s)) → record { starts = starts; ends = stops; count = count; next = p; sound = false; ending = EndOfText } ≡ x
     unfolding noted startsOf stopsOf
     scan-broken starts stops count h =
-        let f : recordOf (drop p s) ≡ torn = record-step (drop p s) ∙ rw (broken-of p (field (drop p s)) (sym w ∙ q)) in
+        let f : recordOf (drop p s) ≡ unsound = record-step (drop p s) ∙ rw (broken-of p (field (drop p s)) (sym w ∙ q)) in
         sym (h ∙ rw (f, add-zero, add-zero))
 
 -- The fields ws, as the record that starts at p has them: each is the part of the text between its bounds.

@@ -102,8 +102,8 @@ pub record Record : Type 0 where
   pub sound : Bool
   pub ending : Ending
 
-abbrev pub torn : Record
-torn = record { fields = []; bytes = 0; sound = false; ending = EndOfText }
+abbrev pub unsound : Record
+unsound = record { fields = []; bytes = 0; sound = false; ending = EndOfText }
 
 abbrev pub only : List ℕ → ℕ → Ending → Record
 only w n e = record { fields = w ∷ []; bytes = n + width e; sound = true; ending = e }
@@ -115,11 +115,11 @@ joined w n r = record { fields = w ∷ r .fields; bytes = n + r .bytes; sound = 
 abbrev pub recordWith : (List ℕ → Record) → List ℕ → Field → Record
 recordWith rest s (comma n) = joined (take n s) (n + 1) (rest (drop (n + 1) s))
 recordWith rest s (ends e n) = only (take n s) n e
-recordWith rest s broken = torn
+recordWith rest s broken = unsound
 
 -- Each field but the last has a comma behind it, so a text of n bytes has at most n + 1 fields: as many as k counts.
 unfoldable pub recordIn : ℕ → List ℕ → Record
-recordIn zero s = torn
+recordIn zero s = unsound
 recordIn (suc k) s = recordWith (recordIn k) s (field s)
 
 unfoldable pub recordOf : List ℕ → Record

@@ -201,9 +201,9 @@ module _ (s : List ℕ) (t : Layout) (at k : ℕ) {r : Split} (q : r ≡ splitOf
   step-is : {v : Verdict} → v ≡ judge t k (recordOf (drop at s)) → record { verdict = v; next = r .next } ≡ stepOf t k at (recordOf (drop at s))
   step-is e = λ i. record { verdict = e i; next = next-is i }
 
-  pub row-torn : r .sound ≡ false → record { verdict = Fault 102; next = r .next } ≡ stepOf t k at (recordOf (drop at s))
+  pub row-unsound : r .sound ≡ false → record { verdict = Fault 102; next = r .next } ≡ stepOf t k at (recordOf (drop at s))
   unfolding judge
-  row-torn f = step-is verdict
+  row-unsound f = step-is verdict
     where
       verdict : Fault 102 ≡ judge t k (recordOf (drop at s))
       verdict = rw (sym sound-is ∙ f)

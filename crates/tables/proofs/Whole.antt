@@ -56,8 +56,8 @@ module _ (s : List ℕ) (t : Layout) (header : Bool) where
         count-is : r .count ≡ length (recordOf s .fields)
         count-is = ap (λ (x : Split). x .count) y ∙ zero-add (length (recordOf s .fields))
 
-        pub table-torn : {x : Gathered} → r .sound ≡ false → x ≡ gathered noSlots 0 (stopped 102 1) → x ≡ gathered noSlots 0 (tableOf t header s)
-        table-torn f q = q ∙ rw (headed-table, stepped, sound-is ∙ f)
+        pub table-unsound : {x : Gathered} → r .sound ≡ false → x ≡ gathered noSlots 0 (stopped 102 1) → x ≡ gathered noSlots 0 (tableOf t header s)
+        table-unsound f q = q ∙ rw (headed-table, stepped, sound-is ∙ f)
 
         module _ (f : r .sound ≡ true) where
           pub header-range : r .next ≤ length s

@@ -4,4 +4,3 @@ pub mod Recounts
 pub mod Steps
 pub mod Walks
 pub mod Replies
-pub mod Ranges

@@ -16,35 +16,11 @@ use Rattle.wcet.specs.Table.{Routine, loopCount, header, limit, inside}
 use Rattle.wcet.specs.Rules.{structureRules}
 use Rattle.wcet.specs.Run.{path, run, State, start, nextCount, next, after, keepsLimits, countedRun}
 use Rattle.wcet.specs.Claim.{AllHold}
+use Rattle.wcet.specs.Stays.{allInside, currentStay, visits, stayVisits, CountsExactly}
 use Rattle.wcet.proofs.Nesting.{Nested, nested}
 use Rattle.wcet.proofs.Potential.{inside-own}
 use Rattle.wcet.proofs.Entry.{inside-0}
 use Rattle.wcet.proofs.Limits.{keeps-each, each-keeps}
-
--- each block of w is inside loop l
-unfoldable pub allInside : Routine → ℕ → List ℕ → Bool
-allInside t l [] = true
-allInside t l (v ∷ w) = inside t v l && allInside t l w
-
--- the stay in loop l that is under way where the list w ends: its longest end that is inside l throughout, empty where the last block is
--- outside of l
-unfoldable pub currentStay : Routine → ℕ → List ℕ → List ℕ
-currentStay t l [] = []
-currentStay t l (v ∷ w) = if allInside t l (v ∷ w) then v ∷ w else currentStay t l w
-
--- how often block h stands in the list w
-unfoldable pub visits : ℕ → List ℕ → ℕ
-visits h [] = 0
-visits h (v ∷ w) = (if eqb h v then 1 else 0) + visits h w
-
--- "For each loop the visits to its header are counted within one stay": the visits to loop l's header in the stay under way at the end of w
-abbrev pub stayVisits : Routine → ℕ → List ℕ → ℕ
-stayVisits t l w = visits (header t l) (currentStay t l w)
-
-pub record CountsExactly (t : Routine) : Type 0 where
-  pub stepped : (w : List ℕ) (l : ℕ) → l < loopCount t → after t start w .count l ≡ stayVisits t l (0 ∷ w)
-  pub counted : (w : List ℕ)
-      → (countedRun t w ≡ true) ↔ ((run t w ≡ true) × ((k l : ℕ) → k < length w → l < loopCount t → stayVisits t l (take (suc k) w) ≤ limit t l))
 
 -- ---- one block more at the end of a list
 

@@ -5,3 +5,4 @@ pub mod Run
 pub mod Walk
 pub mod Claim
 pub mod Cases
+pub mod Stays

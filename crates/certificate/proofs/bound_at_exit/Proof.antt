@@ -11,31 +11,24 @@ use Rattle.certificate.proofs.bound_at_exit.Reads as reads
 use Rattle.certificate.proofs.bound_at_exit.Lts as lts
 use Rattle.certificate.proofs.bound_of.Reads as bound-of-reads
 
--- src/lib.rt:161:16
 sub-exit : tie.Need-sub-exit
 sub-exit c = search needs
 
--- src/lib.rt:162:14
 shared-slice-read-bound-of : tie.Need-shared-slice-read-bound-of
 shared-slice-read-bound-of c = search needs
 
--- src/lib.rt:162:23
 shared-slice-copy-out-bound-of : tie.Need-shared-slice-copy-out-bound-of
 shared-slice-copy-out-bound-of c = search needs
 
--- src/lib.rt:162:34
 mul-bound-of : tie.Need-mul-bound-of
 mul-bound-of c = search needs
 
--- src/lib.rt:162:34
 shared-slice-copy-out-bound-of-2 : tie.Need-shared-slice-copy-out-bound-of-2
 shared-slice-copy-out-bound-of-2 c = search needs
 
--- src/lib.rt:162:5
 bound-of-requires : tie.Need-bound-of-requires
 bound-of-requires c κs = search needs
 
--- src/lib.rt:157:1
 returns : tie.Need-returns
 unfolding bound
 returns c = let start = c .before .before .before .before .before in

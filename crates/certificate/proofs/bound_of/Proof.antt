@@ -10,22 +10,18 @@ use Rattle.certificate.proofs.bound_of.Tie as tie
 use Rattle.certificate.proofs.bound_of.Reads as reads
 use Rattle.certificate.proofs.bound_of.Lts as lts
 
--- src/lib.rt:152:5
 cast-result : tie.Need-cast-result
 cast-result c = search needs
 
--- src/lib.rt:152:5
 add-result : tie.Need-add-result
 add-result c = rw (toZ-pos w64 {n = c .args .cost} (omega arith), toZ-ofZ (c .fits .entry)) (sum-fits _ _ (c .pre .0) (c .pre .1))
 
--- src/lib.rt:152:5
 sub-result : tie.Need-sub-result
 sub-result c =
     let a = c .args in
     let more : SFits w64 (pos (a .cost) +ℤ a .entry) = sum-fits _ _ (c .pre .0) (c .pre .1) in
     rw (toZ-pos w64 {n = a .cost} (omega arith), toZ-ofZ (c .fits .entry), toZ-ofZ more, toZ-ofZ (c .fits .exit)) (bound-fits _ _ _ (c .pre .0) (c .pre .1) (c .pre .2))
 
--- src/lib.rt:148:1
 returns : tie.Need-returns
 returns c =
     let a = c .args in

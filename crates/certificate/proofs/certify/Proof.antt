@@ -36,37 +36,30 @@ ranges c = headed (at-entry (c .before .before .before .before .before .before .
 found : (c : tie.After-first-broken-inequality) → placeOf (c .first-broken-inequality .result) ≡ firstBelow (blockCount (at-entry (c .before .before .before .before .before .before .before .before .before .before .before .before .before))) (inequalityBroken (at-entry (c .before .before .before .before .before .before .before .before .before .before .before .before .before)))
 found c = c .first-broken-inequality .ensures ∙ broken-places (at-entry (c .before .before .before .before .before .before .before .before .before .before .before .before .before)) (ranges (c .before .before .before) .ranged) _ (c .before .before .before .before .before .before .before .before .before .before .before .before .before .pre .sets (c .before .before .before .enum-told .given .1))
 
--- src/lib.rt:182:30
 enum-known-answer : tie.Need-enum-known-answer
 enum-known-answer c = search needs
 
--- src/lib.rt:183:9
 returns : tie.Need-returns
 returns c = structure-refuses (at-entry (c .before .before .before .before .before .before .before .before .before .before .before)) _ (c .before .before .before .before .before .before .before .before .before .before .before .pre) _ (c .before .answer .given .1)
 
 enum-told : tie.Need-enum-told
 enum-told c = search needs
 
--- src/lib.rt:186:9
 first-broken-inequality-requires : tie.Need-first-broken-inequality-requires
 first-broken-inequality-requires c κs = (weighed (at-entry (c .before .before .before .before .before .before .before .before .before .before .before .before)) (ranges (c .before .before) .ranged), linked (at-entry (c .before .before .before .before .before .before .before .before .before .before .before .before)) (ranges (c .before .before) .ranged))
 
--- src/lib.rt:197:22
 enum-known-place : tie.Need-enum-known-place
 enum-known-place c = search needs
 
--- src/lib.rt:198:9
 returns-2 : tie.Need-returns-2
 returns-2 c = inequality-refuses (at-entry (c .before .before .before .before .before .before .before .before .before .before .before .before .before .before .before .before)) (kept (c .before .before .before .before .before .before)) _ (found (c .before .before .before)) _ (c .before .place .given .1)
 
 enum-told-2 : tie.Need-enum-told-2
 enum-told-2 c = search needs
 
--- src/lib.rt:200:26
 bound-at-exit-requires : tie.Need-bound-at-exit-requires
 bound-at-exit-requires c κs = priced (at-entry (c .before .before .before .before .before .before .before .before .before .before .before .before .before .before .before)) (ranges (c .before .before .before .before .before) .ranged)
 
--- src/lib.rt:166:1
 returns-3 : tie.Need-returns-3
 unfolding bound
 returns-3 c = let fits : SFits w64 (c .bound-at-exit .result) = record { sfits = c .bound-at-exit .ok } in

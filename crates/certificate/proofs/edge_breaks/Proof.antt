@@ -25,91 +25,69 @@ present c = c .before .before .before .before .before .before .pre .2 (c .if1 .l
 loop-low : (c : tie.Else1) → getD (c .before .before .before .before .before .before .args .loops .now) (c .before .before .before .before .before .before .args .v) 0 < length (c .before .before .before .before .before .before .args .header .now)
 loop-low c = c .before .before .before .before .before .before .pre .0 .innermost .below (c .before .before .before .before .before .before .args .v) (omega (arith, present c, c .before .before .before .before .before .before .pre .0 .loops))
 
--- src/lib.rt:98:9
 returns : tie.Need-returns
 returns c = rw (eq-eqb _ _ (c .if1 .taken))
 
--- src/lib.rt:101:13
 mul-l : tie.Need-mul-l
 mul-l c = search needs
 
--- src/lib.rt:101:13
 shared-slice-read-l : tie.Need-shared-slice-read-l
 shared-slice-read-l c = omega (arith, present (c .before), c .before .before .before .before .before .before .before .pre .0 .loops)
 
--- src/lib.rt:101:13
 cast-l : tie.Need-cast-l
 cast-l c = omega (arith, c .shared-slice-known6 .given (c .before .before .before .before .before .before .before .args .v))
 
--- src/lib.rt:102:16
 mul-from : tie.Need-mul-from
 mul-from c = omega (arith, c .before .before .before .before .before .before .before .pre .1, present (c .before), c .before .before .before .before .before .before .before .pre .0 .few-blocks)
 
--- src/lib.rt:102:16
 shared-slice-read-from : tie.Need-shared-slice-read-from
 shared-slice-read-from c = omega (arith, c .before .before .before .before .before .before .before .before .pre .1, present (c .before .before), c .before .before .before .before .before .before .before .before .pre .0 .loops)
 
--- src/lib.rt:102:16
 cast-from : tie.Need-cast-from
 cast-from c = omega (arith, c .shared-slice-known7 .given (c .before .before .before .before .before .before .before .before .args .u), c .shared-slice-known7 .given (c .before .before .before .before .before .before .before .before .args .v))
 
--- src/lib.rt:103:18
 set-at-requires : tie.Need-set-at-requires
 set-at-requires c κs = omega (arith, c .before .before .before .before .before .before .before .before .pre .0 .innermost .below (c .before .before .before .before .before .before .before .before .args .u) (omega (arith, c .before .before .before .before .before .before .before .before .pre .1, c .before .before .before .before .before .before .before .before .pre .0 .loops)), loop-low (c .before .before), c .before .before .before .before .before .before .before .before .pre .0 .innermost .few)
 
--- src/lib.rt:103:9
 contains-requires : tie.Need-contains-requires
 contains-requires c κs = omega (arith, loop-low (c .before .before .before), c .before .before .before .before .before .before .before .before .before .pre .0 .innermost .few)
 
--- src/lib.rt:105:9
 mul-inequality-holds : tie.Need-mul-inequality-holds
 mul-inequality-holds c = omega (arith, loop-low (c .before .before .before .before), c .before .before .before .before .before .before .before .before .before .before .pre .0 .innermost .few)
 
--- src/lib.rt:105:9
 shared-slice-read-inequality-holds : tie.Need-shared-slice-read-inequality-holds
 shared-slice-read-inequality-holds c = omega (arith, loop-low (c .before .before .before .before .before), c .before .before .before .before .before .before .before .before .before .before .before .pre .0 .innermost .few)
 
--- src/lib.rt:107:9
 mul-inequality-holds-2 : tie.Need-mul-inequality-holds-2
 mul-inequality-holds-2 c = omega (arith, present (c .before .before .before .before .before), c .before .before .before .before .before .before .before .before .before .before .before .pre .0 .few-blocks)
 
--- src/lib.rt:107:9
 shared-slice-read-inequality-holds-2 : tie.Need-shared-slice-read-inequality-holds-2
 shared-slice-read-inequality-holds-2 c = omega (arith, present (c .before .before .before .before .before .before))
 
--- src/lib.rt:108:9
 mul-inequality-holds-3 : tie.Need-mul-inequality-holds-3
 mul-inequality-holds-3 c = omega (arith, c .before .before .before .before .before .before .before .before .before .before .before .before .pre .1, c .before .before .before .before .before .before .before .before .before .before .before .before .pre .0 .few-blocks)
 
--- src/lib.rt:108:9
 shared-slice-copy-out-inequality-holds : tie.Need-shared-slice-copy-out-inequality-holds
 shared-slice-copy-out-inequality-holds c = omega (arith, c .before .before .before .before .before .before .before .before .before .before .before .before .pre .1, c .before .before .before .before .before .before .before .before .before .before .before .before .pre .0 .figures)
 
--- src/lib.rt:109:9
 mul-inequality-holds-4 : tie.Need-mul-inequality-holds-4
 mul-inequality-holds-4 c = omega (arith, present (c .before .before .before .before .before .before .before), c .before .before .before .before .before .before .before .before .before .before .before .before .before .pre .0 .few-blocks)
 
--- src/lib.rt:109:9
 shared-slice-copy-out-inequality-holds-2 : tie.Need-shared-slice-copy-out-inequality-holds-2
 shared-slice-copy-out-inequality-holds-2 c = omega (arith, present (c .before .before .before .before .before .before .before), c .before .before .before .before .before .before .before .before .before .before .before .before .before .pre .0 .figures)
 
--- src/lib.rt:110:9
 mul-inequality-holds-5 : tie.Need-mul-inequality-holds-5
 mul-inequality-holds-5 c = omega (arith, loop-low (c .before .before .before .before .before .before .before .before), c .before .before .before .before .before .before .before .before .before .before .before .before .before .before .pre .0 .innermost .few)
 
--- src/lib.rt:110:9
 shared-slice-read-inequality-holds-3 : tie.Need-shared-slice-read-inequality-holds-3
 shared-slice-read-inequality-holds-3 c = omega (arith, loop-low (c .before .before .before .before .before .before .before .before .before), c .before .before .before .before .before .before .before .before .before .before .before .before .before .before .before .pre .0 .multipliers)
 
--- src/lib.rt:111:9
 mul-inequality-holds-6 : tie.Need-mul-inequality-holds-6
 mul-inequality-holds-6 c = omega (arith, loop-low (c .before .before .before .before .before .before .before .before .before), c .before .before .before .before .before .before .before .before .before .before .before .before .before .before .before .pre .0 .innermost .few)
 
--- src/lib.rt:111:9
 shared-slice-read-inequality-holds-4 : tie.Need-shared-slice-read-inequality-holds-4
 shared-slice-read-inequality-holds-4 c = omega (arith, loop-low (c .before .before .before .before .before .before .before .before .before .before), c .before .before .before .before .before .before .before .before .before .before .before .before .before .before .before .before .pre .0 .limits)
 
--- src/lib.rt:104:6
 inequality-holds-requires : tie.Need-inequality-holds-requires
 inequality-holds-requires c κs =
     let s = c .before .before .before .before .before .before .before .before .before .before .before .before .before .before .before .before in
@@ -120,7 +98,6 @@ inequality-holds-requires c κs =
     let fv : Figure (getD (s .args .figure .now) (s .args .v) (pos 0)) = W .figure-range (s .args .v) b in
     rw (toZ-ofZ (figure-fits _ fu), toZ-ofZ (figure-fits _ fv)) (W .cost-most (s .args .v) b, fu, fv, W .multiplier-most _ l, W .limit-least _ l, W .limit-most _ l)
 
--- src/lib.rt:80:1
 returns-2 : tie.Need-returns-2
 unfolding brokenBySets
 returns-2 c =

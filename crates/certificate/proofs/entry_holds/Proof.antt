@@ -11,34 +11,27 @@ use Rattle.certificate.proofs.entry_holds.Tie as tie
 use Rattle.certificate.proofs.entry_holds.Reads as reads
 use Rattle.certificate.proofs.entry_holds.Lts as lts
 
--- src/lib.rt:51:31
 sub-later : tie.Need-sub-later
 sub-later c = search needs
 
--- src/lib.rt:51:17
 mul-later : tie.Need-mul-later
 mul-later c = omega (arith, later-most (c .args .multiplier) (c .args .limit) (c .pre .3) (c .pre .5))
 
--- src/lib.rt:52:5
 cast-result : tie.Need-cast-result
 cast-result c = search needs
 
--- src/lib.rt:52:19
 cast-result-2 : tie.Need-cast-result-2
 cast-result-2 c = record { sfits = omega (arith, later-most (c .args .multiplier) (c .args .limit) (c .pre .3) (c .pre .5)) }
 
--- src/lib.rt:52:5
 add-result : tie.Need-add-result
 add-result c =
     let a = c .args in
     let most : a .multiplier * (a .limit - 1) ≤ 2 ^ 40 * 65534 = later-most (a .multiplier) (a .limit) (c .pre .3) (c .pre .5) in
     rw (toZ-pos w64 {n = a .cost} (omega arith), toZ-pos w64 {n = a .multiplier * (a .limit - 1)} (omega arith)) (record { sfits = omega arith })
 
--- src/lib.rt:52:35
 sub-d : tie.Need-sub-d
 sub-d c = rw (toZ-ofZ (c .fits .from), toZ-ofZ (c .fits .to)) (diff-fits _ _ (c .pre .1) (c .pre .2))
 
--- src/lib.rt:47:1
 returns : tie.Need-returns
 returns c =
     let a = c .args in

@@ -18,56 +18,43 @@ Inv-loop around cost loops first second figure header limit multiplier n u₀ u 
 abbrev μ-loop : tie.MeasureT-loop
 μ-loop around cost loops first second figure header limit multiplier n u₀ u = length cost - u
 
--- src/lib.rt:133:5
 loop-holds : tie.Need-loop-holds Inv-loop μ-loop
 loop-holds c = (omega arith, λ k h. absurd (omega arith))
 
--- src/lib.rt:134:17
 mul-v : tie.Need-mul-v Inv-loop μ-loop
 mul-v c = omega (arith, c .loop-test .taken, c .before .before .before .before .before .before .before .before .before .pre .1 .few)
 
--- src/lib.rt:134:17
 shared-slice-read-v : tie.Need-shared-slice-read-v Inv-loop μ-loop
 shared-slice-read-v c = omega (arith, c .before .loop-test .taken, c .before .before .before .before .before .before .before .before .before .before .pre .1 .first-size)
 
 -- a successor of either column is a block where it is present: which of the two is read shows in the reply
--- src/lib.rt:135:12
 edge-breaks-requires : tie.Need-edge-breaks-requires Inv-loop μ-loop
 edge-breaks-requires c κs = (c .before .before .before .before .before .before .before .before .before .before .pre .0, c .before .loop-test .taken, search (c .before .before .before .before .before .before .before .before .before .before .pre .1 .first-names (c .before .before .loop .u) (c .before .loop-test .taken), c .before .before .before .before .before .before .before .before .before .before .pre .1 .second-names (c .before .before .loop .u) (c .before .loop-test .taken)))
 
--- src/lib.rt:136:13
 returns : tie.Need-returns Inv-loop μ-loop
 returns c = stops _ _ (c .before .before .before .before .loop .u) (omega arith) (c .before .before .before .before .loop .inv .1) (by-first _ (c .before .before .before .before .loop .u) _ (sym (c .before .edge-breaks .ensures) ∙ c .if1 .taken))
 
--- src/lib.rt:138:17
 mul-v-2 : tie.Need-mul-v-2 Inv-loop μ-loop
 mul-v-2 c = omega (arith, c .before .before .before .loop-test .taken, c .before .before .before .before .before .before .before .before .before .before .before .before .pre .1 .few)
 
--- src/lib.rt:138:17
 shared-slice-read-v-2 : tie.Need-shared-slice-read-v-2 Inv-loop μ-loop
 shared-slice-read-v-2 c = omega (arith, c .before .before .before .before .loop-test .taken, c .before .before .before .before .before .before .before .before .before .before .before .before .before .pre .1 .second-size)
 
--- src/lib.rt:139:12
 edge-breaks-requires-2 : tie.Need-edge-breaks-requires-2 Inv-loop μ-loop
 edge-breaks-requires-2 c κs = (c .before .before .before .before .before .before .before .before .before .before .before .before .before .pre .0, c .before .before .before .before .loop-test .taken, search (c .before .before .before .before .before .before .before .before .before .before .before .before .before .pre .1 .first-names (c .before .before .before .before .before .loop .u) (c .before .before .before .before .loop-test .taken), c .before .before .before .before .before .before .before .before .before .before .before .before .before .pre .1 .second-names (c .before .before .before .before .before .loop .u) (c .before .before .before .before .loop-test .taken)))
 
--- src/lib.rt:140:13
 returns-2 : tie.Need-returns-2 Inv-loop μ-loop
 returns-2 c = stops _ _ (c .before .before .before .before .before .before .before .loop .u) (omega arith) (c .before .before .before .before .before .before .before .loop .inv .1) (by-second _ (c .before .before .before .before .before .before .before .loop .u) _ (sym (c .before .edge-breaks2 .ensures) ∙ c .if2 .taken))
 
--- src/lib.rt:142:9
 add-u : tie.Need-add-u Inv-loop μ-loop
 add-u c = omega (arith, c .before .before .before .before .before .before .loop-test .taken, c .before .before .before .before .before .before .before .before .before .before .before .before .before .before .before .pre .1 .few)
 
--- src/lib.rt:133:5
 loop-less : tie.Need-loop-less Inv-loop μ-loop
 loop-less c = omega (arith, c .before .before .before .before .before .before .loop-test .taken)
 
--- src/lib.rt:133:5
 loop-again : tie.Need-loop-again Inv-loop μ-loop
 loop-again c = (omega (arith, c .before .before .before .before .before .before .loop-test .taken), below-more _ (c .before .before .before .before .before .before .before .loop .u) (c .before .before .before .before .before .before .before .loop .inv .1) (by-neither _ (c .before .before .before .before .before .before .before .loop .u) _ (sym (c .before .before .before .before .edge-breaks .ensures) ∙ c .before .before .before .if1 .left) (sym (c .before .edge-breaks2 .ensures) ∙ c .if2 .left)))
 
--- src/lib.rt:117:1
 returns-3 : tie.Need-returns-3 Inv-loop μ-loop
 returns-3 c = clear _ _ (c .before .loop .u) (omega arith) (c .before .loop .inv .1)
 

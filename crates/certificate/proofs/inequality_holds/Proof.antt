@@ -9,29 +9,23 @@ use Rattle.certificate.proofs.entry_holds.Reads as entry-holds-reads
 use Rattle.certificate.proofs.plain_holds.Reads as plain-holds-reads
 use Rattle.certificate.proofs.return_holds.Reads as return-holds-reads
 
--- src/lib.rt:69:9
 plain-holds-requires : tie.Need-plain-holds-requires
 plain-holds-requires c κs = rw (toZ-ofZ (c .before .fits .from), toZ-ofZ (c .before .fits .to)) (c .before .pre .0, c .before .pre .1, c .before .pre .2)
 
--- src/lib.rt:69:9
 returns : tie.Need-returns
 unfolding inequality
 returns c = rw (not-true (c .before .before .args .headed) (c .before .if1 .taken)) (rw (toZ-ofZ (c .before .before .fits .from), toZ-ofZ (c .before .before .fits .to)) at (c .plain-holds .ensures))
 
--- src/lib.rt:72:9
 return-holds-requires : tie.Need-return-holds-requires
 return-holds-requires c κs = rw (toZ-ofZ (c .before .before .fits .from), toZ-ofZ (c .before .before .fits .to)) (c .before .before .pre .0, c .before .before .pre .1, c .before .before .pre .2, c .before .before .pre .3)
 
--- src/lib.rt:72:9
 returns-2 : tie.Need-returns-2
 unfolding inequality
 returns-2 c = rw (not-false (c .before .before .before .args .headed) (c .before .before .if1 .left), c .before .if2 .taken) (rw (toZ-ofZ (c .before .before .before .fits .from), toZ-ofZ (c .before .before .before .fits .to)) at (c .return-holds .ensures))
 
--- src/lib.rt:74:5
 entry-holds-requires : tie.Need-entry-holds-requires
 entry-holds-requires c κs = rw (toZ-ofZ (c .before .before .fits .from), toZ-ofZ (c .before .before .fits .to)) (c .before .before .pre)
 
--- src/lib.rt:56:1
 returns-3 : tie.Need-returns-3
 unfolding inequality
 returns-3 c = rw (not-false (c .before .before .before .args .headed) (c .before .before .if1 .left), c .before .if2 .left) (rw (toZ-ofZ (c .before .before .before .fits .from), toZ-ofZ (c .before .before .before .fits .to)) at (c .entry-holds .ensures))

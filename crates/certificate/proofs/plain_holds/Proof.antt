@@ -10,15 +10,12 @@ use Rattle.certificate.proofs.plain_holds.Tie as tie
 use Rattle.certificate.proofs.plain_holds.Reads as reads
 use Rattle.certificate.proofs.plain_holds.Lts as lts
 
--- src/lib.rt:35:5
 cast-result : tie.Need-cast-result
 cast-result c = search needs
 
--- src/lib.rt:35:20
 sub-d : tie.Need-sub-d
 sub-d c = rw (toZ-ofZ (c .fits .from), toZ-ofZ (c .fits .to)) (diff-fits _ _ (c .pre .1) (c .pre .2))
 
--- src/lib.rt:31:1
 returns : tie.Need-returns
 returns c =
     let a = c .args in

@@ -10,26 +10,21 @@ use Rattle.certificate.proofs.return_holds.Tie as tie
 use Rattle.certificate.proofs.return_holds.Reads as reads
 use Rattle.certificate.proofs.return_holds.Lts as lts
 
--- src/lib.rt:43:5
 cast-result : tie.Need-cast-result
 cast-result c = search needs
 
--- src/lib.rt:43:20
 sub-d : tie.Need-sub-d
 sub-d c = rw (toZ-ofZ (c .fits .from), toZ-ofZ (c .fits .to)) (diff-fits _ _ (c .pre .1) (c .pre .2))
 
--- src/lib.rt:43:32
 cast-most : tie.Need-cast-most
 cast-most c = search needs
 
--- src/lib.rt:43:20
 add-most : tie.Need-add-most
 add-most c =
     let a = c .args in
     let less : SFits w64 (a .from -ℤ a .to) = diff-fits _ _ (c .pre .1) (c .pre .2) in
     rw (toZ-ofZ (c .fits .from), toZ-ofZ (c .fits .to), toZ-ofZ less, toZ-pos w64 {n = a .multiplier} (omega arith)) (diff-sum-fits _ _ (a .multiplier) (c .pre .1) (c .pre .2) (c .pre .3))
 
--- src/lib.rt:39:1
 returns : tie.Need-returns
 returns c =
     let a = c .args in

@@ -27,63 +27,48 @@ found c = got _ _ (rw (free (c .before .before .before .before .before .before .
 kept : (c : tie.Else2 Inv-loop μ-loop) → length (putMid (c .before .before .before .before .before .before .before .loop .len) (length (c .before .before .before .before .before .before .before .loop .buffer) - c .before .before .before .before .before .before .before .loop .len) (c .before .before .before .before .before .before .before .loop .buffer) (c .before .before .before .before .read .last .1 .0)) ≡ length (c .before .before .before .before .before .before .before .before .before .args .buffer .now)
 kept c = search needs
 
--- src/main.rt:18:5
 loop-holds : tie.Need-loop-holds Inv-loop μ-loop
 loop-holds c = search needs
 
--- src/main.rt:19:34
 sub-read : tie.Need-sub-read Inv-loop μ-loop
 sub-read c = search needs
 
--- src/main.rt:19:34
 part-read-start : tie.Need-part-read-start Inv-loop μ-loop
 part-read-start c = search needs
 
--- src/main.rt:19:34
 part-read-end : tie.Need-part-read-end Inv-loop μ-loop
 part-read-end c = search needs
 
--- src/main.rt:19:13
 read-requires : tie.Need-read-requires Inv-loop μ-loop
 read-requires c κs = search needs
 
--- src/main.rt:21:13
 same-length : tie.Need-same-length Inv-loop μ-loop
 same-length c = search needs
 
--- src/main.rt:21:13
 returns : tie.Need-returns Inv-loop μ-loop
 returns c = search needs
 
--- src/main.rt:27:13
 same-length-2 : tie.Need-same-length-2 Inv-loop μ-loop
 same-length-2 c = search needs
 
--- src/main.rt:27:13
 returns-2 : tie.Need-returns-2 Inv-loop μ-loop
 returns-2 c = search needs
 
--- src/main.rt:32:16
 cast-len : tie.Need-cast-len Inv-loop μ-loop
 cast-len c = let G = found c in rw (G .is) (tt, record { fits = omega (arith, G .most) })
 
--- src/main.rt:32:9
 add-len : tie.Need-add-len Inv-loop μ-loop
 add-len c = let G = found c in rw (G .is) (record { fits = omega (arith, G .most) })
 
--- src/main.rt:18:5
 loop-less : tie.Need-loop-less Inv-loop μ-loop
 loop-less c = let G = found c in rw (G .is) (omega (arith, G .some, G .most, kept c))
 
--- src/main.rt:18:5
 loop-again : tie.Need-loop-again Inv-loop μ-loop
 loop-again c = let G = found c in rw (G .is) (omega (arith, G .most, kept c), search needs)
 
--- src/main.rt:16:1
 same-length-3 : tie.Need-same-length-3 Inv-loop μ-loop
 same-length-3 c = search needs
 
--- src/main.rt:16:1
 returns-3 : tie.Need-returns-3 Inv-loop μ-loop
 returns-3 c = search needs
 

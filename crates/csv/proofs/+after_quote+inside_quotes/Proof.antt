@@ -38,63 +38,54 @@ inside-quotes-below t =
     (falls 1 inside-quotes-kinds.ps _<_ μ-inside-quotes t)
     inside-quotes.Pre
 
--- src/lib.rt:55:9
 after-quote-returns : (t : ℕ) → after-quote-lts.Need-returns (
   inside-quotes-below t,
   inside-quotes.Post,
 ) (after-quote-at t) after-quote.Post
 after-quote-returns t c = search after-stops
 
--- src/lib.rt:57:8
 after-quote-shared-slice-read-if2 : (t : ℕ) → after-quote-lts.Need-shared-slice-read-if2 (
   inside-quotes-below t,
   inside-quotes.Post,
 ) (after-quote-at t) after-quote.Post
 after-quote-shared-slice-read-if2 t c = omega arith
 
--- src/lib.rt:59:13
 after-quote-returns-2 : (t : ℕ) → after-quote-lts.Need-returns-2 (
   inside-quotes-below t,
   inside-quotes.Post,
 ) (after-quote-at t) after-quote.Post
 after-quote-returns-2 t c = search after-full
 
--- src/lib.rt:61:29
 after-quote-add-inside-quotes : (t : ℕ) → after-quote-lts.Need-add-inside-quotes (
   inside-quotes-below t,
   inside-quotes.Post,
 ) (after-quote-at t) after-quote.Post
 after-quote-add-inside-quotes t c = omega arith
 
--- src/lib.rt:61:37
 after-quote-sub-inside-quotes : (t : ℕ) → after-quote-lts.Need-sub-inside-quotes (
   inside-quotes-below t,
   inside-quotes.Post,
 ) (after-quote-at t) after-quote.Post
 after-quote-sub-inside-quotes t c = omega arith
 
--- src/lib.rt:61:9
 after-quote-inside-quotes-requires : (t : ℕ) → after-quote-lts.Need-inside-quotes-requires (
   inside-quotes-below t,
   inside-quotes.Post,
 ) (after-quote-at t) after-quote.Post
 after-quote-inside-quotes-requires t c κs = omega arith
 
--- src/lib.rt:50:1
 after-quote-returns-3 : (t : ℕ) → after-quote-lts.Need-returns-3 (
   inside-quotes-below t,
   inside-quotes.Post,
 ) (after-quote-at t) after-quote.Post
 after-quote-returns-3 t c = search after-to-inside
 
--- src/lib.rt:50:1
 after-quote-returns-4 : (t : ℕ) → after-quote-lts.Need-returns-4 (
   inside-quotes-below t,
   inside-quotes.Post,
 ) (after-quote-at t) after-quote.Post
 after-quote-returns-4 t c = search after-closes
 
--- src/lib.rt:37:9
 inside-quotes-returns : (t : ℕ) → inside-quotes-lts.Need-returns (
   after-quote-below t,
   after-quote.Post,
@@ -103,7 +94,6 @@ inside-quotes-returns : (t : ℕ) → inside-quotes-lts.Need-returns (
 ) (inside-quotes-at t) inside-quotes.Post
 inside-quotes-returns t c = search inside-stops
 
--- src/lib.rt:40:9
 inside-quotes-returns-2 : (t : ℕ) → inside-quotes-lts.Need-returns-2 (
   after-quote-below t,
   after-quote.Post,
@@ -112,7 +102,6 @@ inside-quotes-returns-2 : (t : ℕ) → inside-quotes-lts.Need-returns-2 (
 ) (inside-quotes-at t) inside-quotes.Post
 inside-quotes-returns-2 t c = search inside-full
 
--- src/lib.rt:42:8
 inside-quotes-shared-slice-read-if3 : (t : ℕ) → inside-quotes-lts.Need-shared-slice-read-if3 (
   after-quote-below t,
   after-quote.Post,
@@ -121,7 +110,6 @@ inside-quotes-shared-slice-read-if3 : (t : ℕ) → inside-quotes-lts.Need-share
 ) (inside-quotes-at t) inside-quotes.Post
 inside-quotes-shared-slice-read-if3 t c = omega arith
 
--- src/lib.rt:43:27
 inside-quotes-add-after-quote : (t : ℕ) → inside-quotes-lts.Need-add-after-quote (
   after-quote-below t,
   after-quote.Post,
@@ -130,7 +118,6 @@ inside-quotes-add-after-quote : (t : ℕ) → inside-quotes-lts.Need-add-after-q
 ) (inside-quotes-at t) inside-quotes.Post
 inside-quotes-add-after-quote t c = omega arith
 
--- src/lib.rt:43:35
 inside-quotes-sub-after-quote : (t : ℕ) → inside-quotes-lts.Need-sub-after-quote (
   after-quote-below t,
   after-quote.Post,
@@ -139,7 +126,6 @@ inside-quotes-sub-after-quote : (t : ℕ) → inside-quotes-lts.Need-sub-after-q
 ) (inside-quotes-at t) inside-quotes.Post
 inside-quotes-sub-after-quote t c = omega arith
 
--- src/lib.rt:43:9
 inside-quotes-after-quote-requires : (t : ℕ) → inside-quotes-lts.Need-after-quote-requires (
   after-quote-below t,
   after-quote.Post,
@@ -148,7 +134,6 @@ inside-quotes-after-quote-requires : (t : ℕ) → inside-quotes-lts.Need-after-
 ) (inside-quotes-at t) inside-quotes.Post
 inside-quotes-after-quote-requires t c κs = omega arith
 
--- src/lib.rt:45:29
 inside-quotes-add-inside-quotes : (t : ℕ) → inside-quotes-lts.Need-add-inside-quotes (
   after-quote-below t,
   after-quote.Post,
@@ -157,7 +142,6 @@ inside-quotes-add-inside-quotes : (t : ℕ) → inside-quotes-lts.Need-add-insid
 ) (inside-quotes-at t) inside-quotes.Post
 inside-quotes-add-inside-quotes t c = omega arith
 
--- src/lib.rt:45:37
 inside-quotes-sub-inside-quotes : (t : ℕ) → inside-quotes-lts.Need-sub-inside-quotes (
   after-quote-below t,
   after-quote.Post,
@@ -166,7 +150,6 @@ inside-quotes-sub-inside-quotes : (t : ℕ) → inside-quotes-lts.Need-sub-insid
 ) (inside-quotes-at t) inside-quotes.Post
 inside-quotes-sub-inside-quotes t c = omega arith
 
--- src/lib.rt:45:9
 inside-quotes-inside-quotes-requires : (t : ℕ) → inside-quotes-lts.Need-inside-quotes-requires (
   after-quote-below t,
   after-quote.Post,
@@ -175,7 +158,6 @@ inside-quotes-inside-quotes-requires : (t : ℕ) → inside-quotes-lts.Need-insi
 ) (inside-quotes-at t) inside-quotes.Post
 inside-quotes-inside-quotes-requires t c κs = omega arith
 
--- src/lib.rt:33:1
 inside-quotes-returns-3 : (t : ℕ) → inside-quotes-lts.Need-returns-3 (
   after-quote-below t,
   after-quote.Post,
@@ -184,7 +166,6 @@ inside-quotes-returns-3 : (t : ℕ) → inside-quotes-lts.Need-returns-3 (
 ) (inside-quotes-at t) inside-quotes.Post
 inside-quotes-returns-3 t c = search inside-to-after
 
--- src/lib.rt:33:1
 inside-quotes-returns-4 : (t : ℕ) → inside-quotes-lts.Need-returns-4 (
   after-quote-below t,
   after-quote.Post,

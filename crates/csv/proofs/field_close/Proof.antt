@@ -7,39 +7,30 @@ use Rattle.csv.proofs.field_close.Lts as lts
 use Rattle.csv.proofs.inside_quotes.Reads as inside-quotes-reads
 use Rattle.csv.proofs.plain_end.Reads as plain-end-reads
 
--- src/lib.rt:87:9
 returns : tie.Need-returns
 returns c = search close-over
 
--- src/lib.rt:89:8
 shared-slice-read-if2 : tie.Need-shared-slice-read-if2
 shared-slice-read-if2 c = search needs
 
--- src/lib.rt:90:36
 add-inside-quotes : tie.Need-add-inside-quotes
 add-inside-quotes c = search needs
 
--- src/lib.rt:90:9
 inside-quotes-requires : tie.Need-inside-quotes-requires
 inside-quotes-requires c κs = search needs
 
--- src/lib.rt:90:9
 returns-2 : tie.Need-returns-2
 returns-2 c = search close-quoted
 
--- src/lib.rt:92:9
 plain-end-requires : tie.Need-plain-end-requires
 plain-end-requires c κs = search needs
 
--- src/lib.rt:93:8
 sub-if3 : tie.Need-sub-if3
 sub-if3 c = search needs
 
--- src/lib.rt:83:1
 returns-3 : tie.Need-returns-3
 returns-3 c = search close-plain
 
--- src/lib.rt:83:1
 returns-4 : tie.Need-returns-4
 returns-4 c = search close-long
 

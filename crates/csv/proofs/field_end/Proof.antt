@@ -6,58 +6,45 @@ use Rattle.csv.proofs.field_end.Reads as reads
 use Rattle.csv.proofs.field_end.Lts as lts
 use Rattle.csv.proofs.field_close.Reads as field-close-reads
 
--- src/lib.rt:121:26
 field-close-requires : tie.Need-field-close-requires
 field-close-requires c κs = search needs
 
--- src/lib.rt:121:19
 enum-known-end : tie.Need-enum-known-end
 enum-known-end c = search needs
 
--- src/lib.rt:122:9
 enum-told : tie.Need-enum-told
 enum-told c = search needs
 
--- src/lib.rt:122:9
 returns : tie.Need-returns
 returns c = search find-never
 
--- src/lib.rt:125:9
 returns-2 : tie.Need-returns-2
 returns-2 c = search find-last
 
--- src/lib.rt:127:13
 shared-slice-read-b : tie.Need-shared-slice-read-b
 shared-slice-read-b c = search needs
 
--- src/lib.rt:129:9
 returns-3 : tie.Need-returns-3
 returns-3 c = search find-comma
 
 returns-4 : tie.Need-returns-4
 returns-4 c = search find-other
 
--- src/lib.rt:137:8
 sub-if4 : tie.Need-sub-if4
 sub-if4 c = search needs
 
--- src/lib.rt:138:9
 returns-5 : tie.Need-returns-5
 returns-5 c = search find-cr-last
 
--- src/lib.rt:140:13
 add-if5 : tie.Need-add-if5
 add-if5 c = search needs
 
--- src/lib.rt:140:8
 shared-slice-read-if5 : tie.Need-shared-slice-read-if5
 shared-slice-read-if5 c = search needs
 
--- src/lib.rt:118:1
 returns-6 : tie.Need-returns-6
 returns-6 c = search find-line
 
--- src/lib.rt:118:1
 returns-7 : tie.Need-returns-7
 returns-7 c = search find-cr-other
 

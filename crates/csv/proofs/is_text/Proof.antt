@@ -4,11 +4,9 @@ use Rattle.csv.proofs.is_text.Tie as tie
 use Rattle.csv.proofs.is_text.Reads as reads
 use Rattle.csv.proofs.is_text.Lts as lts
 
--- src/lib.rt:23:1
 returns : tie.Need-returns
 returns c = no-text _ (c .match .keys1)
 
--- src/lib.rt:23:1
 returns-2 : tie.Need-returns-2
 returns-2 c = text _ (c .match .rest .1)
 

@@ -5,15 +5,12 @@ use Rattle.loopsets.proofs.set_at.Tie as tie
 use Rattle.loopsets.proofs.set_at.Reads as reads
 use Rattle.loopsets.proofs.set_at.Lts as lts
 
--- src/lib.rt:57:21
 mul-t3 : tie.Need-mul-t3
 mul-t3 c = search needs
 
--- src/lib.rt:57:21
 element-copy-out-t6 : tie.Need-element-copy-out-t6
 element-copy-out-t6 c = search needs
 
--- src/lib.rt:53:1
 returns : tie.Need-returns
 unfolding setAt
 returns c = search needs

@@ -16,55 +16,42 @@ Inv-loop parent around₀ l₀ around l = (1 ≤ l) × (l ≤ length parent) × 
 abbrev μ-loop : tie.MeasureT-loop
 μ-loop parent around₀ l₀ around l = length parent - l
 
--- src/lib.rt:66:5
 array-write-around : tie.Need-array-write-around Inv-loop μ-loop
 array-write-around c = search needs
 
--- src/lib.rt:68:5
 loop-holds : tie.Need-loop-holds Inv-loop μ-loop
 loop-holds c = (search needs, search needs, filled-first _ (c .before .pre .2))
 
--- src/lib.rt:69:17
 mul-p : tie.Need-mul-p Inv-loop μ-loop
 mul-p c = search needs
 
--- src/lib.rt:69:17
 shared-slice-read-p : tie.Need-shared-slice-read-p Inv-loop μ-loop
 shared-slice-read-p c = search needs
 
--- src/lib.rt:69:17
 cast-p : tie.Need-cast-p Inv-loop μ-loop
 cast-p c = omega (arith, c .shared-slice-known2 .given (c .before .before .loop .l))
 
--- src/lib.rt:70:33
 mul-t9 : tie.Need-mul-t9 Inv-loop μ-loop
 mul-t9 c = omega (arith, c .before .before .before .before .pre .2 .below (c .before .before .loop .l) (omega arith))
 
--- src/lib.rt:70:33
 array-read-t15 : tie.Need-array-read-t15 Inv-loop μ-loop
 array-read-t15 c = omega (arith, c .before .before .before .before .pre .2 .below (c .before .before .loop .l) (omega arith))
 
--- src/lib.rt:71:13
 with-requires : tie.Need-with-requires Inv-loop μ-loop
 with-requires c κs = search needs
 
--- src/lib.rt:72:9
 mul-around : tie.Need-mul-around Inv-loop μ-loop
 mul-around c = search needs
 
--- src/lib.rt:72:9
 array-write-around-2 : tie.Need-array-write-around-2 Inv-loop μ-loop
 array-write-around-2 c = search needs
 
--- src/lib.rt:73:9
 add-l : tie.Need-add-l Inv-loop μ-loop
 add-l c = search needs
 
--- src/lib.rt:68:5
 loop-less : tie.Need-loop-less Inv-loop μ-loop
 loop-less c = search needs
 
--- src/lib.rt:68:5
 loop-again : tie.Need-loop-again Inv-loop μ-loop
 unfolding setAt
 loop-again c =
@@ -75,7 +62,6 @@ loop-again c =
       filled-next (start .args .parent .now) (loop .around) (start .pre .2) (loop .l) (omega arith) (omega arith) (omega arith) (loop .inv .2) (c .with .result) (c .with .ensures),
     )
 
--- src/lib.rt:61:1
 returns : tie.Need-returns Inv-loop μ-loop
 returns c = record { size = c .before .loop .inv .2 .size; each = λ l k h. c .before .loop .inv .2 .each l k (omega arith) }
 

@@ -43,23 +43,18 @@ behind-206 : (c : tie.After-enum-told2) → check (drop 6 (structureRules (at-en
 unfolding structureRules
 behind-206 c = place-clear _ _ _ (ends (c .before .before)) 206 _ _ (c .enum-told2 .given .1) ∙ behind-205 (c .before .before .before)
 
--- src/lib.rt:364:18
 sets-around-requires : tie.Need-sets-around-requires
 sets-around-requires c κs = search needs
 
--- src/lib.rt:365:9
 first-too-deep-requires : tie.Need-first-too-deep-requires
 first-too-deep-requires c κs = search needs
 
--- src/lib.rt:366:22
 enum-known-deep : tie.Need-enum-known-deep
 enum-known-deep c = search needs
 
--- src/lib.rt:367:9
 broken-requires : tie.Need-broken-requires
 broken-requires c κs = search needs
 
--- src/lib.rt:367:9
 returns : tie.Need-returns
 unfolding structureRules
 returns c = broken-nesting (at-entry (c .before .before .before .before .before .before .before .before .before .before .before .before .before)) _ _ (c .broken .ensures) (place-decides _ _ _ (deep (c .before .before .before .before)) 205 _ _ _ (c .before .before .deep .given .1))
@@ -67,19 +62,15 @@ returns c = broken-nesting (at-entry (c .before .before .before .before .before 
 enum-told : tie.Need-enum-told
 enum-told c = search needs
 
--- src/lib.rt:369:9
 first-entry-or-exit-edge-requires : tie.Need-first-entry-or-exit-edge-requires
 first-entry-or-exit-edge-requires c κs = search needs
 
--- src/lib.rt:370:22
 enum-known-ends : tie.Need-enum-known-ends
 enum-known-ends c = search needs
 
--- src/lib.rt:371:9
 broken-requires-2 : tie.Need-broken-requires-2
 broken-requires-2 c κs = search needs
 
--- src/lib.rt:371:9
 returns-2 : tie.Need-returns-2
 unfolding structureRules
 returns-2 c = broken-nesting (at-entry (c .before .before .before .before .before .before .before .before .before .before .before .before .before .before .before .before)) _ _ (c .broken2 .ensures) (place-decides _ _ _ (ends (c .before .before .before .before)) 206 _ _ _ (c .before .before .ends .given .1) ∙ behind-205 (c .before .before .before .before .before))
@@ -87,19 +78,15 @@ returns-2 c = broken-nesting (at-entry (c .before .before .before .before .befor
 enum-told-2 : tie.Need-enum-told-2
 enum-told-2 c = search needs
 
--- src/lib.rt:373:9
 first-past-header-requires : tie.Need-first-past-header-requires
 first-past-header-requires c κs = let N = c .before .before .before .before .before .before .before .before .before .before .before .before .before .before .before .pre in (N .innermost, rw (N .loops) (N .linked))
 
--- src/lib.rt:374:22
 enum-known-past : tie.Need-enum-known-past
 enum-known-past c = search needs
 
--- src/lib.rt:375:9
 broken-requires-3 : tie.Need-broken-requires-3
 broken-requires-3 c κs = search needs
 
--- src/lib.rt:375:9
 returns-3 : tie.Need-returns-3
 unfolding structureRules
 returns-3 c = broken-nesting (at-entry (c .before .before .before .before .before .before .before .before .before .before .before .before .before .before .before .before .before .before .before .before)) _ _ (c .broken3 .ensures) (place-decides _ _ _ (past (c .before .before .before .before)) 207 _ _ _ (c .before .before .past .given .1) ∙ behind-206 (c .before .before .before .before .before .before))
@@ -107,7 +94,6 @@ returns-3 c = broken-nesting (at-entry (c .before .before .before .before .befor
 enum-told-3 : tie.Need-enum-told-3
 enum-told-3 c = search needs
 
--- src/lib.rt:353:1
 returns-4 : tie.Need-returns-4
 unfolding structureRules
 returns-4 c = record { replied = none-left (accepted tt) ∙ place-clear _ _ _ (past (c .before .before)) 207 _ _ (c .enum-told3 .given .1) ∙ behind-206 (c .before .before .before .before); sets = λ s. c .before .before .before .before .before .before .before .before .before .before .before .sets-around .ensures }

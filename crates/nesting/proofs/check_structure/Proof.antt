@@ -66,43 +66,33 @@ ranged c = keeps (at-entry (c .before .before .before .before .before .before .b
 headed : (c : tie.After-enum-told3) → Headed (at-entry (c .before .before .before .before .before .before .before .before .before .before .before .before .before .before .before .before .before .before .before .before .before))
 headed c = heads (at-entry (c .before .before .before .before .before .before .before .before .before .before .before .before .before .before .before .before .before .before .before .before .before)) (ranged (c .before .before .before)) (place-holds _ _ _ (header-place (c .before .before)) (c .enum-told3 .given .1))
 
--- src/lib.rt:397:8
 block-sizes-wrong-requires : tie.Need-block-sizes-wrong-requires
 block-sizes-wrong-requires c κs = search needs
 
--- src/lib.rt:398:9
 broken-requires : tie.Need-broken-requires
 broken-requires c κs = search needs
 
--- src/lib.rt:398:9
 returns : tie.Need-returns
 returns c = broken-checked (at-entry (c .before .before .before .before .before .before .before .before .before .before .before)) _ _ (c .broken .ensures) (sizes-decide (at-entry (c .before .before .before .before .before .before .before .before .before .before .before)) _ (blocks-decide (at-entry (c .before .before .before .before .before .before .before .before .before .before .before)) (sym (c .before .before .block-sizes-wrong .ensures) ∙ c .before .if1 .taken)))
 
--- src/lib.rt:400:8
 loop-sizes-wrong-requires : tie.Need-loop-sizes-wrong-requires
 loop-sizes-wrong-requires c κs = search needs
 
--- src/lib.rt:401:9
 broken-requires-2 : tie.Need-broken-requires-2
 broken-requires-2 c κs = search needs
 
--- src/lib.rt:401:9
 returns-2 : tie.Need-returns-2
 returns-2 c = broken-checked (at-entry (c .before .before .before .before .before .before .before .before .before .before .before .before .before)) _ _ (c .broken2 .ensures) (sizes-decide (at-entry (c .before .before .before .before .before .before .before .before .before .before .before .before .before)) _ (loops-decide (at-entry (c .before .before .before .before .before .before .before .before .before .before .before .before .before)) (sym (c .before .before .loop-sizes-wrong .ensures) ∙ c .before .if2 .taken)))
 
--- src/lib.rt:403:9
 first-wrong-loop-requires : tie.Need-first-wrong-loop-requires
 first-wrong-loop-requires c κs = loops-sized (at-entry (c .before .before .before .before .before .before .before .before .before .before .before .before)) (sized c)
 
--- src/lib.rt:404:22
 enum-known-l : tie.Need-enum-known-l
 enum-known-l c = search needs
 
--- src/lib.rt:405:9
 broken-requires-3 : tie.Need-broken-requires-3
 broken-requires-3 c κs = search needs
 
--- src/lib.rt:405:9
 returns-3 : tie.Need-returns-3
 unfolding structureRules
 returns-3 c = broken-checked (at-entry (c .before .before .before .before .before .before .before .before .before .before .before .before .before .before .before .before .before)) _ _ (c .broken3 .ensures) (place-decides _ _ _ (loop-place (c .before .before .before .before)) 202 _ _ _ (c .before .before .l .given .1) ∙ sizes-clear (at-entry (c .before .before .before .before .before .before .before .before .before .before .before .before .before .before .before .before .before)) _ (behind-201 (c .before .before .before .before .before)))
@@ -110,19 +100,15 @@ returns-3 c = broken-checked (at-entry (c .before .before .before .before .befor
 enum-told : tie.Need-enum-told
 enum-told c = search needs
 
--- src/lib.rt:407:9
 first-wrong-block-requires : tie.Need-first-wrong-block-requires
 first-wrong-block-requires c κs = blocks-sized (at-entry (c .before .before .before .before .before .before .before .before .before .before .before .before .before .before .before)) (sized (c .before .before .before))
 
--- src/lib.rt:408:22
 enum-known-u : tie.Need-enum-known-u
 enum-known-u c = search needs
 
--- src/lib.rt:409:9
 broken-requires-4 : tie.Need-broken-requires-4
 broken-requires-4 c κs = search needs
 
--- src/lib.rt:409:9
 returns-4 : tie.Need-returns-4
 unfolding structureRules
 returns-4 c = broken-checked (at-entry (c .before .before .before .before .before .before .before .before .before .before .before .before .before .before .before .before .before .before .before .before)) _ _ (c .broken4 .ensures) (place-decides _ _ _ (block-place (c .before .before .before .before)) 203 _ _ _ (c .before .before .u .given .1) ∙ behind-202 (c .before .before .before .before .before))
@@ -130,19 +116,15 @@ returns-4 c = broken-checked (at-entry (c .before .before .before .before .befor
 enum-told-2 : tie.Need-enum-told-2
 enum-told-2 c = search needs
 
--- src/lib.rt:411:9
 first-header-elsewhere-requires : tie.Need-first-header-elsewhere-requires
 first-header-elsewhere-requires c κs = headers-named (at-entry (c .before .before .before .before .before .before .before .before .before .before .before .before .before .before .before .before .before .before)) (ranged c)
 
--- src/lib.rt:412:22
 enum-known-h : tie.Need-enum-known-h
 enum-known-h c = search needs
 
--- src/lib.rt:413:9
 broken-requires-5 : tie.Need-broken-requires-5
 broken-requires-5 c κs = search needs
 
--- src/lib.rt:413:9
 returns-5 : tie.Need-returns-5
 unfolding structureRules
 returns-5 c = broken-checked (at-entry (c .before .before .before .before .before .before .before .before .before .before .before .before .before .before .before .before .before .before .before .before .before .before .before)) _ _ (c .broken5 .ensures) (place-decides _ _ _ (header-place (c .before .before .before .before)) 204 _ _ _ (c .before .before .h .given .1) ∙ behind-203 (c .before .before .before .before .before))
@@ -150,11 +132,9 @@ returns-5 c = broken-checked (at-entry (c .before .before .before .before .befor
 enum-told-3 : tie.Need-enum-told-3
 enum-told-3 c = search needs
 
--- src/lib.rt:415:5
 check-nesting-requires : tie.Need-check-nesting-requires
 check-nesting-requires c κs = nestable (at-entry (c .before .before .before .before .before .before .before .before .before .before .before .before .before .before .before .before .before .before .before .before .before)) (headed c)
 
--- src/lib.rt:384:1
 returns-6 : tie.Need-returns-6
 returns-6 c = nesting-checked (at-entry (c .before .before .before .before .before .before .before .before .before .before .before .before .before .before .before .before .before .before .before .before .before .before)) _ (c .check-nesting .ensures) (behind-204 (c .before))
 

@@ -4,11 +4,9 @@ use Rattle.nesting.proofs.figure_wrong.Tie as tie
 use Rattle.nesting.proofs.figure_wrong.Reads as reads
 use Rattle.nesting.proofs.figure_wrong.Lts as lts
 
--- src/lib.rt:127:9
 returns : tie.Need-returns
 returns c = let e = toZ-ofZ (c .before .fits .z) in rw (rw e at (c .if1 .taken))
 
--- src/lib.rt:123:1
 returns-2 : tie.Need-returns-2
 returns-2 c = let e = toZ-ofZ (c .before .fits .z) in rw (e, rw e at (c .if1 .left))
 

@@ -20,62 +20,48 @@ Inv-loop cost first second n exit u₀ u = (u ≤ length cost) × Kept (entryOrE
 abbrev μ-loop : tie.MeasureT-loop
 μ-loop cost first second n exit u₀ u = length cost - u
 
--- src/lib.rt:264:16
 sub-exit : tie.Need-sub-exit Inv-loop μ-loop
 sub-exit c = search needs
 
--- src/lib.rt:266:5
 loop-holds : tie.Need-loop-holds Inv-loop μ-loop
 loop-holds c = (omega arith, λ k h. absurd (omega arith))
 
--- src/lib.rt:267:26
 mul-entry-or-exit : tie.Need-mul-entry-or-exit Inv-loop μ-loop
 mul-entry-or-exit c = search needs
 
--- src/lib.rt:267:26
 shared-slice-read-entry-or-exit : tie.Need-shared-slice-read-entry-or-exit Inv-loop μ-loop
 shared-slice-read-entry-or-exit c = search needs
 
--- src/lib.rt:267:12
 entry-or-exit-requires : tie.Need-entry-or-exit-requires Inv-loop μ-loop
 entry-or-exit-requires c κs = search needs
 
--- src/lib.rt:268:13
 returns : tie.Need-returns Inv-loop μ-loop
 unfolding entryOrExitEdge
 returns c = stops _ _ (c .before .before .before .before .loop .u) (omega arith) (c .before .before .before .before .loop .inv .1) (by-first _ (c .before .before .before .before .loop .u) _ (sym (c .before .entry-or-exit .ensures) ∙ c .if1 .taken))
 
--- src/lib.rt:270:26
 mul-entry-or-exit-2 : tie.Need-mul-entry-or-exit-2 Inv-loop μ-loop
 mul-entry-or-exit-2 c = search needs
 
--- src/lib.rt:270:26
 shared-slice-read-entry-or-exit-2 : tie.Need-shared-slice-read-entry-or-exit-2 Inv-loop μ-loop
 shared-slice-read-entry-or-exit-2 c = search needs
 
--- src/lib.rt:270:12
 entry-or-exit-requires-2 : tie.Need-entry-or-exit-requires-2 Inv-loop μ-loop
 entry-or-exit-requires-2 c κs = search needs
 
--- src/lib.rt:271:13
 returns-2 : tie.Need-returns-2 Inv-loop μ-loop
 unfolding entryOrExitEdge
 returns-2 c = stops _ _ (c .before .before .before .before .before .before .before .loop .u) (omega arith) (c .before .before .before .before .before .before .before .loop .inv .1) (by-second _ (c .before .before .before .before .before .before .before .loop .u) _ (sym (c .before .entry-or-exit2 .ensures) ∙ c .if2 .taken))
 
--- src/lib.rt:273:9
 add-u : tie.Need-add-u Inv-loop μ-loop
 add-u c = search needs
 
--- src/lib.rt:266:5
 loop-less : tie.Need-loop-less Inv-loop μ-loop
 loop-less c = search needs
 
--- src/lib.rt:266:5
 loop-again : tie.Need-loop-again Inv-loop μ-loop
 unfolding entryOrExitEdge
 loop-again c = (omega arith, below-more _ (c .before .before .before .before .before .before .before .loop .u) (c .before .before .before .before .before .before .before .loop .inv .1) (by-neither _ (c .before .before .before .before .before .before .before .loop .u) _ (sym (c .before .before .before .before .entry-or-exit .ensures) ∙ c .before .before .before .if1 .left) (sym (c .before .entry-or-exit2 .ensures) ∙ c .if2 .left)))
 
--- src/lib.rt:249:1
 returns-3 : tie.Need-returns-3 Inv-loop μ-loop
 returns-3 c = clear _ _ (c .before .loop .u) (omega arith) (c .before .loop .inv .1)
 

@@ -18,53 +18,41 @@ Inv-loop loops header m l₀ l = (l ≤ length header) × Kept (headerElsewhere 
 abbrev μ-loop : tie.MeasureT-loop
 μ-loop loops header m l₀ l = length header - l
 
--- src/lib.rt:195:5
 loop-holds : tie.Need-loop-holds Inv-loop μ-loop
 loop-holds c = (omega arith, λ k h. absurd (omega arith))
 
--- src/lib.rt:196:17
 mul-h : tie.Need-mul-h Inv-loop μ-loop
 mul-h c = search needs
 
--- src/lib.rt:196:17
 shared-slice-read-h : tie.Need-shared-slice-read-h Inv-loop μ-loop
 shared-slice-read-h c = search needs
 
--- src/lib.rt:196:17
 cast-h : tie.Need-cast-h Inv-loop μ-loop
 cast-h c = omega (arith, c .shared-slice-known .given (c .before .before .loop .l))
 
--- src/lib.rt:197:12
 mul-if1 : tie.Need-mul-if1 Inv-loop μ-loop
 mul-if1 c = omega (arith, c .before .before .before .pre .below (c .before .before .loop .l) (omega arith))
 
--- src/lib.rt:197:12
 shared-slice-read-if1 : tie.Need-shared-slice-read-if1 Inv-loop μ-loop
 shared-slice-read-if1 c = omega (arith, c .before .before .before .before .pre .below (c .before .before .before .loop .l) (omega arith))
 
--- src/lib.rt:197:12
 cast-if1 : tie.Need-cast-if1 Inv-loop μ-loop
 cast-if1 c = omega (arith, c .shared-slice-known2 .given (getD (c .before .before .before .before .args .header .now) (c .before .before .before .loop .l) 0))
 
--- src/lib.rt:198:13
 returns : tie.Need-returns Inv-loop μ-loop
 unfolding headerElsewhere
 returns c = stops _ _ (c .before .before .before .before .loop .l) (omega arith) (c .before .before .before .before .loop .inv .1) (rw (ne-eqb _ _ (c .if1 .taken)))
 
--- src/lib.rt:200:9
 add-l : tie.Need-add-l Inv-loop μ-loop
 add-l c = search needs
 
--- src/lib.rt:195:5
 loop-less : tie.Need-loop-less Inv-loop μ-loop
 loop-less c = search needs
 
--- src/lib.rt:195:5
 loop-again : tie.Need-loop-again Inv-loop μ-loop
 unfolding headerElsewhere
 loop-again c = (omega arith, below-more _ (c .before .before .before .before .loop .l) (c .before .before .before .before .loop .inv .1) (rw (eq-eqb _ _ (c .if1 .left))))
 
--- src/lib.rt:179:1
 returns-2 : tie.Need-returns-2 Inv-loop μ-loop
 returns-2 c = clear _ _ (c .before .loop .l) (omega arith) (c .before .loop .inv .1)
 

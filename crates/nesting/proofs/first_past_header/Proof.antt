@@ -19,56 +19,43 @@ Inv-loop around loops first second header n u₀ u = (u ≤ length loops) × Kep
 abbrev μ-loop : tie.MeasureT-loop
 μ-loop around loops first second header n u₀ u = length loops - u
 
--- src/lib.rt:332:5
 loop-holds : tie.Need-loop-holds Inv-loop μ-loop
 loop-holds c = (omega arith, λ k h. absurd (omega arith))
 
--- src/lib.rt:345:13
 mul-past-header : tie.Need-mul-past-header Inv-loop μ-loop
 mul-past-header c = search needs
 
--- src/lib.rt:345:13
 shared-slice-read-past-header : tie.Need-shared-slice-read-past-header Inv-loop μ-loop
 shared-slice-read-past-header c = search needs
 
 -- a successor of either column is a block where it is present: which of the two is read shows in the reply
--- src/lib.rt:333:12
 past-header-requires : tie.Need-past-header-requires Inv-loop μ-loop
 past-header-requires c κs = (c .before .before .before .before .before .before .before .pre .0, c .before .loop-test .taken, search (c .before .before .before .before .before .before .before .pre .1 .first-names (c .before .before .loop .u) (c .before .loop-test .taken), c .before .before .before .before .before .before .before .pre .1 .second-names (c .before .before .loop .u) (c .before .loop-test .taken)))
 
--- src/lib.rt:347:13
 returns : tie.Need-returns Inv-loop μ-loop
 returns c = stops _ _ (c .before .before .before .before .loop .u) (omega arith) (c .before .before .before .before .loop .inv .1) (by-first _ (c .before .before .before .before .loop .u) _ (sym (c .before .past-header .ensures) ∙ c .if1 .taken))
 
--- src/lib.rt:361:13
 mul-past-header-2 : tie.Need-mul-past-header-2 Inv-loop μ-loop
 mul-past-header-2 c = search needs
 
--- src/lib.rt:361:13
 shared-slice-read-past-header-2 : tie.Need-shared-slice-read-past-header-2 Inv-loop μ-loop
 shared-slice-read-past-header-2 c = search needs
 
--- src/lib.rt:349:12
 past-header-requires-2 : tie.Need-past-header-requires-2 Inv-loop μ-loop
 past-header-requires-2 c κs = (c .before .before .before .before .before .before .before .before .before .before .pre .0, c .before .before .before .before .loop-test .taken, search (c .before .before .before .before .before .before .before .before .before .before .pre .1 .first-names (c .before .before .before .before .before .loop .u) (c .before .before .before .before .loop-test .taken), c .before .before .before .before .before .before .before .before .before .before .pre .1 .second-names (c .before .before .before .before .before .loop .u) (c .before .before .before .before .loop-test .taken)))
 
--- src/lib.rt:363:13
 returns-2 : tie.Need-returns-2 Inv-loop μ-loop
 returns-2 c = stops _ _ (c .before .before .before .before .before .before .before .loop .u) (omega arith) (c .before .before .before .before .before .before .before .loop .inv .1) (by-second _ (c .before .before .before .before .before .before .before .loop .u) _ (sym (c .before .past-header2 .ensures) ∙ c .if2 .taken))
 
--- src/lib.rt:365:9
 add-u : tie.Need-add-u Inv-loop μ-loop
 add-u c = omega (arith, c .before .before .before .before .before .before .loop-test .taken, c .before .before .before .before .before .before .before .before .before .before .before .before .pre .1 .few)
 
--- src/lib.rt:332:5
 loop-less : tie.Need-loop-less Inv-loop μ-loop
 loop-less c = search needs
 
--- src/lib.rt:332:5
 loop-again : tie.Need-loop-again Inv-loop μ-loop
 loop-again c = (omega arith, below-more _ (c .before .before .before .before .before .before .before .loop .u) (c .before .before .before .before .before .before .before .loop .inv .1) (by-neither _ (c .before .before .before .before .before .before .before .loop .u) _ (sym (c .before .before .before .before .past-header .ensures) ∙ c .before .before .before .if1 .left) (sym (c .before .past-header2 .ensures) ∙ c .if2 .left)))
 
--- src/lib.rt:315:1
 returns-3 : tie.Need-returns-3 Inv-loop μ-loop
 returns-3 c = clear _ _ (c .before .loop .u) (omega arith) (c .before .loop .inv .1)
 

@@ -18,35 +18,27 @@ Inv-loop around m l₀ l = (l ≤ m) × Kept (deepBySets around) l
 abbrev μ-loop : tie.MeasureT-loop
 μ-loop around m l₀ l = m - l
 
--- src/lib.rt:224:5
 loop-holds : tie.Need-loop-holds Inv-loop μ-loop
 loop-holds c = (omega arith, λ k h. absurd (omega arith))
 
--- src/lib.rt:225:13
 set-at-requires : tie.Need-set-at-requires Inv-loop μ-loop
 set-at-requires c κs = search needs
 
--- src/lib.rt:226:17
 size-requires : tie.Need-size-requires Inv-loop μ-loop
 size-requires c κs = search needs
 
--- src/lib.rt:227:13
 returns : tie.Need-returns Inv-loop μ-loop
 returns c = stops _ _ (c .before .before .before .before .loop .l) (omega arith) (c .before .before .before .before .loop .inv .1) (rw (← c .before .before .set-at .ensures, ← c .before .size .ensures) (lt-ltb _ _ (c .if1 .taken)))
 
--- src/lib.rt:229:9
 add-l : tie.Need-add-l Inv-loop μ-loop
 add-l c = search needs
 
--- src/lib.rt:224:5
 loop-less : tie.Need-loop-less Inv-loop μ-loop
 loop-less c = search needs
 
--- src/lib.rt:224:5
 loop-again : tie.Need-loop-again Inv-loop μ-loop
 loop-again c = (omega arith, below-more _ (c .before .before .before .before .loop .l) (c .before .before .before .before .loop .inv .1) (rw (← c .before .before .set-at .ensures, ← c .before .size .ensures) (le-ltb _ _ (c .if1 .left))))
 
--- src/lib.rt:207:1
 returns-2 : tie.Need-returns-2 Inv-loop μ-loop
 returns-2 c = clear _ _ (c .before .loop .l) (omega arith) (c .before .loop .inv .1)
 

@@ -24,75 +24,58 @@ Inv-loop cost loops first second figure parent n m u₀ u = (u ≤ length cost) 
 abbrev μ-loop : tie.MeasureT-loop
 μ-loop cost loops first second figure parent n m u₀ u = length cost - u
 
--- src/lib.rt:168:5
 loop-holds : tie.Need-loop-holds Inv-loop μ-loop
 loop-holds c = (omega arith, λ k h. absurd (omega arith))
 
--- src/lib.rt:169:30
 mul-block-wrong : tie.Need-mul-block-wrong Inv-loop μ-loop
 mul-block-wrong c = search needs
 
--- src/lib.rt:169:30
 shared-slice-read-block-wrong : tie.Need-shared-slice-read-block-wrong Inv-loop μ-loop
 shared-slice-read-block-wrong c = search needs
 
--- src/lib.rt:169:39
 mul-block-wrong-2 : tie.Need-mul-block-wrong-2 Inv-loop μ-loop
 mul-block-wrong-2 c = search needs
 
--- src/lib.rt:169:39
 shared-slice-read-block-wrong-2 : tie.Need-shared-slice-read-block-wrong-2 Inv-loop μ-loop
 shared-slice-read-block-wrong-2 c = search needs
 
--- src/lib.rt:169:49
 mul-block-wrong-3 : tie.Need-mul-block-wrong-3 Inv-loop μ-loop
 mul-block-wrong-3 c = search needs
 
--- src/lib.rt:169:49
 shared-slice-read-block-wrong-3 : tie.Need-shared-slice-read-block-wrong-3 Inv-loop μ-loop
 shared-slice-read-block-wrong-3 c = search needs
 
--- src/lib.rt:169:59
 mul-block-wrong-4 : tie.Need-mul-block-wrong-4 Inv-loop μ-loop
 mul-block-wrong-4 c = search needs
 
--- src/lib.rt:169:59
 shared-slice-read-block-wrong-4 : tie.Need-shared-slice-read-block-wrong-4 Inv-loop μ-loop
 shared-slice-read-block-wrong-4 c = search needs
 
--- src/lib.rt:169:70
 mul-block-wrong-5 : tie.Need-mul-block-wrong-5 Inv-loop μ-loop
 mul-block-wrong-5 c = search needs
 
--- src/lib.rt:169:70
 shared-slice-copy-out-block-wrong : tie.Need-shared-slice-copy-out-block-wrong Inv-loop μ-loop
 shared-slice-copy-out-block-wrong c = search needs
 
--- src/lib.rt:169:12
 block-wrong-requires : tie.Need-block-wrong-requires Inv-loop μ-loop
 block-wrong-requires c κs = search needs
 
--- src/lib.rt:170:13
 returns : tie.Need-returns Inv-loop μ-loop
 returns c =
     let f : SFits w64 (getD (c .before .before .before .before .before .before .before .before .before .before .before .before .before .before .args .figure .now) (c .before .before .before .before .before .before .before .before .loop .u) (pos 0)) = search needs in
     stops _ _ (c .before .before .before .before .before .before .before .before .loop .u) (omega arith) (c .before .before .before .before .before .before .before .before .loop .inv .1) (block-rule _ (c .before .before .before .before .before .before .before .before .loop .u) ∙ sym (rw (toZ-ofZ f) at (c .before .block-wrong .ensures)) ∙ c .if1 .taken)
 
--- src/lib.rt:172:9
 add-u : tie.Need-add-u Inv-loop μ-loop
 add-u c = search needs
 
--- src/lib.rt:168:5
 loop-less : tie.Need-loop-less Inv-loop μ-loop
 loop-less c = search needs
 
--- src/lib.rt:168:5
 loop-again : tie.Need-loop-again Inv-loop μ-loop
 loop-again c =
     let f : SFits w64 (getD (c .before .before .before .before .before .before .before .before .before .before .before .before .before .before .args .figure .now) (c .before .before .before .before .before .before .before .before .loop .u) (pos 0)) = search needs in
     (omega arith, below-more _ (c .before .before .before .before .before .before .before .before .loop .u) (c .before .before .before .before .before .before .before .before .loop .inv .1) (block-rule _ (c .before .before .before .before .before .before .before .before .loop .u) ∙ sym (rw (toZ-ofZ f) at (c .before .block-wrong .ensures)) ∙ c .if1 .left))
 
--- src/lib.rt:151:1
 returns-2 : tie.Need-returns-2 Inv-loop μ-loop
 returns-2 c = clear _ _ (c .before .loop .u) (omega arith) (c .before .loop .inv .1)
 

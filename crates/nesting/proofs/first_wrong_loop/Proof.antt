@@ -20,63 +20,48 @@ Inv-loop cost parent header limit multiplier n m l₀ l = (l ≤ length parent) 
 abbrev μ-loop : tie.MeasureT-loop
 μ-loop cost parent header limit multiplier n m l₀ l = length parent - l
 
--- src/lib.rt:158:5
 loop-holds : tie.Need-loop-holds Inv-loop μ-loop
 loop-holds c = (omega arith, λ k h. absurd (omega arith))
 
--- src/lib.rt:159:29
 mul-loop-wrong : tie.Need-mul-loop-wrong Inv-loop μ-loop
 mul-loop-wrong c = search needs
 
--- src/lib.rt:159:29
 shared-slice-read-loop-wrong : tie.Need-shared-slice-read-loop-wrong Inv-loop μ-loop
 shared-slice-read-loop-wrong c = search needs
 
--- src/lib.rt:159:40
 mul-loop-wrong-2 : tie.Need-mul-loop-wrong-2 Inv-loop μ-loop
 mul-loop-wrong-2 c = search needs
 
--- src/lib.rt:159:40
 shared-slice-read-loop-wrong-2 : tie.Need-shared-slice-read-loop-wrong-2 Inv-loop μ-loop
 shared-slice-read-loop-wrong-2 c = search needs
 
--- src/lib.rt:159:51
 mul-loop-wrong-3 : tie.Need-mul-loop-wrong-3 Inv-loop μ-loop
 mul-loop-wrong-3 c = search needs
 
--- src/lib.rt:159:51
 shared-slice-read-loop-wrong-3 : tie.Need-shared-slice-read-loop-wrong-3 Inv-loop μ-loop
 shared-slice-read-loop-wrong-3 c = search needs
 
--- src/lib.rt:159:61
 mul-loop-wrong-4 : tie.Need-mul-loop-wrong-4 Inv-loop μ-loop
 mul-loop-wrong-4 c = search needs
 
--- src/lib.rt:159:61
 shared-slice-read-loop-wrong-4 : tie.Need-shared-slice-read-loop-wrong-4 Inv-loop μ-loop
 shared-slice-read-loop-wrong-4 c = search needs
 
--- src/lib.rt:159:12
 loop-wrong-requires : tie.Need-loop-wrong-requires Inv-loop μ-loop
 loop-wrong-requires c κs = search needs
 
--- src/lib.rt:160:13
 returns : tie.Need-returns Inv-loop μ-loop
 returns c = stops _ _ (c .before .before .before .before .before .before .before .loop .l) (omega arith) (c .before .before .before .before .before .before .before .loop .inv .1) (loop-rule _ (c .before .before .before .before .before .before .before .loop .l) ∙ sym (c .before .loop-wrong .ensures) ∙ c .if1 .taken)
 
--- src/lib.rt:162:9
 add-l : tie.Need-add-l Inv-loop μ-loop
 add-l c = search needs
 
--- src/lib.rt:158:5
 loop-less : tie.Need-loop-less Inv-loop μ-loop
 loop-less c = search needs
 
--- src/lib.rt:158:5
 loop-again : tie.Need-loop-again Inv-loop μ-loop
 loop-again c = (omega arith, below-more _ (c .before .before .before .before .before .before .before .loop .l) (c .before .before .before .before .before .before .before .loop .inv .1) (loop-rule _ (c .before .before .before .before .before .before .before .loop .l) ∙ sym (c .before .loop-wrong .ensures) ∙ c .if1 .left))
 
--- src/lib.rt:145:1
 returns-2 : tie.Need-returns-2 Inv-loop μ-loop
 returns-2 c = clear _ _ (c .before .loop .l) (omega arith) (c .before .loop .inv .1)
 

@@ -7,23 +7,18 @@ use Rattle.nesting.proofs.loop_sizes_wrong.Reads as reads
 use Rattle.nesting.proofs.loop_sizes_wrong.Lts as lts
 use Rattle.nesting.proofs.out_of_range.Reads as out-of-range-reads
 
--- src/lib.rt:86:8
 out-of-range-requires : tie.Need-out-of-range-requires
 out-of-range-requires c κs = search needs
 
--- src/lib.rt:87:9
 returns : tie.Need-returns
 returns c = rw (sym (c .before .out-of-range .ensures) ∙ c .if1 .taken)
 
--- src/lib.rt:90:9
 returns-2 : tie.Need-returns-2
 returns-2 c = rw (sym (c .before .before .out-of-range .ensures) ∙ c .before .if1 .left, ne-eqb _ _ (c .if2 .taken))
 
--- src/lib.rt:93:9
 returns-3 : tie.Need-returns-3
 returns-3 c = rw (sym (c .before .before .before .out-of-range .ensures) ∙ c .before .before .if1 .left, eq-eqb _ _ (c .before .if2 .left), ne-eqb _ _ (c .if3 .taken))
 
--- src/lib.rt:82:1
 returns-4 : tie.Need-returns-4
 returns-4 c = rw (sym (c .before .before .before .out-of-range .ensures) ∙ c .before .before .if1 .left, eq-eqb _ _ (c .before .if2 .left), eq-eqb _ _ (c .if3 .left))
 

@@ -7,19 +7,15 @@ use Rattle.nesting.proofs.loop_wrong.Lts as lts
 use Rattle.nesting.proofs.inner_wrong.Reads as inner-wrong-reads
 use Rattle.nesting.proofs.root_wrong.Reads as root-wrong-reads
 
--- src/lib.rt:140:9
 root-wrong-requires : tie.Need-root-wrong-requires
 root-wrong-requires c κs = search needs
 
--- src/lib.rt:140:9
 returns : tie.Need-returns
 returns c = rw (eq-eqb _ _ (c .before .if1 .taken)) (c .root-wrong .ensures)
 
--- src/lib.rt:142:5
 inner-wrong-requires : tie.Need-inner-wrong-requires
 inner-wrong-requires c κs = search needs
 
--- src/lib.rt:136:1
 returns-2 : tie.Need-returns-2
 returns-2 c = rw (ne-eqb _ _ (c .before .if1 .left)) (c .inner-wrong .ensures)
 

@@ -4,11 +4,9 @@ use Rattle.nesting.proofs.no_block.Tie as tie
 use Rattle.nesting.proofs.no_block.Reads as reads
 use Rattle.nesting.proofs.no_block.Lts as lts
 
--- src/lib.rt:117:9
 returns : tie.Need-returns
 returns c = rw (eq-eqb _ _ (c .if1 .taken))
 
--- src/lib.rt:113:1
 returns-2 : tie.Need-returns-2
 returns-2 c = rw (ne-eqb _ _ (c .if1 .left))
 

@@ -4,11 +4,9 @@ use Rattle.nesting.proofs.out_of_range.Tie as tie
 use Rattle.nesting.proofs.out_of_range.Reads as reads
 use Rattle.nesting.proofs.out_of_range.Lts as lts
 
--- src/lib.rt:52:9
 returns : tie.Need-returns
 returns c = rw (lt-ltb _ _ (c .if1 .taken))
 
--- src/lib.rt:48:1
 returns-2 : tie.Need-returns-2
 returns-2 c = rw (le-ltb _ _ (c .if1 .left))
 

@@ -22,69 +22,53 @@ present c = c .before .before .before .pre .2 (c .if1 .left)
 counted : (c : tie.After-size) → c .size .result ≡ enteredBySets (c .before .before .before .before .before .before .before .before .before .args .around .now) (c .before .before .before .before .before .before .before .before .before .args .loops .now) (c .before .before .before .before .before .before .before .before .before .args .u) (c .before .before .before .before .before .before .before .before .before .args .v)
 counted c = entered-count _ (c .before .before .before .before .before .before .before .before .before .args .loops .now) (c .before .before .before .before .before .before .before .before .before .args .u) (c .before .before .before .before .before .before .before .before .before .args .v) _ _ _ _ (c .before .before .before .set-at .ensures) (c .before .before .set-at2 .ensures) (c .before .without .ensures) (c .size .ensures)
 
--- src/lib.rt:301:9
 returns : tie.Need-returns
 returns c = rw (eq-eqb _ _ (c .if1 .taken))
 
--- src/lib.rt:303:16
 mul-from : tie.Need-mul-from
 mul-from c = search needs
 
--- src/lib.rt:303:16
 shared-slice-read-from : tie.Need-shared-slice-read-from
 shared-slice-read-from c = search needs
 
--- src/lib.rt:303:16
 cast-from : tie.Need-cast-from
 cast-from c = omega (arith, c .shared-slice-known3 .given (c .before .before .before .before .args .u))
 
--- src/lib.rt:304:14
 mul-to : tie.Need-mul-to
 mul-to c = search needs
 
--- src/lib.rt:304:14
 shared-slice-read-to : tie.Need-shared-slice-read-to
 shared-slice-read-to c = omega (arith, present (c .before .before))
 
--- src/lib.rt:304:14
 cast-to : tie.Need-cast-to
 cast-to c = omega (arith, c .shared-slice-known4 .given (c .before .before .before .before .before .args .v))
 
--- src/lib.rt:305:9
 set-at-requires : tie.Need-set-at-requires
 set-at-requires c κs = omega (arith, c .before .before .before .before .before .pre .0 .few, c .before .before .before .before .before .pre .0 .below (c .before .before .before .before .before .args .v) (present (c .before .before)))
 
--- src/lib.rt:306:34
 set-at-requires-2 : tie.Need-set-at-requires-2
 set-at-requires-2 c κs = omega (arith, c .before .before .before .before .before .before .pre .0 .few, c .before .before .before .before .before .before .pre .0 .below (c .before .before .before .before .before .before .args .u) (c .before .before .before .before .before .before .pre .1), c .before .before .before .before .before .before .pre .0 .below (c .before .before .before .before .before .before .args .v) (present (c .before .before .before)))
 
--- src/lib.rt:306:19
 without-requires : tie.Need-without-requires
 without-requires c κs = search needs
 
--- src/lib.rt:306:9
 size-requires : tie.Need-size-requires
 size-requires c κs = search needs
 
--- src/lib.rt:308:9
 returns-2 : tie.Need-returns-2
 unfolding pastBySets
 returns-2 c = rw (ne-eqb _ _ (c .before .before .before .before .before .before .before .if1 .left), eq-eqb _ 0 (sym (counted (c .before)) ∙ c .if2 .taken))
 
--- src/lib.rt:311:9
 returns-3 : tie.Need-returns-3
 unfolding pastBySets
 returns-3 c = rw (ne-eqb _ _ (c .before .before .before .before .before .before .before .before .if1 .left), ne-eqb _ 0 (λ e. c .before .if2 .left (counted (c .before .before) ∙ e)), ne-eqb _ 1 (λ e. c .if3 .taken (counted (c .before .before) ∙ e)))
 
--- src/lib.rt:313:5
 mul-result : tie.Need-mul-result
 mul-result c = omega (arith, c .before .before .before .before .before .before .before .before .before .before .before .pre .0 .few, c .before .before .before .before .before .before .before .before .before .before .before .pre .0 .below (c .before .before .before .before .before .before .before .before .before .before .before .args .v) (present (c .before .before .before .before .before .before .before .before)))
 
--- src/lib.rt:313:5
 shared-slice-read-result : tie.Need-shared-slice-read-result
 shared-slice-read-result c = omega (arith, c .before .before .before .before .before .before .before .before .before .before .before .before .pre .0 .below (c .before .before .before .before .before .before .before .before .before .before .before .before .args .v) (present (c .before .before .before .before .before .before .before .before .before)))
 
--- src/lib.rt:296:1
 returns-4 : tie.Need-returns-4
 unfolding pastBySets
 returns-4 c = rw (ne-eqb _ _ (c .before .before .before .before .before .before .before .before .before .if1 .left), ne-eqb _ 0 (λ e. c .before .before .if2 .left (counted (c .before .before .before) ∙ e)), eq-eqb _ 1 (sym (counted (c .before .before .before)) ∙ c .before .if3 .left))

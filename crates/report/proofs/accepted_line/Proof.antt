@@ -10,27 +10,21 @@ use Rattle.report.proofs.accepted_line.Tie as tie
 use Rattle.report.proofs.accepted_line.Reads as reads
 use Rattle.report.proofs.accepted_line.Lts as lts
 
--- src/lib.rt:343:9
 empty-requires : tie.Need-empty-requires
 empty-requires c κs = search needs
 
--- src/lib.rt:344:26
 slice-aggregate-word : tie.Need-slice-aggregate-word
 slice-aggregate-word c = search needs
 
--- src/lib.rt:344:9
 word-requires : tie.Need-word-requires
 word-requires c κs = search needs
 
--- src/lib.rt:345:9
 integer-requires : tie.Need-integer-requires
 integer-requires c κs = rw (toZ-ofZ (c .before .before .before .fits .bound)) (omega (arith, integer-short (c .before .before .before .args .bound) (c .before .before .before .fits .bound)))
 
--- src/lib.rt:346:5
 byte-requires : tie.Need-byte-requires
 byte-requires c κs = let w = rw (toZ-ofZ (c .before .before .before .before .fits .bound)) at (c .integer .ensures) in omega (arith, w .size, integer-short (c .before .before .before .before .args .bound) (c .before .before .before .before .fits .bound))
 
--- src/lib.rt:340:1
 returns : tie.Need-returns
 unfolding lineOf
 returns c = let w = rw (toZ-ofZ (c .before .before .before .before .before .fits .bound)) at (c .before .integer .ensures) in

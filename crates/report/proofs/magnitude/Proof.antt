@@ -21,27 +21,21 @@ is-positive c = rw (toZ-ofZ (c .before .fits .z)) at (c .if1 .left)
 fits : (c : tie.Then1) → SFits w64 (negsuc 0 -ℤ c .before .args .z)
 fits c = below-fits (c .before .args .z) (is-negative c) (c .before .fits .z)
 
--- src/lib.rt:274:21
 sub-below : tie.Need-sub-below
 sub-below c = rw (toZ-ofZ (c .before .fits .z)) (fits c)
 
--- src/lib.rt:275:16
 cast-result : tie.Need-cast-result
 cast-result c = rw (toZ-ofZ (c .before .fits .z), toZ-ofZ (fits c)) (below-positive (c .before .args .z) (is-negative c), abs-fits (fits c))
 
--- src/lib.rt:275:16
 add-result : tie.Need-add-result
 add-result c = rw (toZ-ofZ (c .before .fits .z), toZ-ofZ (fits c), below-one (c .before .args .z) (is-negative c)) (abs-fits (c .before .fits .z))
 
--- src/lib.rt:275:9
 returns : tie.Need-returns
 returns c = rw (toZ-ofZ (c .before .fits .z), toZ-ofZ (fits c)) (below-one (c .before .args .z) (is-negative c))
 
--- src/lib.rt:277:5
 cast-result-2 : tie.Need-cast-result-2
 cast-result-2 c = rw (toZ-ofZ (c .before .fits .z)) (positive-sign (c .before .args .z) (is-positive c), abs-fits (c .before .fits .z))
 
--- src/lib.rt:270:1
 returns-2 : tie.Need-returns-2
 returns-2 c = search needs
 

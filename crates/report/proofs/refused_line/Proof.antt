@@ -18,43 +18,33 @@ number-short s = numeral-short 9 (s .args .number) (omega arith)
 place-short : (s : tie.Start) → length (numeralOf (s .args .place)) ≤ 20
 place-short s = numeral-short 19 (s .args .place) (omega arith)
 
--- src/lib.rt:352:9
 empty-requires : tie.Need-empty-requires
 empty-requires c κs = search needs
 
--- src/lib.rt:353:26
 slice-aggregate-word : tie.Need-slice-aggregate-word
 slice-aggregate-word c = search needs
 
--- src/lib.rt:353:9
 word-requires : tie.Need-word-requires
 word-requires c κs = search needs
 
--- src/lib.rt:354:9
 stage-requires : tie.Need-stage-requires
 stage-requires c κs = omega arith
 
--- src/lib.rt:355:9
 byte-requires : tie.Need-byte-requires
 byte-requires c κs = omega (arith, stage-short (c .before .before .before .before .args .stage))
 
--- src/lib.rt:356:9
 numeral-requires : tie.Need-numeral-requires
 numeral-requires c κs = omega (arith, stage-short (c .before .before .before .before .before .args .stage), number-short (c .before .before .before .before .before))
 
--- src/lib.rt:357:9
 byte-requires-2 : tie.Need-byte-requires-2
 byte-requires-2 c κs = omega (arith, stage-short (c .before .before .before .before .before .before .args .stage), number-short (c .before .before .before .before .before .before))
 
--- src/lib.rt:358:9
 numeral-requires-2 : tie.Need-numeral-requires-2
 numeral-requires-2 c κs = omega (arith, stage-short (c .before .before .before .before .before .before .before .args .stage), number-short (c .before .before .before .before .before .before .before), place-short (c .before .before .before .before .before .before .before))
 
--- src/lib.rt:359:5
 byte-requires-3 : tie.Need-byte-requires-3
 byte-requires-3 c κs = omega (arith, stage-short (c .before .before .before .before .before .before .before .before .args .stage), number-short (c .before .before .before .before .before .before .before .before), place-short (c .before .before .before .before .before .before .before .before))
 
--- src/lib.rt:349:1
 returns : tie.Need-returns
 unfolding lineOf
 returns c = let a = c .before .before .before .before .before .before .before .before .before .args in

@@ -7,31 +7,24 @@ use Rattle.rolkeyda.proofs.read_reply.Lts as lts
 use Rattle.rolkeyda.proofs.accepted.Reads as accepted-reads
 use Rattle.rolkeyda.proofs.refused.Reads as refused-reads
 
--- src/lib.rt:98:25
 enum-known-answer : tie.Need-enum-known-answer
 enum-known-answer c = search needs
 
--- src/lib.rt:98:44
 cast-accepted : tie.Need-cast-accepted
 cast-accepted c = search count-fits
 
--- src/lib.rt:98:35
 accepted-requires : tie.Need-accepted-requires
 accepted-requires c κs = search needs
 
--- src/lib.rt:99:30
 enum-known-answer-2 : tie.Need-enum-known-answer-2
 enum-known-answer-2 c = search needs
 
--- src/lib.rt:99:50
 refused-requires : tie.Need-refused-requires
 refused-requires c κs = search record-fits
 
--- src/lib.rt:93:1
 returns : tie.Need-returns
 returns c = search rows-told
 
--- src/lib.rt:93:1
 returns-2 : tie.Need-returns-2
 returns-2 c = search refused-told
 

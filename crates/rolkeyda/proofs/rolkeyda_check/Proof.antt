@@ -7,15 +7,12 @@ use Rattle.rolkeyda.proofs.rolkeyda_check.Lts as lts
 use Rattle.certificate.proofs.check.Reads as check-reads
 use Rattle.rolkeyda.proofs.table_reply.Reads as table-reply-reads
 
--- src/lib.rt:151:9
 check-requires : tie.Need-check-requires
 check-requires c κs = search needs
 
--- src/lib.rt:154:5
 table-reply-requires : tie.Need-table-reply-requires
 table-reply-requires c κs = search table-fits
 
--- src/lib.rt:137:1
 returns : tie.Need-returns
 returns c = search tables-replied
 

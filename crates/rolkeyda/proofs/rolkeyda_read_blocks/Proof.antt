@@ -7,35 +7,27 @@ use Rattle.rolkeyda.proofs.rolkeyda_read_blocks.Lts as lts
 use Rattle.rolkeyda.proofs.read_reply.Reads as read-reply-reads
 use Rattle.tables.proofs.read_blocks.Reads as read-blocks-reads
 
--- src/lib.rt:116:9
 read-blocks-requires : tie.Need-read-blocks-requires
 read-blocks-requires c κs = search needs
 
--- src/lib.rt:117:5
 read-reply-requires : tie.Need-read-reply-requires
 read-reply-requires c κs = search blocks-fit
 
--- src/lib.rt:104:1
 same-length : tie.Need-same-length
 same-length c = search needs
 
--- src/lib.rt:104:1
 same-length-2 : tie.Need-same-length-2
 same-length-2 c = search needs
 
--- src/lib.rt:104:1
 same-length-3 : tie.Need-same-length-3
 same-length-3 c = search needs
 
--- src/lib.rt:104:1
 same-length-4 : tie.Need-same-length-4
 same-length-4 c = search needs
 
--- src/lib.rt:104:1
 same-length-5 : tie.Need-same-length-5
 same-length-5 c = search needs
 
--- src/lib.rt:104:1
 returns : tie.Need-returns
 returns c = search needs
 

@@ -7,31 +7,24 @@ use Rattle.rolkeyda.proofs.rolkeyda_read_loops.Lts as lts
 use Rattle.rolkeyda.proofs.read_reply.Reads as read-reply-reads
 use Rattle.tables.proofs.read_loops.Reads as read-loops-reads
 
--- src/lib.rt:132:9
 read-loops-requires : tie.Need-read-loops-requires
 read-loops-requires c κs = search needs
 
--- src/lib.rt:133:5
 read-reply-requires : tie.Need-read-reply-requires
 read-reply-requires c κs = search loops-fit
 
--- src/lib.rt:121:1
 same-length : tie.Need-same-length
 same-length c = search needs
 
--- src/lib.rt:121:1
 same-length-2 : tie.Need-same-length-2
 same-length-2 c = search needs
 
--- src/lib.rt:121:1
 same-length-3 : tie.Need-same-length-3
 same-length-3 c = search needs
 
--- src/lib.rt:121:1
 same-length-4 : tie.Need-same-length-4
 same-length-4 c = search needs
 
--- src/lib.rt:121:1
 returns : tie.Need-returns
 returns c = search needs
 

@@ -7,15 +7,12 @@ use Rattle.rolkeyda.proofs.rolkeyda_walk.Lts as lts
 use Rattle.rolkeyda.proofs.walk_reply.Reads as walk-reply-reads
 use Rattle.walk.proofs.walk.Reads as walk-reads
 
--- src/lib.rt:173:9
 walk-requires : tie.Need-walk-requires
 walk-requires c κs = search needs
 
--- src/lib.rt:176:5
 walk-reply-requires : tie.Need-walk-reply-requires
 walk-reply-requires c κs = search walk-fits
 
--- src/lib.rt:158:1
 returns : tie.Need-returns
 returns c = search walk-replied
 

@@ -6,87 +6,66 @@ use Rattle.rolkeyda.proofs.structure.Reads as reads
 use Rattle.rolkeyda.proofs.structure.Lts as lts
 use Rattle.rolkeyda.proofs.refused.Reads as refused-reads
 
--- src/lib.rt:55:34
 enum-told : tie.Need-enum-told
 enum-told c = search needs
 
--- src/lib.rt:55:34
 refused-requires : tie.Need-refused-requires
 refused-requires c κs = search needs
 
--- src/lib.rt:56:30
 enum-known-fault : tie.Need-enum-known-fault
 enum-known-fault c = search needs
 
--- src/lib.rt:56:36
 refused-requires-2 : tie.Need-refused-requires-2
 refused-requires-2 c κs = search at-loop
 
--- src/lib.rt:57:31
 enum-known-fault-2 : tie.Need-enum-known-fault-2
 enum-known-fault-2 c = search needs
 
--- src/lib.rt:57:37
 refused-requires-3 : tie.Need-refused-requires-3
 refused-requires-3 c κs = search at-block
 
--- src/lib.rt:58:32
 enum-known-fault-3 : tie.Need-enum-known-fault-3
 enum-known-fault-3 c = search needs
 
--- src/lib.rt:58:38
 refused-requires-4 : tie.Need-refused-requires-4
 refused-requires-4 c κs = search at-header
 
--- src/lib.rt:59:31
 enum-known-fault-4 : tie.Need-enum-known-fault-4
 enum-known-fault-4 c = search needs
 
--- src/lib.rt:59:37
 refused-requires-5 : tie.Need-refused-requires-5
 refused-requires-5 c κs = search at-depth
 
--- src/lib.rt:60:37
 enum-known-fault-5 : tie.Need-enum-known-fault-5
 enum-known-fault-5 c = search needs
 
--- src/lib.rt:60:43
 refused-requires-6 : tie.Need-refused-requires-6
 refused-requires-6 c κs = search at-entry-or-exit
 
--- src/lib.rt:61:36
 enum-known-fault-6 : tie.Need-enum-known-fault-6
 enum-known-fault-6 c = search needs
 
--- src/lib.rt:61:42
 refused-requires-7 : tie.Need-refused-requires-7
 refused-requires-7 c κs = search at-past-header
 
--- src/lib.rt:50:1
 returns : tie.Need-returns
 returns c = search fault-reply
 
--- src/lib.rt:50:1
 returns-2 : tie.Need-returns-2
 returns-2 c = search fault-reply
 
--- src/lib.rt:50:1
 returns-3 : tie.Need-returns-3
 returns-3 c = search fault-reply
 
--- src/lib.rt:50:1
 returns-4 : tie.Need-returns-4
 returns-4 c = search fault-reply
 
--- src/lib.rt:50:1
 returns-5 : tie.Need-returns-5
 returns-5 c = search fault-reply
 
--- src/lib.rt:50:1
 returns-6 : tie.Need-returns-6
 returns-6 c = search fault-reply
 
--- src/lib.rt:50:1
 returns-7 : tie.Need-returns-7
 returns-7 c = search fault-reply
 

@@ -8,39 +8,30 @@ use Rattle.rolkeyda.proofs.accepted.Reads as accepted-reads
 use Rattle.rolkeyda.proofs.refused.Reads as refused-reads
 use Rattle.rolkeyda.proofs.structure.Reads as structure-reads
 
--- src/lib.rt:70:30
 enum-known-answer : tie.Need-enum-known-answer
 enum-known-answer c = search needs
 
--- src/lib.rt:70:40
 accepted-requires : tie.Need-accepted-requires
 accepted-requires c κs = search needs
 
--- src/lib.rt:71:31
 enum-known-answer-2 : tie.Need-enum-known-answer-2
 enum-known-answer-2 c = search needs
 
--- src/lib.rt:71:41
 structure-requires : tie.Need-structure-requires
 structure-requires c κs = search table-structure
 
--- src/lib.rt:72:32
 enum-known-answer-3 : tie.Need-enum-known-answer-3
 enum-known-answer-3 c = search needs
 
--- src/lib.rt:72:38
 refused-requires : tie.Need-refused-requires
 refused-requires c κs = search table-inequality
 
--- src/lib.rt:65:1
 returns : tie.Need-returns
 returns c = search (table-accepted, needs)
 
--- src/lib.rt:65:1
 returns-2 : tie.Need-returns-2
 returns-2 c = search needs
 
--- src/lib.rt:65:1
 returns-3 : tie.Need-returns-3
 returns-3 c = search table-told
 

@@ -7,15 +7,12 @@ use Rattle.stages.proofs.first_u8.Tie as tie
 use Rattle.stages.proofs.first_u8.Reads as reads
 use Rattle.stages.proofs.first_u8.Lts as lts
 
--- src/lib.rt:83:9
 returns : tie.Need-returns
 returns c = sym (take-all _ _ (c .if1 .taken))
 
--- src/lib.rt:85:5
 slice-aggregate-result : tie.Need-slice-aggregate-result
 slice-aggregate-result c = sym (length-take-le _ _ (omega (arith, c .before .if1 .left)))
 
--- src/lib.rt:79:1
 returns-2 : tie.Need-returns-2
 returns-2 c = search needs
 

@@ -7,59 +7,46 @@ use Rattle.stages.proofs.header_of.Tie as tie
 use Rattle.stages.proofs.header_of.Reads as reads
 use Rattle.stages.proofs.header_of.Lts as lts
 
--- src/lib.rt:62:29
 slice-aggregate-same : tie.Need-slice-aggregate-same
 slice-aggregate-same c = search needs
 
--- src/lib.rt:62:8
 same-requires : tie.Need-same-requires
 same-requires c κs = search needs
 
--- src/lib.rt:63:9
 returns : tie.Need-returns
 unfolding headerOf same
 returns c = rw (c .before .same .ensures .0 (c .if1 .taken)) refl
 
--- src/lib.rt:65:29
 slice-aggregate-same-2 : tie.Need-slice-aggregate-same-2
 slice-aggregate-same-2 c = search needs
 
--- src/lib.rt:65:8
 same-requires-2 : tie.Need-same-requires-2
 same-requires-2 c κs = search needs
 
--- src/lib.rt:66:9
 returns-2 : tie.Need-returns-2
 unfolding headerOf same
 returns-2 c = rw (c .before .same2 .ensures .0 (c .if2 .taken)) refl
 
--- src/lib.rt:68:29
 slice-aggregate-same-3 : tie.Need-slice-aggregate-same-3
 slice-aggregate-same-3 c = search needs
 
--- src/lib.rt:68:8
 same-requires-3 : tie.Need-same-requires-3
 same-requires-3 c κs = search needs
 
--- src/lib.rt:69:9
 returns-3 : tie.Need-returns-3
 unfolding headerOf same
 returns-3 c = rw (c .before .same3 .ensures .0 (c .if3 .taken)) refl
 
--- src/lib.rt:71:29
 slice-aggregate-same-4 : tie.Need-slice-aggregate-same-4
 slice-aggregate-same-4 c = search needs
 
--- src/lib.rt:71:8
 same-requires-4 : tie.Need-same-requires-4
 same-requires-4 c κs = search needs
 
--- src/lib.rt:72:9
 returns-4 : tie.Need-returns-4
 unfolding headerOf same
 returns-4 c = rw (c .before .same4 .ensures .0 (c .if4 .taken)) refl
 
--- src/lib.rt:59:1
 returns-5 : tie.Need-returns-5
 unfolding headerOf
 returns-5 c = rw (is-other _ _ _ (c .before .before .before .before .before .before .before .before .before .if1 .left) (c .before .before .before .before .before .before .before .before .before .before .same .ensures .1), is-other _ _ _ (c .before .before .before .before .before .before .if2 .left) (c .before .before .before .before .before .before .before .same2 .ensures .1), is-other _ _ _ (c .before .before .before .if3 .left) (c .before .before .before .before .same3 .ensures .1), is-other _ _ _ (c .if4 .left) (c .before .same4 .ensures .1)) refl

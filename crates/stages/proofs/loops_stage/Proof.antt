@@ -15,91 +15,69 @@ unread c = sym (c .before .has-loops .ensures) ∙ not-true _ (c .if1 .taken)
 has : (c : tie.Else1) → hasLoops (c .before .before .before .before .before .before .before .args .files) ≡ true
 has c = sym (c .before .has-loops .ensures) ∙ not-false _ (c .if1 .left)
 
--- src/lib.rt:191:9
 has-loops-requires : tie.Need-has-loops-requires
 has-loops-requires c κs = search needs
 
--- src/lib.rt:192:9
 refused-requires : tie.Need-refused-requires
 refused-requires c κs = search needs
 
--- src/lib.rt:192:9
 returns : tie.Need-returns
 returns c = loops-unread _ _ _ _ _ _ _ _ (unread (c .before)) (c .refused .ensures)
 
--- src/lib.rt:198:50
 slice-aggregate-read-loops : tie.Need-slice-aggregate-read-loops
 slice-aggregate-read-loops c = search needs
 
--- src/lib.rt:198:63
 slice-aggregate-read-loops-2 : tie.Need-slice-aggregate-read-loops-2
 slice-aggregate-read-loops-2 c = search needs
 
--- src/lib.rt:198:74
 slice-aggregate-read-loops-3 : tie.Need-slice-aggregate-read-loops-3
 slice-aggregate-read-loops-3 c = search needs
 
--- src/lib.rt:198:86
 slice-aggregate-read-loops-4 : tie.Need-slice-aggregate-read-loops-4
 slice-aggregate-read-loops-4 c = search needs
 
--- src/lib.rt:198:9
 read-loops-requires : tie.Need-read-loops-requires
 read-loops-requires c κs = search needs
 
--- src/lib.rt:200:30
 enum-known-read : tie.Need-enum-known-read
 enum-known-read c = search needs
 
--- src/lib.rt:200:50
 refused-requires-2 : tie.Need-refused-requires-2
 refused-requires-2 c κs = search needs
 
--- src/lib.rt:201:25
 enum-known-read-2 : tie.Need-enum-known-read-2
 enum-known-read-2 c = search needs
 
--- src/lib.rt:207:23
 slice-aggregate-first-u16 : tie.Need-slice-aggregate-first-u16
 slice-aggregate-first-u16 c = search needs
 
--- src/lib.rt:207:13
 first-u16-requires : tie.Need-first-u16-requires
 first-u16-requires c κs = search needs
 
--- src/lib.rt:208:23
 slice-aggregate-first-u16-2 : tie.Need-slice-aggregate-first-u16-2
 slice-aggregate-first-u16-2 c = search needs
 
--- src/lib.rt:208:13
 first-u16-requires-2 : tie.Need-first-u16-requires-2
 first-u16-requires-2 c κs = search needs
 
--- src/lib.rt:209:23
 slice-aggregate-first-u32 : tie.Need-slice-aggregate-first-u32
 slice-aggregate-first-u32 c = search needs
 
--- src/lib.rt:209:13
 first-u32-requires : tie.Need-first-u32-requires
 first-u32-requires c κs = search needs
 
--- src/lib.rt:210:23
 slice-aggregate-first-u64 : tie.Need-slice-aggregate-first-u64
 slice-aggregate-first-u64 c = search needs
 
--- src/lib.rt:210:13
 first-u64-requires : tie.Need-first-u64-requires
 first-u64-requires c κs = search needs
 
--- src/lib.rt:201:31
 table-stage-requires : tie.Need-table-stage-requires
 table-stage-requires c κs = search needs
 
--- src/lib.rt:179:1
 returns-2 : tie.Need-returns-2
 returns-2 c = loops-refused _ _ _ _ _ _ _ _ (has (c .before .before .before .before .before .before .before .before .before .before .before .before .before)) (c .before .before .before .before .before .before .before .before .read-loops .ensures) _ _ (c .refused2 .ensures) (search needs)
 
--- src/lib.rt:179:1
 returns-3 : tie.Need-returns-3
 returns-3 c = loops-taken _ _ _ _ _ _ _ _ (has (c .before .before .before .before .before .before .before .before .before .before .before .before .before .before .before .before .before .before .before .before .before)) (c .before .before .before .before .before .before .before .before .before .before .before .before .before .before .before .before .read-loops .ensures) (c .before .before .before .before .before .before .before .before .before .before .read2 .given .0 .0) (c .before .before .before .before .before .before .before .first-u16 .ensures) (c .before .before .before .before .before .first-u162 .ensures) (c .before .before .before .first-u32 .ensures) (c .before .first-u64 .ensures) (c .table-stage .ensures) (search needs)
 

@@ -6,43 +6,33 @@ use Rattle.stages.proofs.outcome_of.Tie as tie
 use Rattle.stages.proofs.outcome_of.Reads as reads
 use Rattle.stages.proofs.outcome_of.Lts as lts
 
--- src/lib.rt:197:9
 header-of-requires : tie.Need-header-of-requires
 header-of-requires c κs = search needs
 
--- src/lib.rt:199:27
 enum-told : tie.Need-enum-told
 enum-told c = search needs
 
--- src/lib.rt:199:27
 blocks-stage-requires : tie.Need-blocks-stage-requires
 blocks-stage-requires c κs = search needs
 
--- src/lib.rt:200:28
 enum-told-2 : tie.Need-enum-told-2
 enum-told-2 c = search needs
 
--- src/lib.rt:200:28
 blocks-stage-requires-2 : tie.Need-blocks-stage-requires-2
 blocks-stage-requires-2 c κs = search needs
 
--- src/lib.rt:201:34
 enum-told-3 : tie.Need-enum-told-3
 enum-told-3 c = search needs
 
--- src/lib.rt:201:26
 refused-requires : tie.Need-refused-requires
 refused-requires c κs = search needs
 
--- src/lib.rt:194:1
 returns : tie.Need-returns
 returns c = setting-told _ _ _ _ Absent (c .before .before .before .header-of .ensures) (search needs) (c .blocks-stage .ensures)
 
--- src/lib.rt:194:1
 returns-2 : tie.Need-returns-2
 returns-2 c = setting-told _ _ _ _ Present (c .before .before .before .header-of .ensures) (search needs) (c .blocks-stage2 .ensures)
 
--- src/lib.rt:194:1
 returns-3 : tie.Need-returns-3
 returns-3 c = setting-told _ _ _ _ Wrong (c .before .before .before .header-of .ensures) (search needs) (c .refused .ensures)
 

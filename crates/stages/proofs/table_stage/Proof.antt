@@ -5,23 +5,18 @@ use Rattle.stages.proofs.table_stage.Tie as tie
 use Rattle.stages.proofs.table_stage.Reads as reads
 use Rattle.stages.proofs.table_stage.Lts as lts
 
--- src/lib.rt:103:9
 rolkeyda-check-requires : tie.Need-rolkeyda-check-requires
 rolkeyda-check-requires c κs = search needs
 
--- src/lib.rt:115:9
 returns : tie.Need-returns
 returns c = table-accepted _ (c .before .before .before .rolkeyda-check .result) (c .before .before .before .rolkeyda-check .ensures) (c .before .if1 .taken) (search needs)
 
--- src/lib.rt:117:41
 cast-refused : tie.Need-cast-refused
 cast-refused c = search needs
 
--- src/lib.rt:117:5
 refused-requires : tie.Need-refused-requires
 refused-requires c κs = search needs
 
--- src/lib.rt:90:1
 returns-2 : tie.Need-returns-2
 returns-2 c = table-refused _ (c .before .before .before .before .rolkeyda-check .result) (c .before .before .before .before .rolkeyda-check .ensures) (c .before .before .if1 .left) (c .refused .ensures)
 

@@ -5,51 +5,39 @@ use Rattle.stages.proofs.wanted_by.Tie as tie
 use Rattle.stages.proofs.wanted_by.Reads as reads
 use Rattle.stages.proofs.wanted_by.Lts as lts
 
--- src/lib.rt:212:9
 enum-known-outcome : tie.Need-enum-known-outcome
 enum-known-outcome c = search needs
 
--- src/lib.rt:217:9
 enum-told : tie.Need-enum-told
 enum-told c = search needs
 
--- src/lib.rt:217:9
 returns : tie.Need-returns
 returns c = search needs
 
--- src/lib.rt:220:9
 returns-2 : tie.Need-returns-2
 returns-2 c = search (no-file, needs)
 
--- src/lib.rt:223:27
 enum-told-2 : tie.Need-enum-told-2
 enum-told-2 c = search needs
 
--- src/lib.rt:224:26
 enum-told-3 : tie.Need-enum-told-3
 enum-told-3 c = search needs
 
--- src/lib.rt:225:25
 enum-told-4 : tie.Need-enum-told-4
 enum-told-4 c = search needs
 
--- src/lib.rt:226:25
 enum-told-5 : tie.Need-enum-told-5
 enum-told-5 c = search needs
 
--- src/lib.rt:208:1
 returns-3 : tie.Need-returns-3
 returns-3 c = search needs
 
--- src/lib.rt:208:1
 returns-4 : tie.Need-returns-4
 returns-4 c = search needs
 
--- src/lib.rt:208:1
 returns-5 : tie.Need-returns-5
 returns-5 c = search needs
 
--- src/lib.rt:208:1
 returns-6 : tie.Need-returns-6
 returns-6 c = search needs
 

@@ -1,5 +1,5 @@
 use native.Mathlib.Omega.{arith}
-use Rattle.tables.proofs.Whole.{table-long, table-headless, table-count, header-range, table-headed, table-torn, table-plain}
+use Rattle.tables.proofs.Whole.{table-long, table-headless, table-count, header-range, table-headed, table-unsound, table-plain}
 use borrow.Author.Needs.{needs}
 use Rattle.tables.proofs.gather_table.Statement.{statement}
 use Rattle.tables.proofs.gather_table.Tie as tie
@@ -40,7 +40,7 @@ refused-requires-4 : tie.Need-refused-requires-4
 refused-requires-4 c κs = search needs
 
 returns-5 : tie.Need-returns-5
-returns-5 c = search table-torn
+returns-5 c = search table-unsound
 
 gather-requires-2 : tie.Need-gather-requires-2
 gather-requires-2 c κs = (omega arith, omega arith, omega arith)

@@ -1,4 +1,4 @@
-use Rattle.tables.proofs.Rows.{row-torn, row-count, row-placed}
+use Rattle.tables.proofs.Rows.{row-unsound, row-count, row-placed}
 use borrow.Author.Needs.{needs}
 use Rattle.tables.proofs.scanned_row.Statement.{statement}
 use Rattle.tables.proofs.scanned_row.Tie as tie
@@ -24,7 +24,7 @@ returns-2 : tie.Need-returns-2
 returns-2 c = search row-placed
 
 returns-3 : tie.Need-returns-3
-returns-3 c = search row-torn
+returns-3 c = search row-unsound
 
 pub scanned-row-spec : {M : Type 1} → statement M
 scanned-row-spec =

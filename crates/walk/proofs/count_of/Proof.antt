@@ -6,23 +6,18 @@ use Rattle.walk.proofs.count_of.Reads as reads
 use Rattle.walk.proofs.count_of.Lts as lts
 use Rattle.walk.proofs.word_at.Reads as word-at-reads
 
--- src/lib.rt:147:7
 word-at-requires : tie.Need-word-at-requires
 word-at-requires c κs = search needs
 
--- src/lib.rt:147:34
 mul-result : tie.Need-mul-result
 mul-result c = search needs
 
--- src/lib.rt:147:7
 shr-result : tie.Need-shr-result
 shr-result c = search needs
 
--- src/lib.rt:147:5
 cast-result : tie.Need-cast-result
 cast-result c = search needs
 
--- src/lib.rt:143:1
 returns : tie.Need-returns
 unfolding countIn
 returns c = rw (c .word-at .ensures)

@@ -7,30 +7,24 @@ use Rattle.walk.proofs.edge_answer.Reads as reads
 use Rattle.walk.proofs.edge_answer.Lts as lts
 use Rattle.walk.proofs.has_edge.Reads as has-edge-reads
 
--- src/lib.rt:81:9
 returns : tie.Need-returns
 unfolding edgeAnswer
 returns c = rw (le-ltb _ _ (c .if1 .taken))
 
--- src/lib.rt:83:16
 sub-if2 : tie.Need-sub-if2
 sub-if2 c = search needs
 
--- src/lib.rt:84:9
 returns-2 : tie.Need-returns-2
 unfolding edgeAnswer
 returns-2 c = rw (lt-ltb _ _ (c .before .if1 .left), eq-eqb _ _ (c .if2 .taken))
 
--- src/lib.rt:86:9
 has-edge-requires : tie.Need-has-edge-requires
 has-edge-requires c κs = search needs
 
--- src/lib.rt:87:9
 returns-3 : tie.Need-returns-3
 unfolding edgeAnswer
 returns-3 c = rw (lt-ltb _ _ (c .before .before .before .if1 .left), ne-eqb _ _ (c .before .before .if2 .left), ← c .before .has-edge .ensures, c .if3 .taken)
 
--- src/lib.rt:76:1
 returns-4 : tie.Need-returns-4
 unfolding edgeAnswer
 returns-4 c = rw (lt-ltb _ _ (c .before .before .before .if1 .left), ne-eqb _ _ (c .before .before .if2 .left), ← c .before .has-edge .ensures, c .if3 .left)

@@ -7,35 +7,28 @@ use Rattle.walk.proofs.first_block.Tie as tie
 use Rattle.walk.proofs.first_block.Reads as reads
 use Rattle.walk.proofs.first_block.Lts as lts
 
--- src/lib.rt:252:9
 returns : tie.Need-returns
 unfolding entryAnswer
 returns c = rw (lt-ltb _ _ (c .if1 .taken))
 
--- src/lib.rt:255:9
 returns-2 : tie.Need-returns-2
 unfolding entryAnswer
 returns-2 c = rw (le-ltb _ _ (c .before .if1 .left), lt-ltb _ _ (c .if2 .taken))
 
--- src/lib.rt:257:17
 shared-slice-read-entry : tie.Need-shared-slice-read-entry
 shared-slice-read-entry c = search needs
 
--- src/lib.rt:257:17
 cast-entry : tie.Need-cast-entry
 cast-entry c = omega (arith, c .shared-slice-known .given 0)
 
--- src/lib.rt:259:9
 returns-3 : tie.Need-returns-3
 unfolding entryAnswer
 returns-3 c = rw (le-ltb _ _ (c .before .before .before .if1 .left), le-ltb _ _ (c .before .before .if2 .left), le-ltb _ _ (c .if3 .taken))
 
--- src/lib.rt:262:9
 returns-4 : tie.Need-returns-4
 unfolding entryAnswer
 returns-4 c = rw (le-ltb _ _ (c .before .before .before .before .if1 .left), le-ltb _ _ (c .before .before .before .if2 .left), lt-ltb _ _ (c .before .if3 .left), ne-eqb _ _ (c .if4 .taken))
 
--- src/lib.rt:248:1
 returns-5 : tie.Need-returns-5
 unfolding entryAnswer
 returns-5 c = rw (le-ltb _ _ (c .before .before .before .before .if1 .left), le-ltb _ _ (c .before .before .before .if2 .left), lt-ltb _ _ (c .before .if3 .left), eq-eqb _ _ (c .if4 .left))

@@ -39,29 +39,23 @@ module _ (c : tie.After-step Inv-loop μ-loop) (x : Unread) (S : Walkable (table
   step-is : outcome (c .step .result) ≡ stepped (table (entry c) x) (stateOf (c .before .before .before .before .loop .last .run)) (c .before .before .before .before .loop .last .run .cost) (getD (entry c .args .blocks .now) (c .before .before .before .before .loop .i) 0)
   step-is = c .step .ensures x S (standing before-step (omega (arith, in-walk c, entry c .pre .short)))
 
--- src/lib.rt:281:26
 shared-slice-read-start : tie.Need-shared-slice-read-start Inv-loop μ-loop
 shared-slice-read-start c = omega (arith, c .before .before .before .before .before .before .before .before .pre .walkable .ranged .sized .some-block)
 
--- src/lib.rt:281:9
 start-requires : tie.Need-start-requires Inv-loop μ-loop
 start-requires c κs = tt
 
--- src/lib.rt:285:5
 loop-holds : tie.Need-loop-holds Inv-loop μ-loop
 loop-holds c = λ x S.
     let s = c .before .before .before .before .before .before .before .before .before in
     underway-first (table s x) (s .args .around .now) S (s .args .blocks .now) (c .start .result) (s .pre .some) (s .pre .first) (c .start .ensures .0) (c .start .ensures .1)
 
--- src/lib.rt:287:76
 mul-step : tie.Need-mul-step Inv-loop μ-loop
 mul-step c = search needs
 
--- src/lib.rt:287:76
 shared-slice-read-step : tie.Need-shared-slice-read-step Inv-loop μ-loop
 shared-slice-read-step c = search needs
 
--- src/lib.rt:287:9
 step-requires : tie.Need-step-requires Inv-loop μ-loop
 step-requires c κs =
     let p = c .before .before .before .before .before .before .before .before .before .before .before .before .before .pre in
@@ -71,11 +65,9 @@ step-requires c κs =
 enum-told : tie.Need-enum-told Inv-loop μ-loop
 enum-told c = search needs
 
--- src/lib.rt:291:32
 enum-told-2 : tie.Need-enum-told-2 Inv-loop μ-loop
 enum-told-2 c = search needs
 
--- src/lib.rt:291:32
 returns : tie.Need-returns Inv-loop μ-loop
 returns c = λ x S.
     let d = c .before .before in
@@ -83,11 +75,9 @@ returns c = λ x S.
     let loop = d .before .before .before .before .loop in
     stop-no-block (table s x) (s .args .around .now) S (s .args .blocks .now) (loop .last .run) (loop .i) (before-step d x S) (in-walk d) (d .step .result) (step-is d x S) (search needs)
 
--- src/lib.rt:292:34
 enum-told-3 : tie.Need-enum-told-3 Inv-loop μ-loop
 enum-told-3 c = search needs
 
--- src/lib.rt:292:34
 returns-2 : tie.Need-returns-2 Inv-loop μ-loop
 returns-2 c = λ x S.
     let d = c .before .before in
@@ -95,11 +85,9 @@ returns-2 c = λ x S.
     let loop = d .before .before .before .before .loop in
     stop-after-exit (table s x) (s .args .around .now) S (s .args .blocks .now) (loop .last .run) (loop .i) (before-step d x S) (in-walk d) (d .step .result) (step-is d x S) (search needs)
 
--- src/lib.rt:293:31
 enum-told-4 : tie.Need-enum-told-4 Inv-loop μ-loop
 enum-told-4 c = search needs
 
--- src/lib.rt:293:31
 returns-3 : tie.Need-returns-3 Inv-loop μ-loop
 returns-3 c = λ x S.
     let d = c .before .before in
@@ -107,11 +95,9 @@ returns-3 c = λ x S.
     let loop = d .before .before .before .before .loop in
     stop-no-edge (table s x) (s .args .around .now) S (s .args .blocks .now) (loop .last .run) (loop .i) (before-step d x S) (in-walk d) (d .step .result) (step-is d x S) (search needs)
 
--- src/lib.rt:294:34
 enum-told-5 : tie.Need-enum-told-5 Inv-loop μ-loop
 enum-told-5 c = search needs
 
--- src/lib.rt:294:34
 returns-4 : tie.Need-returns-4 Inv-loop μ-loop
 returns-4 c = λ x S.
     let d = c .before .before in
@@ -119,15 +105,12 @@ returns-4 c = λ x S.
     let loop = d .before .before .before .before .loop in
     stop-over-limit (table s x) (s .args .around .now) S (s .args .blocks .now) (loop .last .run) (loop .i) (before-step d x S) (in-walk d) (d .step .result) (step-is d x S) (search needs)
 
--- src/lib.rt:296:9
 add-i : tie.Need-add-i Inv-loop μ-loop
 add-i c = search needs
 
--- src/lib.rt:285:5
 loop-less : tie.Need-loop-less Inv-loop μ-loop
 loop-less c = search needs
 
--- src/lib.rt:285:5
 loop-again : tie.Need-loop-again Inv-loop μ-loop
 loop-again c = λ x S.
     let d = c .before .before in
@@ -135,13 +118,11 @@ loop-again c = λ x S.
     let loop = d .before .before .before .before .loop in
     underway-next (table s x) (s .args .around .now) S (s .args .blocks .now) (loop .last .run) (loop .i) (before-step d x S) (in-walk d) (d .step .result) (step-is d x S) (search needs)
 
--- src/lib.rt:299:5
 finish-requires : tie.Need-finish-requires Inv-loop μ-loop
 finish-requires c κs =
     let p = c .before .before .before .before .before .before .before .before .before .before .before .before .pre in
     (omega (arith, p .walkable .ranged .sized .some-block), c .before .before .loop .inv (p .unread) (p .walkable) .some)
 
--- src/lib.rt:268:1
 returns-5 : tie.Need-returns-5 Inv-loop μ-loop
 returns-5 c = λ x S.
     let s = c .before .before .before .before .before .before .before .before .before .before .before .before .before in

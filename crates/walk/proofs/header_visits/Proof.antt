@@ -7,23 +7,18 @@ use Rattle.walk.proofs.header_visits.Reads as reads
 use Rattle.walk.proofs.header_visits.Lts as lts
 use Rattle.walk.proofs.count_of.Reads as count-of-reads
 
--- src/lib.rt:171:9
 returns : tie.Need-returns
 returns c = search needs
 
--- src/lib.rt:173:17
 count-of-requires : tie.Need-count-of-requires
 count-of-requires c κs = search needs
 
--- src/lib.rt:173:17
 add-result : tie.Need-add-result
 add-result c = record { fits = omega (arith, c .before .count-of .ensures, count-most (c .before .before .before .args .counts .now) (c .before .before .before .args .l)) }
 
--- src/lib.rt:166:1
 returns-2 : tie.Need-returns-2
 returns-2 c = rw (c .before .before .if1 .left, c .if2 .taken, c .before .count-of .ensures)
 
--- src/lib.rt:166:1
 returns-3 : tie.Need-returns-3
 returns-3 c = rw (c .before .before .if1 .left, c .if2 .left)
 

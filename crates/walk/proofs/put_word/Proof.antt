@@ -15,27 +15,21 @@ Inv-loop counts₀ k word j₀ counts j = (j ≤ 16) × (j ≤ k → counts ≡ 
 abbrev μ-loop : tie.MeasureT-loop
 μ-loop counts₀ k word j₀ counts j = 16 - j
 
--- src/lib.rt:114:5
 loop-holds : tie.Need-loop-holds Inv-loop μ-loop
 loop-holds c = (omega arith, λ h. refl, λ h. absurd (omega arith))
 
--- src/lib.rt:116:13
 mul-counts : tie.Need-mul-counts Inv-loop μ-loop
 mul-counts c = search needs
 
--- src/lib.rt:116:13
 element-write-counts : tie.Need-element-write-counts Inv-loop μ-loop
 element-write-counts c = search needs
 
--- src/lib.rt:118:9
 add-j : tie.Need-add-j Inv-loop μ-loop
 add-j c = search needs
 
--- src/lib.rt:114:5
 loop-less : tie.Need-loop-less Inv-loop μ-loop
 loop-less c = search needs
 
--- src/lib.rt:114:5
 loop-again : tie.Need-loop-again Inv-loop μ-loop
 loop-again c =
     let loop = c .before .before .loop in (
@@ -44,7 +38,6 @@ loop-again c =
       λ h. ⊎-elim (λ w. w .1 ∙ rw (w .0 .taken, loop .inv .1 (omega (arith, w .0 .taken)))) (λ w. w .1 ∙ loop .inv .2 (omega (arith, w .0 .left))) (c .if1 .came),
     )
 
--- src/lib.rt:109:1
 returns : tie.Need-returns Inv-loop μ-loop
 returns c = c .before .loop .inv .2 (omega arith)
 

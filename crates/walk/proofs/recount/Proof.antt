@@ -34,38 +34,30 @@ count-is c = ⊎-elim (λ w. w .1 ∙ rw (eq-eqb _ _ (w .0 .taken))) (λ w. w .1
 count-most : (c : tie.Joined1 Inv-loop μ-loop) → c .if1 .count ≤ 65535
 count-most c = ⊎-elim (λ w. omega (arith, w .1)) (λ w. omega (arith, w .1)) (c .if1 .came)
 
--- src/lib.rt:169:9
 recounted-requires : tie.Need-recounted-requires Inv-loop μ-loop
 recounted-requires c κs = search needs
 
--- src/lib.rt:170:9
 lowest-requires : tie.Need-lowest-requires Inv-loop μ-loop
 lowest-requires c κs = search needs
 
--- src/lib.rt:171:5
 loop-holds : tie.Need-loop-holds Inv-loop μ-loop
 loop-holds c = (c .before .before .pre .0, c .lowest .ensures, λ j h. refl)
 
--- src/lib.rt:173:9
 set-count-requires : tie.Need-set-count-requires Inv-loop μ-loop
 set-count-requires c κs = (c .before .before .before .loop .inv .0, omega arith, count-most (c .before))
 
--- src/lib.rt:174:9
 without-loop-requires : tie.Need-without-loop-requires Inv-loop μ-loop
 without-loop-requires c κs = search needs
 
--- src/lib.rt:175:9
 lowest-requires-2 : tie.Need-lowest-requires-2 Inv-loop μ-loop
 lowest-requires-2 c κs = search needs
 
--- src/lib.rt:171:5
 loop-less : tie.Need-loop-less Inv-loop μ-loop
 loop-less c =
     let a = c .before .before .before .before .before .before .before .before .before .args in
     let loop = c .before .before .before .before .before .before .loop in
     omega (arith, rises (a .l) (a .visits) (loop .counts) (loop .rest) (loop .k) (loop .inv .1) (c .before .without-loop .result) (omega (arith, c .before .before .before .before .before .loop-test .taken)) (c .before .without-loop .ensures) (c .lowest2 .result) (c .lowest2 .ensures))
 
--- src/lib.rt:171:5
 loop-again : tie.Need-loop-again Inv-loop μ-loop
 loop-again c =
     let a = c .before .before .before .before .before .before .before .before .before .args in
@@ -79,7 +71,6 @@ loop-again c =
           (λ i. set .ensures .1 i ∙ rw (count-is (c .before .before .before .before))) j h,
     )
 
--- src/lib.rt:165:1
 returns : tie.Need-returns Inv-loop μ-loop
 returns c =
     let a = c .before .before .before .before .args in

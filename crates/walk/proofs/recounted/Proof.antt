@@ -7,15 +7,12 @@ use Rattle.walk.proofs.recounted.Reads as reads
 use Rattle.walk.proofs.recounted.Lts as lts
 use Rattle.loopsets.proofs.LoopSet.with.Reads as with-reads
 
--- src/lib.rt:161:36
 with-requires : tie.Need-with-requires
 with-requires c κs = search needs
 
--- src/lib.rt:157:1
 returns : tie.Need-returns
 returns c = λ k. rw (c .if1 .taken)
 
--- src/lib.rt:157:1
 returns-2 : tie.Need-returns-2
 returns-2 c = λ k. c .with .ensures k ∙ rw (ne-eqb _ _ (c .before .if1 .left))
 

@@ -11,41 +11,32 @@ use Rattle.walk.proofs.set_count.Lts as lts
 use Rattle.walk.proofs.put_word.Reads as put-word-reads
 use Rattle.walk.proofs.word_at.Reads as word-at-reads
 
--- src/lib.rt:154:9
 word-at-requires : tie.Need-word-at-requires
 word-at-requires c κs = search needs
 
--- src/lib.rt:155:17
 mul-shift : tie.Need-mul-shift
 mul-shift c = search needs
 
--- src/lib.rt:156:16
 shr-old : tie.Need-shr-old
 shr-old c = search needs
 
--- src/lib.rt:160:17
 shl-new : tie.Need-shl-new
 shl-new c = search needs
 
--- src/lib.rt:160:9
 sub-new : tie.Need-sub-new
 sub-new c = part-least (c .word-at .result) (c .before .before .args .l % 4) (omega arith)
 
--- src/lib.rt:160:34
 shl-new-2 : tie.Need-shl-new-2
 shl-new-2 c = search needs
 
--- src/lib.rt:160:9
 add-new : tie.Need-add-new
 add-new c =
     let a = c .before .before .args in
     record { fits = with-fits (c .word-at .result) (a .l % 4) (a .count) (omega arith) (omega arith) (c .word-at .ok) }
 
--- src/lib.rt:157:5
 put-word-requires : tie.Need-put-word-requires
 put-word-requires c κs = search needs
 
--- src/lib.rt:150:1
 returns : tie.Need-returns
 returns c =
     let s = c .before .before .before .before in

@@ -26,60 +26,48 @@ entered c = search needs
 walkable : (c : tie.After-around2) → Walkable (table (c .before .before .before .before .before .before .before .before .before .before .before .before .before .before .before .before .before)) (c .before .before .before .before .before .before .before .check-structure .result .around)
 walkable c = search keeps
 
--- src/lib.rt:317:9
 check-structure-requires : tie.Need-check-structure-requires
 check-structure-requires c κs = search needs
 
--- src/lib.rt:329:30
 enum-known-answer : tie.Need-enum-known-answer
 enum-known-answer c = search needs
 
--- src/lib.rt:330:9
 returns : tie.Need-returns
 returns c = search reply-structure
 
 enum-told : tie.Need-enum-told
 enum-told c = search needs
 
--- src/lib.rt:332:9
 first-block-requires : tie.Need-first-block-requires
 first-block-requires c κs = search needs
 
 enum-told-2 : tie.Need-enum-told-2
 enum-told-2 c = search needs
 
--- src/lib.rt:335:26
 enum-told-3 : tie.Need-enum-told-3
 enum-told-3 c = search needs
 
--- src/lib.rt:335:26
 returns-2 : tie.Need-returns-2
 returns-2 c = search reply-length
 
--- src/lib.rt:336:27
 enum-told-4 : tie.Need-enum-told-4
 enum-told-4 c = search needs
 
--- src/lib.rt:336:27
 returns-3 : tie.Need-returns-3
 returns-3 c = search reply-no-block
 
--- src/lib.rt:337:28
 enum-told-5 : tie.Need-enum-told-5
 enum-told-5 c = search needs
 
--- src/lib.rt:337:28
 returns-4 : tie.Need-returns-4
 returns-4 c = search reply-not-entry
 
--- src/lib.rt:340:5
 follow-requires : tie.Need-follow-requires
 follow-requires c κs =
     let s = c .before .before .before .before .before .before .before .before .before .before .before .before .before .before .before .before .before in
     let first = starts (length (s .args .cost .now)) (s .args .blocks .now) (sym (c .before .before .before .before .first-block .ensures) ∙ entered (c .before .before)) in
     record { unread = unread s; walkable = walkable c; some = first .0; short = first .1; first = first .2 }
 
--- src/lib.rt:303:1
 returns-5 : tie.Need-returns-5
 returns-5 c = search (reply-follow, c .follow .ensures (unread (c .before .before .before .before .before .before .before .before .before .before .before .before .before .before .before .before .before .before)) (walkable (c .before)))
 

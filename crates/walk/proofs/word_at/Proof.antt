@@ -15,27 +15,21 @@ Inv-loop counts k word₀ j₀ word j = (j ≤ 16) × (k < j → word ≡ getD c
 abbrev μ-loop : tie.MeasureT-loop
 μ-loop counts k word₀ j₀ word j = 16 - j
 
--- src/lib.rt:100:5
 loop-holds : tie.Need-loop-holds Inv-loop μ-loop
 loop-holds c = (omega arith, λ h. absurd (omega arith))
 
--- src/lib.rt:102:20
 mul-word : tie.Need-mul-word Inv-loop μ-loop
 mul-word c = search needs
 
--- src/lib.rt:102:20
 element-copy-out-word : tie.Need-element-copy-out-word Inv-loop μ-loop
 element-copy-out-word c = search needs
 
--- src/lib.rt:104:9
 add-j : tie.Need-add-j Inv-loop μ-loop
 add-j c = search needs
 
--- src/lib.rt:100:5
 loop-less : tie.Need-loop-less Inv-loop μ-loop
 loop-less c = search needs
 
--- src/lib.rt:100:5
 loop-again : tie.Need-loop-again Inv-loop μ-loop
 loop-again c =
     let loop = c .before .before .loop in (
@@ -44,7 +38,6 @@ loop-again c =
           ⊎-elim (λ w. w .2 ∙ ap (λ (x : ℕ). getD (c .before .before .before .args .counts .now) x 0) (w .0 .taken)) (λ w. w .1 ∙ loop .inv .1 (omega (arith, w .0 .left))) (c .if1 .came),
     )
 
--- src/lib.rt:94:1
 returns : tie.Need-returns Inv-loop μ-loop
 returns c = c .before .loop .inv .1 (omega arith)
 

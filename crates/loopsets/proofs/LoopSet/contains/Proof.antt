@@ -6,11 +6,9 @@ use Rattle.loopsets.proofs.LoopSet.contains.Tie as tie
 use Rattle.loopsets.proofs.LoopSet.contains.Reads as reads
 use Rattle.loopsets.proofs.LoopSet.contains.Lts as lts
 
--- src/lib.rt:22:10
 shr-result : tie.Need-shr-result
 shr-result c = search needs
 
--- src/lib.rt:18:5
 returns : tie.Need-returns
 unfolding member
 returns c = test-has _ _

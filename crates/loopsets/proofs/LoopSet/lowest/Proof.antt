@@ -7,11 +7,9 @@ use Rattle.loopsets.proofs.LoopSet.lowest.Tie as tie
 use Rattle.loopsets.proofs.LoopSet.lowest.Reads as reads
 use Rattle.loopsets.proofs.LoopSet.lowest.Lts as lts
 
--- src/lib.rt:56:9
 cast-result : tie.Need-cast-result
 cast-result c = omega (arith, trailing-le 64 (c .before .args .self .word))
 
--- src/lib.rt:53:5
 returns : tie.Need-returns
 unfolding member
 returns c =

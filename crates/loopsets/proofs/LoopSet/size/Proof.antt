@@ -6,7 +6,6 @@ use Rattle.loopsets.proofs.LoopSet.size.Tie as tie
 use Rattle.loopsets.proofs.LoopSet.size.Reads as reads
 use Rattle.loopsets.proofs.LoopSet.size.Lts as lts
 
--- src/lib.rt:45:5
 returns : tie.Need-returns
 unfolding member
 returns c = ones-count 64 _ (omega arith)

@@ -9,11 +9,9 @@ use Rattle.loopsets.proofs.LoopSet.with.Tie as tie
 use Rattle.loopsets.proofs.LoopSet.with.Reads as reads
 use Rattle.loopsets.proofs.LoopSet.with.Lts as lts
 
--- src/lib.rt:31:20
 shl-t4 : tie.Need-shl-t4
 shl-t4 c = search needs
 
--- src/lib.rt:26:5
 returns : tie.Need-returns
 unfolding member
 returns c = λ k. has-or (1 * 2 ^ c .before .args .l % 2 ^ 64) (c .before .args .self .word) k ∙ rw (has-shl 64 (c .before .args .l) k (omega arith))

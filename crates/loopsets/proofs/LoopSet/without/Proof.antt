@@ -6,7 +6,6 @@ use Rattle.loopsets.proofs.LoopSet.without.Tie as tie
 use Rattle.loopsets.proofs.LoopSet.without.Reads as reads
 use Rattle.loopsets.proofs.LoopSet.without.Lts as lts
 
--- src/lib.rt:36:5
 returns : tie.Need-returns
 unfolding member
 returns c = λ k h. has-and-not 64 _ _ k (omega arith) h

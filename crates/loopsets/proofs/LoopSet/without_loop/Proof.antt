@@ -9,11 +9,9 @@ use Rattle.loopsets.proofs.LoopSet.without_loop.Tie as tie
 use Rattle.loopsets.proofs.LoopSet.without_loop.Reads as reads
 use Rattle.loopsets.proofs.LoopSet.without_loop.Lts as lts
 
--- src/lib.rt:65:33
 shl-t4 : tie.Need-shl-t4
 shl-t4 c = search needs
 
--- src/lib.rt:60:5
 returns : tie.Need-returns
 unfolding member
 returns c = λ k h. has-and-not 64 (c .before .args .self .word) (1 * 2 ^ c .before .args .l % 2 ^ 64) k (omega arith) h ∙ rw (has-shl 64 (c .before .args .l) k (omega arith))

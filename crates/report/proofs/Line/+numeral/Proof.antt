@@ -19,7 +19,6 @@ numeral-at t = and 0 numeral-kinds.ps (is 0 numeral-kinds.ps μ-numeral t) numer
 abbrev numeral-below : ℕ → In 0 numeral-kinds.ps
 numeral-below t = and 0 numeral-kinds.ps (falls 0 numeral-kinds.ps _<_ μ-numeral t) numeral.Pre
 
--- src/lib.rt:271:35
 numeral-cast-byte : (t : ℕ) → numeral-lts.Need-cast-byte (
   byte-reads.Asked,
   byte-reads.Learnt,
@@ -28,7 +27,6 @@ numeral-cast-byte : (t : ℕ) → numeral-lts.Need-cast-byte (
 ) (numeral-at t) numeral.Post
 numeral-cast-byte t c = omega (arith, c .if1 .taken)
 
--- src/lib.rt:271:30
 numeral-add-byte : (t : ℕ) → numeral-lts.Need-add-byte (
   byte-reads.Asked,
   byte-reads.Learnt,
@@ -37,7 +35,6 @@ numeral-add-byte : (t : ℕ) → numeral-lts.Need-add-byte (
 ) (numeral-at t) numeral.Post
 numeral-add-byte t c = omega (arith, c .if1 .taken)
 
--- src/lib.rt:271:13
 numeral-byte-requires : (t : ℕ) → numeral-lts.Need-byte-requires (
   byte-reads.Asked,
   byte-reads.Learnt,
@@ -46,7 +43,6 @@ numeral-byte-requires : (t : ℕ) → numeral-lts.Need-byte-requires (
 ) (numeral-at t) numeral.Post
 numeral-byte-requires t c κs = room-only (c .before .args .self) (c .before .args .n) (c .if1 .taken) (c .before .pre .1)
 
--- src/lib.rt:271:13
 numeral-returns : (t : ℕ) → numeral-lts.Need-returns (
   byte-reads.Asked,
   byte-reads.Learnt,
@@ -55,7 +51,6 @@ numeral-returns : (t : ℕ) → numeral-lts.Need-returns (
 ) (numeral-at t) numeral.Post
 numeral-returns t c = rw (numeral-one (c .before .before .args .n) (c .before .if1 .taken)) (c .byte .ensures)
 
--- src/lib.rt:273:13
 numeral-numeral-requires : (t : ℕ) → numeral-lts.Need-numeral-requires (
   byte-reads.Asked,
   byte-reads.Learnt,
@@ -64,7 +59,6 @@ numeral-numeral-requires : (t : ℕ) → numeral-lts.Need-numeral-requires (
 ) (numeral-at t) numeral.Post
 numeral-numeral-requires t c κs = (rw (← c .before .pre .0) (omega (arith, c .if1 .left)), room-front (c .before .args .self) (c .before .args .n) (c .if1 .left) (c .before .pre .1))
 
--- src/lib.rt:274:24
 numeral-cast-byte-2 : (t : ℕ) → numeral-lts.Need-cast-byte-2 (
   byte-reads.Asked,
   byte-reads.Learnt,
@@ -73,7 +67,6 @@ numeral-cast-byte-2 : (t : ℕ) → numeral-lts.Need-cast-byte-2 (
 ) (numeral-at t) numeral.Post
 numeral-cast-byte-2 t c = omega arith
 
--- src/lib.rt:274:19
 numeral-add-byte-2 : (t : ℕ) → numeral-lts.Need-add-byte-2 (
   byte-reads.Asked,
   byte-reads.Learnt,
@@ -82,7 +75,6 @@ numeral-add-byte-2 : (t : ℕ) → numeral-lts.Need-add-byte-2 (
 ) (numeral-at t) numeral.Post
 numeral-add-byte-2 t c = omega arith
 
--- src/lib.rt:274:9
 numeral-byte-requires-2 : (t : ℕ) → numeral-lts.Need-byte-requires-2 (
   byte-reads.Asked,
   byte-reads.Learnt,
@@ -91,7 +83,6 @@ numeral-byte-requires-2 : (t : ℕ) → numeral-lts.Need-byte-requires-2 (
 ) (numeral-at t) numeral.Post
 numeral-byte-requires-2 t c κs = room-last (c .before .before .args .self) (c .before .before .args .n) (c .before .if1 .left) (c .before .before .pre .1) (c .numeral .ensures)
 
--- src/lib.rt:266:5
 numeral-returns-2 : (t : ℕ) → numeral-lts.Need-returns-2 (
   byte-reads.Asked,
   byte-reads.Learnt,

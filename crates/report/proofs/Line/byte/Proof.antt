@@ -11,15 +11,12 @@ use Rattle.report.proofs.Line.byte.Lts as lts
 size : (s : tie.Start) → length (s .args .t1 .bytes) ≡ 64
 size s = search needs
 
--- src/lib.rt:247:9
 element-write-self : tie.Need-element-write-self
 element-write-self c = search needs
 
--- src/lib.rt:248:20
 add-self : tie.Need-add-self
 add-self c = search needs
 
--- src/lib.rt:242:5
 returns : tie.Need-returns
 returns c = record { size = omega arith; text = byte-text (c .args .t1) (c .args .b) (omega (arith, c .pre, size c)) }
 

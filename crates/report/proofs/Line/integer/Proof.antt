@@ -23,31 +23,24 @@ size c = c .magnitude .ensures ∙ ap natAbs (toZ-ofZ (c .before .before .before
 size-2 : (c : tie.After-magnitude2) → c .magnitude2 .result ≡ natAbs (c .before .before .args .z)
 size-2 c = c .magnitude2 .ensures ∙ ap natAbs (toZ-ofZ (c .before .before .fits .z))
 
--- src/lib.rt:330:17
 byte-requires : tie.Need-byte-requires
 byte-requires c κs = room-start (c .before .args .self) (with-sign c) (c .before .pre)
 
--- src/lib.rt:331:33
 magnitude-requires : tie.Need-magnitude-requires
 magnitude-requires c κs = tt
 
--- src/lib.rt:331:13
 numeral-requires : tie.Need-numeral-requires
 numeral-requires c κs = room-rest (c .before .before .before .args .self) (with-sign (c .before .before) ∙ ap (λ (n : ℕ). 45 ∷ numeralOf n) (sym (size c))) (c .before .before .before .pre) (c .before .byte .ensures)
 
--- src/lib.rt:331:13
 returns : tie.Need-returns
 returns c = rw (with-sign (c .before .before .before), ← size (c .before)) (wrote-both (45 ∷ []) (numeralOf (c .before .magnitude .result)) (c .before .before .byte .ensures) (c .numeral .ensures))
 
--- src/lib.rt:333:22
 magnitude-requires-2 : tie.Need-magnitude-requires-2
 magnitude-requires-2 c κs = tt
 
--- src/lib.rt:333:9
 numeral-requires-2 : tie.Need-numeral-requires-2
 numeral-requires-2 c κs = room-as (c .before .before .args .self) (without-sign (c .before) ∙ ap numeralOf (sym (size-2 c))) (c .before .before .pre)
 
--- src/lib.rt:325:5
 returns-2 : tie.Need-returns-2
 returns-2 c = rw (without-sign (c .before .before), ← size-2 (c .before)) (c .numeral2 .ensures)
 

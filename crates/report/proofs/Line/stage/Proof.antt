@@ -7,67 +7,51 @@ use Rattle.report.proofs.Line.stage.Tie as tie
 use Rattle.report.proofs.Line.stage.Reads as reads
 use Rattle.report.proofs.Line.stage.Lts as lts
 
--- src/lib.rt:332:41
 enum-told : tie.Need-enum-told
 enum-told c = search needs
 
--- src/lib.rt:332:41
 slice-aggregate-word : tie.Need-slice-aggregate-word
 slice-aggregate-word c = search needs
 
--- src/lib.rt:332:31
 word-requires : tie.Need-word-requires
 word-requires c κs = omega (arith, c .before .before .before .pre)
 
--- src/lib.rt:333:40
 enum-told-2 : tie.Need-enum-told-2
 enum-told-2 c = search needs
 
--- src/lib.rt:333:40
 slice-aggregate-word-2 : tie.Need-slice-aggregate-word-2
 slice-aggregate-word-2 c = search needs
 
--- src/lib.rt:333:30
 word-requires-2 : tie.Need-word-requires-2
 word-requires-2 c κs = omega (arith, c .before .before .before .pre)
 
--- src/lib.rt:334:39
 enum-told-3 : tie.Need-enum-told-3
 enum-told-3 c = search needs
 
--- src/lib.rt:334:39
 slice-aggregate-word-3 : tie.Need-slice-aggregate-word-3
 slice-aggregate-word-3 c = search needs
 
--- src/lib.rt:334:29
 word-requires-3 : tie.Need-word-requires-3
 word-requires-3 c κs = omega (arith, c .before .before .before .pre)
 
--- src/lib.rt:335:39
 enum-told-4 : tie.Need-enum-told-4
 enum-told-4 c = search needs
 
--- src/lib.rt:335:39
 slice-aggregate-word-4 : tie.Need-slice-aggregate-word-4
 slice-aggregate-word-4 c = search needs
 
--- src/lib.rt:335:29
 word-requires-4 : tie.Need-word-requires-4
 word-requires-4 c κs = omega (arith, c .before .before .before .pre)
 
--- src/lib.rt:327:5
 returns : tie.Need-returns
 returns c = stage-told (c .before .before .before .before .args .stage) Setting (search needs) (c .word .ensures)
 
--- src/lib.rt:327:5
 returns-2 : tie.Need-returns-2
 returns-2 c = stage-told (c .before .before .before .before .args .stage) Blocks (search needs) (c .word2 .ensures)
 
--- src/lib.rt:327:5
 returns-3 : tie.Need-returns-3
 returns-3 c = stage-told (c .before .before .before .before .args .stage) Loops (search needs) (c .word3 .ensures)
 
--- src/lib.rt:327:5
 returns-4 : tie.Need-returns-4
 returns-4 c = stage-told (c .before .before .before .before .args .stage) Table (search needs) (c .word4 .ensures)
 

@@ -15,31 +15,24 @@ Inv-loop w line₀ i₀ line i = (i ≤ length w) × Room line₀ w × Wrote lin
 abbrev μ-loop : tie.MeasureT-loop
 μ-loop w line₀ i₀ line i = length w - i
 
--- src/lib.rt:258:9
 loop-holds : tie.Need-loop-holds Inv-loop μ-loop
 loop-holds c = (omega arith, c .before .pre, wrote-none (c .before .args .self))
 
--- src/lib.rt:259:30
 shared-slice-read-byte : tie.Need-shared-slice-read-byte Inv-loop μ-loop
 shared-slice-read-byte c = search needs
 
--- src/lib.rt:259:13
 byte-requires : tie.Need-byte-requires Inv-loop μ-loop
 byte-requires c κs = room-next _ _ (c .before .loop-test .taken) (c .before .before .loop .inv .2) (c .before .before .loop .inv .1)
 
--- src/lib.rt:260:13
 add-i : tie.Need-add-i Inv-loop μ-loop
 add-i c = search needs
 
--- src/lib.rt:258:9
 loop-less : tie.Need-loop-less Inv-loop μ-loop
 loop-less c = search needs
 
--- src/lib.rt:258:9
 loop-again : tie.Need-loop-again Inv-loop μ-loop
 loop-again c = (omega (arith, c .before .before .loop-test .taken), c .before .before .before .loop .inv .1, word-more _ _ (c .before .before .loop-test .taken) (c .before .before .before .loop .inv .2) (c .byte .ensures))
 
--- src/lib.rt:252:5
 returns : tie.Need-returns Inv-loop μ-loop
 returns c = word-whole _ _ (c .loop-test .left) (c .before .loop .inv .2)
 

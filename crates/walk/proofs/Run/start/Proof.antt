@@ -6,11 +6,9 @@ use Rattle.walk.proofs.Run.start.Tie as tie
 use Rattle.walk.proofs.Run.start.Reads as reads
 use Rattle.walk.proofs.Run.start.Lts as lts
 
--- src/lib.rt:205:9
 array-write-counts : tie.Need-array-write-counts
 array-write-counts c = search needs
 
--- src/lib.rt:201:5
 returns : tie.Need-returns
 returns c = (start-is (c .args .cost), refl)
 

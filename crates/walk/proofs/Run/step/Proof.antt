@@ -57,76 +57,59 @@ visits c x S stands =
     visits-found (table s x) (s .args .around .now) S (stateOf (s .args .t1)) (s .args .v) (stands .at-block) (on (found c) x S .there) (here .result) (c .before .contains .result) (c .header-visits .result)
     (here .ensures) (c .before .contains .ensures) (c .header-visits .ensures)
 
--- src/lib.rt:222:20
 cast-from : tie.Need-cast-from
 cast-from c = search needs
 
--- src/lib.rt:224:13
 edge-answer-requires : tie.Need-edge-answer-requires
 edge-answer-requires c κs = search needs
 
 enum-told : tie.Need-enum-told
 enum-told c = search needs
 
--- src/lib.rt:226:13
 returns : tie.Need-returns
 returns c = λ x S stands.
     let s = c .before .before .before .before .before .before .before .before in
     step-refused (table s x) (S .ranged .sized .few-blocks) (stateOf (s .args .t1)) (s .args .t1 .cost) (s .args .v) (c .before .edge-answer .result) (c .before .edge-answer .ensures) (c .match .keys2)
 
--- src/lib.rt:228:17
 mul-l : tie.Need-mul-l
 mul-l c = search needs
 
--- src/lib.rt:228:17
 shared-slice-read-l : tie.Need-shared-slice-read-l
 shared-slice-read-l c = omega (arith, passed (c .before))
 
--- src/lib.rt:228:17
 cast-l : tie.Need-cast-l
 cast-l c = omega (arith, passed (c .before))
 
--- src/lib.rt:229:45
 mul-set-at : tie.Need-mul-set-at
 mul-set-at c = search needs
 
--- src/lib.rt:229:45
 shared-slice-read-set-at : tie.Need-shared-slice-read-set-at
 shared-slice-read-set-at c = search needs
 
--- src/lib.rt:229:45
 cast-set-at : tie.Need-cast-set-at
 cast-set-at c = omega (arith, passed (c .before .before))
 
--- src/lib.rt:229:13
 set-at-requires : tie.Need-set-at-requires
 set-at-requires c κs = omega (arith, passed (c .before .before))
 
--- src/lib.rt:230:53
 mul-header-visits : tie.Need-mul-header-visits
 mul-header-visits c = omega (arith, passed (c .before .before .before .before .before))
 
--- src/lib.rt:230:53
 shared-slice-read-header-visits : tie.Need-shared-slice-read-header-visits
 shared-slice-read-header-visits c = omega (arith, passed (c .before .before .before .before .before .before))
 
--- src/lib.rt:230:69
 contains-requires : tie.Need-contains-requires
 contains-requires c κs = omega (arith, passed (c .before .before .before .before .before .before))
 
--- src/lib.rt:230:13
 header-visits-requires : tie.Need-header-visits-requires
 header-visits-requires c κs = omega (arith, passed (c .before .before .before .before .before .before .before))
 
--- src/lib.rt:231:12
 mul-if1 : tie.Need-mul-if1
 mul-if1 c = omega (arith, passed (found c))
 
--- src/lib.rt:231:12
 shared-slice-read-if1 : tie.Need-shared-slice-read-if1
 shared-slice-read-if1 c = omega (arith, passed (found (c .before)))
 
--- src/lib.rt:233:13
 returns-2 : tie.Need-returns-2
 returns-2 c = λ x S stands.
     let p = c .before .before in
@@ -135,37 +118,29 @@ returns-2 c = λ x S stands.
     step-over-limit (table s x) (stateOf (s .args .t1)) (s .args .t1 .cost) (s .args .v) E
     (limit-next (table s x) (s .args .around .now) S (stateOf (s .args .t1)) (s .args .v) (stands .at-block) (E .there) (stands .within) ∙ rw (← visits p x S stands) (lt-ltb _ _ (c .if1 .taken)))
 
--- src/lib.rt:237:26
 set-at-requires-2 : tie.Need-set-at-requires-2
 set-at-requires-2 c κs = omega (arith, passed (found (c .before .before)))
 
--- src/lib.rt:237:13
 without-requires : tie.Need-without-requires
 without-requires c κs = search needs
 
--- src/lib.rt:235:9
 recount-requires : tie.Need-recount-requires
 recount-requires c κs =
     let p = found (c .before .before .before .before .before) in
     (size (entry p), omega (arith, passed p), omega (arith, passed p))
 
--- src/lib.rt:242:22
 mul-self : tie.Need-mul-self
 mul-self c = omega (arith, passed (found (counted c)))
 
--- src/lib.rt:242:22
 shared-slice-read-self : tie.Need-shared-slice-read-self
 shared-slice-read-self c = omega (arith, passed (found (counted (c .before))))
 
--- src/lib.rt:242:22
 cast-self : tie.Need-cast-self
 cast-self c = omega (arith, passed (found (counted (c .before))))
 
--- src/lib.rt:242:9
 add-self : tie.Need-add-self
 add-self c = omega (arith, passed (found (counted (c .before))))
 
--- src/lib.rt:208:5
 returns-3 : tie.Need-returns-3
 returns-3 c = λ x S stands.
     let p = counted (c .before) in
