@@ -1,19 +1,19 @@
 -- What the code finds out in a step, and what the definition says of it. Assumes nothing.
 use mathlib.Core.Path.{_≡_, refl, sym, _∙_, ap, ap₂, fun-ext}
 use mathlib.Core.Bool.{Bool, true, false, not, _&&_, _||_, and-false}
-use mathlib.Core.List.{List}
+use mathlib.Core.List.{List, _∷_}
 use mathlib.Core.Logic.{_⊎_, inl, inr}
 use Prim.Native.Nat.{ℕ, _+_, _-_, _*_, _≤_, _<_}
 use native.Mathlib.Decide.{ℕ-discrete}
 use native.Mathlib.Omega.{arith}
 use lib.Dec.{eqb, ltb}
 use borrow.Author.Tests.{eq-eqb, ne-eqb, lt-ltb, le-ltb, eqb-false, ltb-true, ltb-false}
-use lib.ListN.{length, List·getD-eq-default}
+use lib.ListN.{length, List·getD-eq-default, replicate}
 use denote.Enum.Declared.{tagOf}
 use Rattle.lists.specs.Search.{if_then_else_}
 use Rattle.wcet.specs.Table.{Routine, blockCount, loopCount, exit, missing, cost, loopOf, first, second, header, limit, someEdge, edge, inside}
 use Rattle.wcet.specs.Rules.{isHeader}
-use Rattle.wcet.specs.Run.{State, leaves, nextCount, next, passesLimit}
+use Rattle.wcet.specs.Run.{State, leaves, nextCount, next, passesLimit, start}
 use Rattle.wcet.specs.Walk.{longestWalk}
 use Rattle.wcet.proofs.Potential.{inside-own}
 use Rattle.wcet.proofs.Around.{header-of}
@@ -24,10 +24,11 @@ use Rattle.loopsets.specs.declared.LoopSet.{LoopSet}
 use Rattle.walk.specs.declared.Run.{Run}
 use Rattle.walk.specs.declared.Answer.{Answer}
 use Rattle.walk.specs.declared.Answer.the-variants.{Moved, NoBlock, AfterExit, NoEdge, OverLimit}
-use Rattle.walk.specs.Step.{countIn, Outcome, refusing, stepped, edgeAnswer, headerVisits, countAfter, Walkable, Standing}
+use Rattle.walk.specs.Step.{Outcome, refusing, stepped, edgeAnswer, Walkable, Standing, stateOf}
+use Rattle.counts.specs.Counts.{countIn, headerVisits, countAfter}
 use Rattle.walk.proofs.Answer.{the-type}
 use Rattle.walk.proofs.Facts.{nesting, not-entry}
-use Rattle.walk.proofs.Counts.{past-loops}
+use Rattle.counts.proofs.Counts.{first-counts, past-loops}
 
 -- ---- the edge
 
@@ -223,3 +224,7 @@ module _ (t : Routine) (s : State) (c v : ℕ) (E : OnEdge t (s .block) v) where
       → record { state = record { block = v; count = counts }; spent = c + cost t v; answer = a } ≡ stepped t s c v
   unfolding stepped next
   step-moved e a m counts each = rw (lt-ltb v (blockCount t) (E .block), ne-eqb (s .block) (exit t) (E .on), E .there, e, m) (ap (λ (f : ℕ → ℕ). record { state = record { block = v; count = f }; spent = c + cost t v; answer = Moved }) (fun-ext each))
+
+pub start-is : (c : ℕ) → stateOf (record { at = 0; cost = c; counts = 1 ∷ replicate 15 0 }) ≡ start
+unfolding start
+start-is c = ap (λ (f : ℕ → ℕ). record { block = 0; count = f }) (fun-ext first-counts)

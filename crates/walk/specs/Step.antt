@@ -15,14 +15,11 @@ use Rattle.wcet.specs.Claim.{AllHold}
 use Rattle.nesting.specs.Columns.{routine, Ranged}
 use Rattle.loopsets.specs.Sets.{member, SetsAround}
 use Rattle.loopsets.specs.declared.LoopSet.{LoopSet}
+use Rattle.counts.specs.Counts.{countIn}
 use Rattle.walk.specs.declared.Run.{Run}
 use Rattle.walk.specs.declared.Answer.{Answer}
 use Rattle.walk.specs.declared.Answer.the-variants.{Moved, NoBlock, AfterExit, NoEdge, OverLimit}
 use Rattle.walk.specs.declared.Stepped.{Stepped}
-
--- the count of loop l: four counts of 16 bits to a word, the lowest loop in the lowest bits
-unfoldable pub countIn : List ℕ → ℕ → ℕ
-countIn words l = getD words (l / 4) 0 / 2 ^ (16 * (l % 4)) % 65536
 
 -- where the run stands, in the terms of document 01's definition: its block, and the count of every loop
 abbrev pub stateOf : Run → State
@@ -60,14 +57,6 @@ edgeAnswer n first second u v =
     if eqb u (n - 1) then AfterExit else
     if not (eqb first v || eqb second v) then NoEdge else
     Moved
-
--- the visits to the header of the loop that the step ends in, and 0 where it ends at another block
-abbrev pub headerVisits : ℕ → Bool → Bool → ℕ
-headerVisits count heading inside = if not heading then 0 else if inside then count + 1 else 1
-
--- the count c of loop k, where the loops of `left` are left and loop l's header has these visits
-abbrev pub countAfter : LoopSet → ℕ → ℕ → ℕ → ℕ → ℕ
-countAfter left l visits k c = if not (eqb visits 0) && eqb l k then visits else if member left k then 0 else c
 
 -- ---- what a step may rely on
 

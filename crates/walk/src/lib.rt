@@ -5,25 +5,23 @@ ghost use mathlib.Core.Bool.{not, _&&_, _||_};
 ghost use Prim.Native.Nat.{ℕ, _<_, _≤_};
 ghost use lib.Dec.{eqb};
 ghost use lib.ListN.{length, getD, set};
-ghost use Rattle.lists.specs.Search.{if_then_else_};
 ghost use Rattle.wcet.specs.Run.{start};
 ghost use Rattle.nesting.specs.Columns.{routine};
-ghost use Rattle.loopsets.specs.Sets.{member};
-ghost use Rattle.walk.specs.Step.{stateOf, countIn, edgeAnswer, headerVisits, countAfter, reading, Stands, Steps};
+ghost use Rattle.walk.specs.Step.{stateOf, edgeAnswer, reading, Stands, Steps};
 ghost use Rattle.walk.specs.Reply.{meaning, endOf, entryAnswer, Enters, Follows, WalkAnswered};
-use loopsets::LoopSet;
+use counts::Counts;
+use loopsets::Sets;
 use nesting::Structure;
 use nesting::StructureFault;
 
 // The longest walk that is accepted, in blocks.
 const LONGEST_WALK: usize = 1048576;
 
-// The state of a run: the block it stands at, the cost of its blocks, and for each loop the visits to its header in the present stay: four
-// counts of 16 bits to a word, loops 0 to 3 in the first, the lowest loop in the lowest bits.
+// The state of a run: the block it stands at, the cost of its blocks, and for each loop the visits to its header in the present stay.
 struct Run {
     at: u16,
     cost: u64,
-    counts: [u64; 16],
+    counts: Counts,
 }
 
 // What the first block answers.
@@ -89,91 +87,6 @@ fn edge_answer(n: usize, first: &[u16], second: &[u16], from: usize, v: u16) -> 
     Answer::Moved
 }
 
-// Word k of the counts. Here and in `put_word` a loop over all sixteen words, which the compiler unrolls, takes the place of `counts[k]`: so
-// it keeps each word by itself, and a state that is handed on by value is not copied.
-fn word_at(counts: &[u64; 16], k: usize) -> u64
-    requires { ⌜ k < 16 ⌝ }
-    ensures { λ r. ⌜ r ≡ getD (now (counts .entry)) k 0 ⌝ }
-{
-    let mut word = 0;
-    let mut j = 0;
-    while j < 16 {
-        if j == k {
-            word = counts[j];
-        }
-        j += 1;
-    }
-    word
-}
-
-fn put_word(counts: &mut [u64; 16], k: usize, word: u64)
-    requires { ⌜ k < 16 ⌝ }
-    ensures { λ r. ⌜ now (counts .exit) ≡ set (now (counts .entry)) k word ⌝ }
-{
-    let mut j = 0;
-    while j < 16 {
-        if j == k {
-            counts[j] = word;
-        }
-        j += 1;
-    }
-}
-
-// The count of loop l.
-fn count_of(counts: &[u64; 16], l: usize) -> u32
-    requires { ⌜ l < 64 ⌝ }
-    ensures { λ r. ⌜ r ≡ countIn (now (counts .entry)) l ⌝ }
-{
-    ((word_at(counts, l / 4) >> (16 * (l % 4))) % 65536) as u32
-}
-
-fn set_count(counts: &mut [u64; 16], l: usize, count: u32)
-    requires { ⌜ (length (now counts) ≡ 16) × (l < 64) × (count ≤ 65535) ⌝ }
-    ensures { λ r. ⌜ (length (now (counts .exit)) ≡ 16) × ((k : ℕ) → countIn (now (counts .exit)) k ≡ (if eqb k l then count else countIn (now (counts .entry)) k)) ⌝ }
-{
-    let word = word_at(counts, l / 4);
-    let shift = 16 * (l % 4);
-    let old = (word >> shift) % 65536;
-    let new = word - (old << shift) + ((count as u64) << shift);
-    put_word(counts, l / 4, new);
-}
-
-// The visits to the header of loop l in this stay, after a step to it: one more, and the first of a new stay where the step comes from
-// outside. 0 after a step to another block.
-fn header_visits(counts: &[u64; 16], l: usize, heading: bool, inside: bool) -> u32
-    requires { ⌜ l < 64 ⌝ }
-    ensures { λ r. ⌜ r ≡ headerVisits (countIn (now (counts .entry)) l) heading inside ⌝ }
-{
-    if !heading {
-        return 0;
-    }
-    let count = count_of(counts, l);
-    if inside { count + 1 } else { 1 }
-}
-
-// The loops whose count changes: those that are left, and l where its header is visited.
-fn recounted(left: LoopSet, l: usize, visits: u32) -> LoopSet
-    requires { ⌜ l < 64 ⌝ }
-    ensures { λ r. ⌜ ((k : ℕ) → member r k ≡ ((not (eqb visits 0) && eqb l k) || member left k)) ⌝ }
-{
-    if visits == 0 { left } else { left.with(l) }
-}
-
-// Sets the counts of the loops that are left to 0, and the count of loop l, where its header is visited, to these visits.
-fn recount(counts: &mut [u64; 16], left: LoopSet, l: usize, visits: u32)
-    requires { ⌜ (length (now counts) ≡ 16) × (l < 64) × (visits ≤ 65535) ⌝ }
-    ensures { λ r. ⌜ (length (now (counts .exit)) ≡ 16) × ((k : ℕ) → k < 64 → countIn (now (counts .exit)) k ≡ countAfter left l visits k (countIn (now (counts .entry)) k)) ⌝ }
-{
-    let mut rest = recounted(left, l, visits);
-    let mut k = rest.lowest();
-    while k < 64 {
-        let count = if k == l { visits } else { 0 };
-        set_count(counts, k, count);
-        rest = rest.without_loop(k);
-        k = rest.lowest();
-    }
-}
-
 impl Run {
     // At the first block, block 0: loop 0 stands at 1 and every other loop at 0.
     fn start(cost: u32) -> Run
@@ -211,7 +124,7 @@ impl Run {
         second: &[u16],
         header: &[u16],
         limit: &[u32],
-        around: &[u64; 64],
+        around: &Sets,
         v: u16,
     ) -> Stepped
         requires { ⌜ Stands (reading (now cost) (now loops) (now first) (now second) (now header) (now limit)) (now around) self ⌝ }
@@ -225,13 +138,13 @@ impl Run {
         };
         let l = loops[to] as usize;
         let here = loopsets::set_at(around, loops[from] as usize);
-        let visits = header_visits(&self.counts, l, header[l] == v, here.contains(l));
+        let visits = counts::header_visits(&self.counts, l, header[l] == v, here.contains(l));
         if limit[l] < visits {
             let answer = Answer::OverLimit;
             return Stepped { run: self, answer };
         }
         let left = here.without(loopsets::set_at(around, l));
-        recount(&mut self.counts, left, l, visits);
+        counts::recount(&mut self.counts, left, l, visits);
         self.at = v;
         self.cost += cost[to] as u64;
         Stepped { run: self, answer }
@@ -266,7 +179,7 @@ fn follow(
     second: &[u16],
     header: &[u16],
     limit: &[u32],
-    around: &[u64; 64],
+    around: &Sets,
     blocks: &[u16],
 ) -> WalkReply
     requires { ⌜ Enters (reading (now cost) (now loops) (now first) (now second) (now header) (now limit)) (now around) (now blocks) ⌝ }

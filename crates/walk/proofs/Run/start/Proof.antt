@@ -1,5 +1,5 @@
 use mathlib.Core.Path.{refl}
-use Rattle.walk.proofs.Counts.{start-is}
+use Rattle.walk.proofs.Steps.{start-is}
 use borrow.Author.Needs.{needs}
 use Rattle.walk.proofs.Run.start.Statement.{statement}
 use Rattle.walk.proofs.Run.start.Tie as tie

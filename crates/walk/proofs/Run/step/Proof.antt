@@ -4,7 +4,8 @@ use mathlib.Core.Path.{_≡_, sym, _∙_}
 use borrow.Author.Tests.{lt-ltb, le-ltb}
 use lib.ListN.{length}
 use Rattle.wcet.specs.Table.{Routine}
-use Rattle.walk.specs.Step.{countIn, stateOf, Walkable, Standing, Unread, reading}
+use Rattle.walk.specs.Step.{stateOf, Walkable, Standing, Unread, reading}
+use Rattle.counts.specs.Counts.{countIn}
 use Rattle.walk.proofs.Steps.{OnEdge, on-edge, InStep, in-step, visitsTo, visits-found, limit-next, counts-next, step-refused, step-over-limit, step-moved}
 use borrow.Author.Needs.{needs}
 use Rattle.walk.proofs.Run.step.Statement.{statement}
@@ -15,8 +16,8 @@ use Rattle.loopsets.proofs.LoopSet.contains.Reads as contains-reads
 use Rattle.loopsets.proofs.LoopSet.without.Reads as without-reads
 use Rattle.loopsets.proofs.set_at.Reads as set-at-reads
 use Rattle.walk.proofs.edge_answer.Reads as edge-answer-reads
-use Rattle.walk.proofs.header_visits.Reads as header-visits-reads
-use Rattle.walk.proofs.recount.Reads as recount-reads
+use Rattle.counts.proofs.header_visits.Reads as header-visits-reads
+use Rattle.counts.proofs.recount.Reads as recount-reads
 
 -- places on the way: where the edge is found, where the visits are, and where the counts are stored
 abbrev entry : tie.After-enum-told → tie.Start

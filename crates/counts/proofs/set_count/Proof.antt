@@ -1,15 +1,13 @@
 use lib.ListN.{length-set}
 use mathlib.Core.Path.{_∙_}
-use Rattle.walk.proofs.Counts.{part-least, with-fits, stored}
+use Rattle.counts.proofs.Counts.{part-least, with-fits, stored}
 use native.Mathlib.Omega.{arith}
 use Prim.Native.Nat.{_%_}
 use borrow.Author.Needs.{needs}
-use Rattle.walk.proofs.set_count.Statement.{statement}
-use Rattle.walk.proofs.set_count.Tie as tie
-use Rattle.walk.proofs.set_count.Reads as reads
-use Rattle.walk.proofs.set_count.Lts as lts
-use Rattle.walk.proofs.put_word.Reads as put-word-reads
-use Rattle.walk.proofs.word_at.Reads as word-at-reads
+use Rattle.counts.proofs.set_count.Statement.{statement}
+use Rattle.counts.proofs.set_count.Tie as tie
+use Rattle.counts.proofs.set_count.Reads as reads
+use Rattle.counts.proofs.set_count.Lts as lts
 
 word-at-requires : tie.Need-word-at-requires
 word-at-requires c κs = search needs

@@ -4,10 +4,10 @@ use mathlib.Core.Path.{_≡_, refl, _∙_}
 use native.Mathlib.Omega.{arith}
 use lib.ListN.{set}
 use borrow.Author.Needs.{needs}
-use Rattle.walk.proofs.put_word.Statement.{statement}
-use Rattle.walk.proofs.put_word.Tie as tie
-use Rattle.walk.proofs.put_word.Reads as reads
-use Rattle.walk.proofs.put_word.Lts as lts
+use Rattle.counts.proofs.put_word.Statement.{statement}
+use Rattle.counts.proofs.put_word.Tie as tie
+use Rattle.counts.proofs.put_word.Reads as reads
+use Rattle.counts.proofs.put_word.Lts as lts
 
 abbrev Inv-loop : tie.InvT-loop
 Inv-loop counts₀ k word j₀ counts j = (j ≤ 16) × (j ≤ k → counts ≡ counts₀) × (k < j → counts ≡ set counts₀ k word)

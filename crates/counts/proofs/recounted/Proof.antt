@@ -1,11 +1,10 @@
 use borrow.Author.Tests.{ne-eqb}
 use mathlib.Core.Path.{_∙_}
 use borrow.Author.Needs.{needs}
-use Rattle.walk.proofs.recounted.Statement.{statement}
-use Rattle.walk.proofs.recounted.Tie as tie
-use Rattle.walk.proofs.recounted.Reads as reads
-use Rattle.walk.proofs.recounted.Lts as lts
-use Rattle.loopsets.proofs.LoopSet.with.Reads as with-reads
+use Rattle.counts.proofs.recounted.Statement.{statement}
+use Rattle.counts.proofs.recounted.Tie as tie
+use Rattle.counts.proofs.recounted.Reads as reads
+use Rattle.counts.proofs.recounted.Lts as lts
 
 with-requires : tie.Need-with-requires
 with-requires c κs = search needs

@@ -3,21 +3,17 @@ use lib.Dec.{eqb}
 use borrow.Author.Tests.{eq-eqb, ne-eqb}
 use mathlib.Core.Logic.{⊎-elim}
 use Prim.Native.Nat.{ℕ, _-_, _≤_, _<_}
-use Rattle.walk.proofs.Recounts.{newCount, none-left, one-less, rises, all-changed}
-use Rattle.walk.specs.Step.{countIn}
+use Rattle.counts.proofs.Recounts.{newCount, none-left, one-less, rises, all-changed}
+use Rattle.counts.specs.Counts.{countIn}
 use Rattle.loopsets.specs.Sets.{LowestOf}
 use lib.ListN.{length}
 use native.Mathlib.Omega.{arith}
 use mathlib.Core.Path.{_≡_, refl, sym, _∙_}
 use borrow.Author.Needs.{needs}
-use Rattle.walk.proofs.recount.Statement.{statement}
-use Rattle.walk.proofs.recount.Tie as tie
-use Rattle.walk.proofs.recount.Reads as reads
-use Rattle.walk.proofs.recount.Lts as lts
-use Rattle.loopsets.proofs.LoopSet.lowest.Reads as lowest-reads
-use Rattle.loopsets.proofs.LoopSet.without_loop.Reads as without-loop-reads
-use Rattle.walk.proofs.recounted.Reads as recounted-reads
-use Rattle.walk.proofs.set_count.Reads as set-count-reads
+use Rattle.counts.proofs.recount.Statement.{statement}
+use Rattle.counts.proofs.recount.Tie as tie
+use Rattle.counts.proofs.recount.Reads as reads
+use Rattle.counts.proofs.recount.Lts as lts
 
 abbrev Inv-loop : tie.InvT-loop
 Inv-loop counts₀ l visits rest₀ k₀ counts rest k =

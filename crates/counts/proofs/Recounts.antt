@@ -11,7 +11,7 @@ use Rattle.lists.specs.Search.{if_then_else_}
 use Rattle.lists.proofs.Tests.{and-true as both-true}
 use Rattle.loopsets.specs.Sets.{member, LowestOf}
 use Rattle.loopsets.specs.declared.LoopSet.{LoopSet}
-use Rattle.walk.specs.Step.{countIn, countAfter}
+use Rattle.counts.specs.Counts.{countIn, countAfter}
 
 -- the count of loop j, c before, where those of `rest` change: to `visits` at l, to 0 elsewhere
 abbrev pub newCount : ℕ → ℕ → LoopSet → ℕ → ℕ → ℕ

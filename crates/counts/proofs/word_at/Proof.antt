@@ -4,10 +4,10 @@ use mathlib.Core.Path.{_≡_, ap, _∙_}
 use native.Mathlib.Omega.{arith}
 use lib.ListN.{getD}
 use borrow.Author.Needs.{needs}
-use Rattle.walk.proofs.word_at.Statement.{statement}
-use Rattle.walk.proofs.word_at.Tie as tie
-use Rattle.walk.proofs.word_at.Reads as reads
-use Rattle.walk.proofs.word_at.Lts as lts
+use Rattle.counts.proofs.word_at.Statement.{statement}
+use Rattle.counts.proofs.word_at.Tie as tie
+use Rattle.counts.proofs.word_at.Reads as reads
+use Rattle.counts.proofs.word_at.Lts as lts
 
 abbrev Inv-loop : tie.InvT-loop
 Inv-loop counts k word₀ j₀ word j = (j ≤ 16) × (k < j → word ≡ getD counts k 0)

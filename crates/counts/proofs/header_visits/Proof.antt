@@ -1,11 +1,10 @@
-use Rattle.walk.proofs.Counts.{count-most}
+use Rattle.counts.proofs.Counts.{count-most}
 use native.Mathlib.Omega.{arith}
 use borrow.Author.Needs.{needs}
-use Rattle.walk.proofs.header_visits.Statement.{statement}
-use Rattle.walk.proofs.header_visits.Tie as tie
-use Rattle.walk.proofs.header_visits.Reads as reads
-use Rattle.walk.proofs.header_visits.Lts as lts
-use Rattle.walk.proofs.count_of.Reads as count-of-reads
+use Rattle.counts.proofs.header_visits.Statement.{statement}
+use Rattle.counts.proofs.header_visits.Tie as tie
+use Rattle.counts.proofs.header_visits.Reads as reads
+use Rattle.counts.proofs.header_visits.Lts as lts
 
 returns : tie.Need-returns
 returns c = search needs

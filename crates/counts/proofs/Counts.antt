@@ -1,5 +1,5 @@
 -- Four counts of 16 bits in a word: what storing one makes of all of them. Assumes nothing.
-use mathlib.Core.Path.{_≡_, refl, ap, fun-ext}
+use mathlib.Core.Path.{_≡_, refl}
 use mathlib.Core.List.{List, _∷_}
 use Prim.Native.Nat.{ℕ, zero, suc, _+_, _-_, _*_, _/_, _%_, _^_, _≤_, _<_}
 use native.Mathlib.Decide.{ℕ-discrete}
@@ -9,8 +9,7 @@ use lib.Dec.{eqb}
 use lib.ListN.{length, getD, set, replicate, List·getD-eq-default}
 use lib.Seq.{getD-set-same, getD-set-other}
 use Rattle.lists.specs.Search.{if_then_else_}
-use Rattle.wcet.specs.Run.{start}
-use Rattle.walk.specs.Step.{countIn, stateOf}
+use Rattle.counts.specs.Counts.{countIn}
 
 -- the count at place j of a word
 abbrev part : ℕ → ℕ → ℕ
@@ -119,7 +118,7 @@ zeros zero l = refl
 zeros (suc n) zero = refl
 zeros (suc n) (suc l) = zeros n l
 
-first-counts : (l : ℕ) → countIn (1 ∷ replicate 15 0) l ≡ (if eqb l 0 then 1 else 0)
+pub first-counts : (l : ℕ) → countIn (1 ∷ replicate 15 0) l ≡ (if eqb l 0 then 1 else 0)
 unfolding countIn
 first-counts l = go (l / 4) refl (ℕ-discrete l 0)
   where
@@ -127,7 +126,3 @@ first-counts l = go (l / 4) refl (ℕ-discrete l 0)
     go zero e (yes z) = rw (z)
     go zero e (no ne) = rw (ne-eqb l 0 ne) (inner (l % 4) (omega arith) (omega arith))
     go (suc q) e d = rw (zeros 15 q, ne-eqb l 0 (λ z. omega arith)) (empty (l % 4) (omega arith))
-
-pub start-is : (c : ℕ) → stateOf (record { at = 0; cost = c; counts = 1 ∷ replicate 15 0 }) ≡ start
-unfolding start
-start-is c = ap (λ (f : ℕ → ℕ). record { block = 0; count = f }) (fun-ext first-counts)
