@@ -3,53 +3,30 @@
 use mathlib.Core.Path.{_≡_, refl, sym, ap, subst, _∙_}
 use mathlib.Core.Bool.{Bool, true, false, false≢true}
 use mathlib.Core.List.{List, [], _∷_, _++_}
-use Prim.Native.Nat.{ℕ, zero, suc, _+_, _-_, _*_, _^_, _<_, _≤_}
+use Prim.Native.Nat.{ℕ, zero, suc, _+_, _-_, _^_, _<_, _≤_}
 use native.Mathlib.Omega.{arith}
 use borrow.Author.Tests.{eqb-true, leb-true, ne-eqb, le-leb}
 use lib.ListN.{length, take, drop, getD, length-drop, take-append-drop}
 use lib.IntN.{ℤ, pos, negsuc, _-ℤ_}
 use mir.Syntax.{w64}
 use mir.Val.{SFits, toZ, ofZ}
-use lib.Seq.{take-all, take-append-seam, length-take-le, take-suc, getD-drop, getD-take, drop-drop}
+use lib.Seq.{take-all, take-append-seam, length-take-le, getD-drop, getD-take, drop-drop}
 use lib.Dec.{leb, eqb}
 use Rattle.csv.specs.Grammar.{isText, most, width, comma, ends, field, recordOf, only, joined}
-use Rattle.csv.specs.Number.{digit, digits, decimal, natural, unsigned, integer, signed}
-use Rattle.csv.specs.Place.{RunAt, CommaAt, LineEnd, EndAt}
+use Rattle.numbers.specs.Number.{digit, digits, decimal, natural, unsigned, integer, signed}
+use Rattle.numbers.specs.Digits.{RunAt}
+use Rattle.csv.specs.Place.{CommaAt, LineEnd, EndAt}
 use Rattle.csv.specs.Write.{bare, allText}
-use Rattle.csv.specs.declared.Run.{Run}
-use Rattle.csv.specs.declared.Value.{Value}
-use Rattle.csv.specs.declared.Value.the-variants.{Number, Missing}
+use Rattle.numbers.specs.declared.DigitRun.{DigitRun}
+use Rattle.numbers.specs.declared.Value.{Value}
+use Rattle.numbers.specs.declared.Value.the-variants.{Number, Missing}
 use Rattle.csv.specs.declared.Ending.{Ending}
 use Rattle.csv.specs.declared.Ending.the-variants.{CrLf}
-use Rattle.csv.specs.declared.SignedValue.the-variants.{Number as Signed}
-use Rattle.csv.proofs.Fields.{next-byte}
+use Rattle.numbers.specs.declared.SignedValue.the-variants.{Number as Signed}
 use Rattle.csv.proofs.Records.{Within, field-within, record-step}
-use Rattle.csv.proofs.Numbers.{short-on, natural-none, natural-zero, natural-gathered, minus-cast, minus-sub, integer-negative, integer-positive}
-use Rattle.csv.proofs.Inverse.{and-left, and-right, field-written, following-comma, following-ending, content-written}
-
--- one digit more
-digits-snoc : (s : List ℕ) (b : ℕ) → digits s ≡ true → digit b ≡ true → digits (s ++ (b ∷ [])) ≡ true
-unfolding digits
-digits-snoc [] b e f = rw f
-digits-snoc (c ∷ s) b e f = rw (and-left (digit c) (digits s) e) (digits-snoc s b (and-right (digit c) (digits s) e) f)
-
-decimal-snoc : (n : ℕ) (s : List ℕ) (b : ℕ) → decimal n (s ++ (b ∷ [])) ≡ decimal n s * 10 + (b - 48)
-unfolding decimal
-decimal-snoc n [] b = refl
-decimal-snoc n (c ∷ s) b = decimal-snoc (n * 10 + (c - 48)) s b
-
-pub run-start : (s : List ℕ) (at : ℕ) → RunAt s at (record { value = 0; end = at })
-unfolding digits decimal
-run-start s at = let z : at - at ≡ 0 = omega arith in record { from = omega arith; short = omega arith; digit = rw z; value = rw z }
-
-pub run-on : (s : List ℕ) (at n i : ℕ) → RunAt s at (record { value = n; end = i }) → i < length s → 48 ≤ getD s i 0 → getD s i 0 ≤ 57 → i - at < 19 → RunAt s at (record { value = n * 10 + (getD s i 0 - 48); end = i + 1 })
-run-on s at n i r h k l m =
-    let j : i + 1 - at ≡ suc (i - at) = omega (arith, r .from) in
-    let w : at + (i - at) ≡ i = omega (arith, r .from) in
-    let d : i - at < length (drop at s) = rw length-drop (omega (arith, r .from)) in
-    let t : take (i + 1 - at) (drop at s) ≡ take (i - at) (drop at s) ++ (getD s i 0 ∷ []) = rw j (take-suc (drop at s) (i - at) 0 d ∙ rw (getD-drop at s (i - at) 0, w)) in
-    let f : digit (getD s i 0) ≡ true = rw (le-leb 48 (getD s i 0) k, le-leb (getD s i 0) 57 l) in
-    record { from = omega (arith, r .from); short = omega arith; digit = rw t (digits-snoc (take (i - at) (drop at s)) (getD s i 0) (r .digit) f); value = rw t (decimal-snoc 0 (take (i - at) (drop at s)) (getD s i 0) ∙ rw (r .value)) }
+use Rattle.numbers.proofs.Numbers.{and-left, and-right, next-byte, natural-none, natural-zero, natural-gathered, minus-cast, minus-sub, integer-negative, integer-positive}
+use Rattle.numbers.proofs.Runs.{first-digit}
+use Rattle.csv.proofs.Inverse.{field-written, following-comma, following-ending, content-written}
 
 -- digits are text
 digit-text : (b : ℕ) → digit b ≡ true → isText b ≡ true
@@ -62,13 +39,8 @@ unfolding digits allText
 digits-text [] e = refl
 digits-text (b ∷ s) e = rw (digit-text b (and-left (digit b) (digits s) e), digits-text s (and-right (digit b) (digits s) e))
 
-pub first-digit : (s : List ℕ) → digits s ≡ true → 0 < length s → 48 ≤ getD s 0 0
-unfolding digits
-first-digit [] e h = absurd (omega arith)
-first-digit (b ∷ s) e h = leb-true 48 b (and-left (leb 48 b) (leb b 57) (and-left (digit b) (digits s) e))
-
 -- Each way through `number_cell`; r is the run of digits at `at`.
-module _ (s : List ℕ) (at limit : ℕ) {r : Run} (q : RunAt s at r) (h : r .end < length s) (c : getD s (r .end) 0 ≡ 44) where
+module _ (s : List ℕ) (at limit : ℕ) {r : DigitRun} (q : RunAt s at r) (h : r .end < length s) (c : getD s (r .end) 0 ≡ 44) where
   word : List ℕ
   word = take (r .end - at) (drop at s)
 
@@ -110,13 +82,6 @@ module _ (s : List ℕ) (at limit : ℕ) {r : Run} (q : RunAt s at r) (h : r .en
     pub cell-number : (r .end ≡ at → ⊥) → (getD s at 0 ≡ 48 → ⊥) → r .value ≤ limit → CommaAt s at (unsigned limit) (r .end) (Number (r .value))
     unfolding word
     cell-number f e l = said (natural-gathered word limit (λ z. f (omega (arith, long, q .from))) (λ z. e (sym (first-byte f) ∙ z)) (rw (q .digit, q .value, le-leb (r .value) limit l)))
-
--- the digits from `at` to i write a number below 10^(i - at)
-pub short-start : (at : ℕ) → 0 < 10 ^ (at - at)
-short-start at = let z : at - at ≡ 0 = omega arith in rw z (omega arith)
-
-pub short-next : (at i n d : ℕ) → at ≤ i → n < 10 ^ (i - at) → d ≤ 9 → n * 10 + d < 10 ^ (i + 1 - at)
-short-next at i n d f h l = let e : i + 1 - at ≡ i - at + 1 = omega arith in rw e (short-on (i - at) n d h l)
 
 -- what a cell says of the record: its first field, and where the next one starts
 module _ (s : List ℕ) (at : ℕ) (f : List ℕ → Value) where
@@ -162,7 +127,7 @@ module _ (s : List ℕ) (at e : ℕ) (w : List ℕ) (f : at ≤ e) (t : drop at 
       record { from = f; field = g; says = rw k (ap integer (content-written (bare w) u) ∙ sym p) }
 
 -- The digits from p on, with CR LF behind them, that write a number other than 0 with no leading zero.
-module _ (s : List ℕ) (p : ℕ) {r : Run} (q : RunAt s p r) {b : Bool} (k : b ≡ true → LineEnd s (r .end)) (e : b ≡ true) where
+module _ (s : List ℕ) (p : ℕ) {r : DigitRun} (q : RunAt s p r) {b : Bool} (k : b ≡ true → LineEnd s (r .end)) (e : b ≡ true) where
   number : List ℕ
   number = take (r .end - p) (drop p s)
 

@@ -3,15 +3,16 @@
 use mathlib.Core.Path.{_≡_, refl, sym, ap, _∙_}
 use mathlib.Core.Bool.{Bool, true, false, cond}
 use mathlib.Core.Logic.{_⊎_, inl, inr}
-use mathlib.Core.List.{List, _∷_}
+use mathlib.Core.List.{List}
 use Prim.Native.Nat.{ℕ, zero, suc, _+_, _-_, _<_, _≤_}
 use native.Mathlib.Nat.{add-suc, add-zero}
 use native.Mathlib.Numerals.{add-one, sub-one}
 use native.Mathlib.Omega.{arith}
 use borrow.Author.Tests.{eq-eqb, ne-eqb, le-leb, lt-leb}
 use lib.ListN.{length, drop, getD, drop-of-length-le}
-use lib.Seq.{drop-cons, drop-drop}
+use lib.Seq.{drop-drop}
 use lib.Dec.{leb, leb·zero, leb·suc-suc, leb·suc-zero}
+use Rattle.numbers.proofs.Numbers.{next-byte}
 use Rattle.csv.specs.Grammar.{Extent, size, unclosed, longer, plain, inside, after, extent, isQuote, isText, broken, following, lineFeed, limited, field}
 use Rattle.csv.specs.Place.{closeAt, foundAt}
 use Rattle.csv.specs.declared.Close.{Close}
@@ -35,9 +36,6 @@ closeAt-full at (size n) = rw leb·suc-zero
 closeAt-full at unclosed = refl
 
 -- the bytes from a place within the text: the byte there, and those from the next place on
-pub next-byte : (s : List ℕ) (at : ℕ) → at < length s → drop at s ≡ getD s at 0 ∷ drop (at + 1) s
-next-byte s at h = rw (add-one, drop-cons s at 0)
-
 module _ (s : List ℕ) (at : ℕ) where
   -- inside quotes, and following a quote mark: at the end of the text, at a quote mark, at another byte
   inside-end : length s ≤ at → inside (drop at s) ≡ unclosed

@@ -1,7 +1,7 @@
 -- Reading what RFC 4180 writes gives what was written, and every text whose records are all sound is written so.
 -- Assumes nothing.
 use mathlib.Core.Path.{_≡_, refl, sym, ap, _∙_}
-use mathlib.Core.Bool.{Bool, true, false, cond, not, _&&_, _||_, false≢true}
+use mathlib.Core.Bool.{Bool, true, false, cond, not, _||_, false≢true}
 use mathlib.Core.List.{List, [], _∷_, _++_, map, append-assoc}
 use Prim.Native.Nat.{ℕ, zero, suc, _+_, _-_, _<_, _≤_}
 use native.Mathlib.Numerals.{add-one}
@@ -11,24 +11,17 @@ use lib.ListN.{length, take, drop, length-append, length-drop, take-append-drop}
 use lib.Seq.{length-take-le, take-append-seam, drop-append-seam, drop-append-add, drop-drop}
 use lib.Dec.{leb}
 use Rattle.csv.specs.Grammar.{isQuote, isComma, isCr, isLf, isText, Extent, size, unclosed, longer, plain, inside, after, extent, most, width, Field, comma, ends, broken, lineFeed, following, limited, field, Record, recordWith, recordIn, recordOf, recordsIn, records}
-use Rattle.csv.specs.Number.{undoubled, content}
+use Rattle.numbers.specs.Number.{undoubled, content}
 use Rattle.csv.specs.Write.{Entry, bare, quoted, textOf, doubled, written, allText, Unmarked, Writable, Line, writeFields, writeLine, write, AllWritable, LastLine, Allowed, recordAs, recordsAs, AllSound, Written}
 use Rattle.csv.specs.declared.Ending.{Ending}
 use Rattle.csv.specs.declared.Ending.the-variants.{CrLf, EndOfText}
+use Rattle.numbers.proofs.Numbers.{and-left, and-right}
 use Rattle.csv.proofs.Records.{record-step, records-none, records-step, Spans, record-spans}
 
 -- what may follow a field: nothing, or a byte that is neither text nor a quote mark
 abbrev Stops : List ℕ → Type 0
 Stops [] = Unit {0}
 Stops (b ∷ t) = (isText b ≡ false) × (isQuote b ≡ false)
-
-pub and-left : (a b : Bool) → (a && b) ≡ true → a ≡ true
-and-left true b e = refl
-and-left false b e = e
-
-pub and-right : (a b : Bool) → (a && b) ≡ true → b ≡ true
-and-right true b e = e
-and-right false b e = absurd (false≢true e)
 
 text-no-quote : (b : ℕ) → isText b ≡ true → isQuote b ≡ false
 text-no-quote b e = go (isQuote b) e

@@ -2,7 +2,6 @@
 pub mod Fields
 pub mod Records
 pub mod Splits
-pub mod Numbers
 pub mod Inverse
 pub mod Cells
 pub mod Numerals

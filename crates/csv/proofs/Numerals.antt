@@ -10,13 +10,13 @@ use borrow.Author.Tests.{le-leb, ltb-true, ltb-false, ne-eqb}
 use lib.ListN.{length, getD}
 use lib.IntN.{pos, negsuc}
 use lib.Dec.{ltb}
-use Rattle.csv.specs.Number.{digit, digits, decimal, natural, unsigned, integer, signed}
+use Rattle.numbers.specs.Number.{digit, digits, decimal, natural, unsigned, integer, signed}
 use Rattle.csv.specs.Write.{Entry, textOf, written, Unmarked, numeralIn, numeralOf}
-use Rattle.csv.specs.declared.Value.the-variants.{Number}
-use Rattle.csv.specs.declared.SignedValue.the-variants.{Number as Signed}
-use Rattle.csv.proofs.Numbers.{natural-zero, natural-gathered}
+use Rattle.numbers.specs.declared.Value.the-variants.{Number}
+use Rattle.numbers.specs.declared.SignedValue.the-variants.{Number as Signed}
+use Rattle.numbers.proofs.Numbers.{natural-zero, natural-gathered}
 use Rattle.csv.proofs.Inverse.{content-written}
-use Rattle.csv.proofs.Cells.{first-digit}
+use Rattle.numbers.proofs.Runs.{first-digit}
 
 -- what holds of the digits of n in front of s, by cases on n < 10
 module _ (P : ℕ → ℕ → List ℕ → List ℕ → Type 0) (one : (n : ℕ) (s : List ℕ) → n < 10 → (k : ℕ) → P (suc k) n s ((48 + n) ∷ s)) (more : (k n : ℕ) (s t : List ℕ) → 10 ≤ n → P k (n / 10) ((48 + n % 10) ∷ s) t → P (suc k) n s t) where

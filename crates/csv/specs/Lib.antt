@@ -1,4 +1,3 @@
 pub mod Grammar
-pub mod Number
 pub mod Place
 pub mod Write

@@ -1,23 +1,22 @@
 -- What the functions answer at a position of the text, by the definitions of Grammar.
 use Prim.Native.Nat.{ℕ, suc, _+_, _-_, _≤_, _<_}
 use mathlib.Core.Path.{_≡_}
-use mathlib.Core.Bool.{true, cond, _&&_}
+use mathlib.Core.Bool.{cond, _&&_}
 use mathlib.Core.List.{List, [], _∷_}
 use lib.Dec.{leb, ltb}
 use lib.ListN.{length, getD, take, drop, set, replicate}
-use Rattle.csv.specs.Grammar.{isQuote, Extent, size, unclosed, Field, comma, ends, broken, field, Record}
-use Rattle.csv.specs.Number.{digits, decimal, signed}
-use Rattle.csv.specs.declared.Value.{Value}
-use Rattle.csv.specs.declared.Value.the-variants.{Number, Missing, Bad}
+use Rattle.csv.specs.Grammar.{Extent, size, unclosed, Field, comma, ends, broken, field, Record}
+use Rattle.numbers.specs.Number.{signed}
+use Rattle.numbers.specs.declared.Value.{Value}
+use Rattle.numbers.specs.declared.Value.the-variants.{Number, Missing}
 use Rattle.csv.specs.declared.Close.{Close}
 use Rattle.csv.specs.declared.Close.the-variants.{At, Never}
 use Rattle.csv.specs.declared.Found.{Found}
 use Rattle.csv.specs.declared.Found.the-variants.{Comma, Ends, Broken}
 use Rattle.csv.specs.declared.Split.{Split}
-use Rattle.csv.specs.declared.Run.{Run}
 use lib.IntN.{ℤ}
 use Rattle.csv.specs.declared.Ending.the-variants.{CrLf}
-use Rattle.csv.specs.declared.SignedValue.the-variants.{Number as Signed}
+use Rattle.numbers.specs.declared.SignedValue.the-variants.{Number as Signed}
 use Rattle.csv.specs.declared.LastCell.{LastCell}
 use Rattle.csv.specs.declared.LastCell.the-variants.{Number as LastNumber, Other as NoLast}
 use Rattle.csv.specs.declared.Cell.{Cell}
@@ -62,22 +61,6 @@ splitOf starts stops count p r = record { starts = noted starts count (startsOf 
 -- the part of the text between the bounds at place i, if it lies in the text
 abbrev pub fieldAt : List ℕ → List ℕ → List ℕ → ℕ → List ℕ
 fieldAt s starts stops i = cond (ltb i 8 && leb (getD stops i 0) (length s)) (take (getD stops i 0 - getD starts i 0) (drop (getD starts i 0) s)) []
-
--- a field without its quote marks, where doubled marks stay doubled: a text with a quote mark in it is no number either way
-unfoldable pub inner : List ℕ → List ℕ
-inner [] = []
-inner (b ∷ s) = cond (isQuote b) (take (length s - 1) s) (b ∷ s)
-
--- a number of at most `limit` that s writes behind the digits of n
-abbrev pub gathered : ℕ → ℕ → List ℕ → Value
-gathered limit n s = cond (digits s && leb (decimal n s) limit) (Number (decimal n s)) Bad
-
--- a run of at most 19 digits from `at` on
-pub record RunAt (s : List ℕ) (at : ℕ) (r : Run) : Type 0 where
-  pub from : at ≤ r .end
-  pub short : r .end - at ≤ 19
-  pub digit : digits (take (r .end - at) (drop at s)) ≡ true
-  pub value : decimal 0 (take (r .end - at) (drop at s)) ≡ r .value
 
 -- the field from `at` to e, with a comma behind it, says v by the meaning f
 pub record CommaAt (s : List ℕ) (at : ℕ) (f : List ℕ → Value) (e : ℕ) (v : Value) : Type 0 where

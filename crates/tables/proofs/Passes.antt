@@ -19,12 +19,12 @@ use mir.Facts.{toZ-ofZ}
 use denote.Enum.Declared.{tagOf}
 use Rattle.csv.specs.Grammar as grammar
 use Rattle.csv.specs.Grammar.{Record, recordOf, records}
-use Rattle.csv.specs.Number.{unsigned, signed}
-use Rattle.csv.specs.declared.Value.{Value}
-use Rattle.csv.specs.declared.Value.the-variants.{Number, Missing, Bad as BadValue}
-use Rattle.csv.specs.declared.SignedValue.{SignedValue}
-use Rattle.csv.specs.declared.SignedValue.the-variants.{Number as Signed, Missing as NoSigned, Bad as BadSigned}
-use Rattle.csv.proofs.Numbers.{signed-fits}
+use Rattle.numbers.specs.Number.{unsigned, signed}
+use Rattle.numbers.specs.declared.Value.{Value}
+use Rattle.numbers.specs.declared.Value.the-variants.{Number, Missing, Bad as BadValue}
+use Rattle.numbers.specs.declared.SignedValue.{SignedValue}
+use Rattle.numbers.specs.declared.SignedValue.the-variants.{Number as Signed, Missing as NoSigned, Bad as BadSigned}
+use Rattle.numbers.proofs.Numbers.{signed-fits}
 use Rattle.csv.proofs.Records.{Spans, record-spans, records-none, records-step}
 use Rattle.tables.proofs.Row.{the-type}
 use Rattle.tables.specs.Row.{needed, neededSigned, orMissing, blockOf, loopOf, rowOf, figureOf}

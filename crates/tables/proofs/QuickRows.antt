@@ -11,16 +11,16 @@ use mir.Syntax.{w16, w32, w64}
 use mir.Val.{Fits, toZ, ofZ}
 use mir.Facts.{toZ-ofZ}
 use Rattle.csv.specs.Grammar.{recordOf, field}
-use Rattle.csv.specs.Number.{unsigned, signed}
+use Rattle.numbers.specs.Number.{unsigned, signed}
 use Rattle.csv.specs.Place.{CommaAt, CellAt, EndAt, LastAt}
-use Rattle.csv.specs.declared.Value.{Value}
-use Rattle.csv.specs.declared.Value.the-variants.{Number, Missing}
-use Rattle.csv.specs.declared.SignedValue.the-variants.{Number as Signed}
+use Rattle.numbers.specs.declared.Value.{Value}
+use Rattle.numbers.specs.declared.Value.the-variants.{Number, Missing}
+use Rattle.numbers.specs.declared.SignedValue.the-variants.{Number as Signed}
 use Rattle.csv.specs.declared.Cell.{Cell}
 use Rattle.csv.specs.declared.Cell.the-variants.{Number as CellNumber, Missing as CellMissing}
 use Rattle.csv.specs.declared.LastCell.{LastCell}
 use Rattle.csv.specs.declared.LastCell.the-variants.{Number as LastNumber}
-use Rattle.csv.proofs.Numbers.{signed-fits}
+use Rattle.numbers.proofs.Numbers.{signed-fits}
 use Rattle.csv.proofs.Records.{Within, field-within}
 use Rattle.csv.proofs.Cells.{comma-in, Reads, reads-last, reads-comma}
 use Rattle.tables.specs.Row.{orMissing, rowOf}

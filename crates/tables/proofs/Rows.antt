@@ -15,16 +15,16 @@ use mir.Val.{Fits, toZ, ofZ}
 use mir.Facts.{toZ-ofZ}
 use denote.Enum.Declared.{tagOf}
 use Rattle.csv.specs.Grammar.{recordOf}
-use Rattle.csv.specs.Number.{unsigned, signed}
+use Rattle.numbers.specs.Number.{unsigned, signed}
 use Rattle.csv.specs.Place.{splitOf, noPlaces, noted, startsOf, stopsOf, fieldAt}
 use Rattle.csv.specs.declared.Split.{Split}
-use Rattle.csv.specs.declared.Value.{Value}
-use Rattle.csv.specs.declared.Value.the-variants.{Number, Missing, Bad as BadValue}
-use Rattle.csv.specs.declared.SignedValue.{SignedValue}
-use Rattle.csv.specs.declared.SignedValue.the-variants.{Number as Signed, Missing as NoSigned, Bad as BadSigned}
-use Rattle.csv.proofs.Value.{the-type}
-use Rattle.csv.proofs.SignedValue as signed-enum
-use Rattle.csv.proofs.Numbers.{unsigned-fits, signed-fits}
+use Rattle.numbers.specs.declared.Value.{Value}
+use Rattle.numbers.specs.declared.Value.the-variants.{Number, Missing, Bad as BadValue}
+use Rattle.numbers.specs.declared.SignedValue.{SignedValue}
+use Rattle.numbers.specs.declared.SignedValue.the-variants.{Number as Signed, Missing as NoSigned, Bad as BadSigned}
+use Rattle.numbers.proofs.Value.{the-type}
+use Rattle.numbers.proofs.SignedValue as signed-enum
+use Rattle.numbers.proofs.Numbers.{unsigned-fits, signed-fits}
 use Rattle.csv.proofs.Splits.{split-field}
 use Rattle.tables.specs.Row.{needed, neededSigned, orMissing, rowOf}
 use Rattle.tables.specs.Table.{inTurn, placed, fieldOf, judge}

@@ -8,8 +8,8 @@ use lib.Seq.{sets}
 use mir.Syntax.{w64}
 use mir.Val.{SFits}
 use Rattle.csv.specs.Grammar.{Record, recordOf}
-use Rattle.csv.specs.Number.{unsigned}
-use Rattle.csv.specs.declared.Value.{Value}
+use Rattle.numbers.specs.Number.{unsigned}
+use Rattle.numbers.specs.declared.Value.{Value}
 use Rattle.tables.specs.Row.{orMissing, rowOf, costOf, innermostOf, firstOf, secondOf, figureOf, parentOf, headOf, limitOf, multiplierOf}
 use Rattle.tables.specs.Table.{fieldOf, Reading, judge}
 use Rattle.tables.specs.Columns.{replyBy, BlockColumns, LoopColumns}

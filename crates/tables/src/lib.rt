@@ -3,7 +3,7 @@ ghost use mathlib.Core.Path.{_≡_};
 ghost use Prim.Native.Nat.{_≤_, min};
 ghost use lib.ListN.{length, drop};
 ghost use Rattle.csv.specs.Grammar.{recordOf, records};
-ghost use Rattle.csv.specs.Number.{unsigned, signed};
+ghost use Rattle.numbers.specs.Number.{unsigned, signed};
 ghost use Rattle.csv.specs.Place.{fieldAt, CellAt};
 ghost use Rattle.tables.specs.Row.{orMissing, rowOf};
 ghost use Rattle.tables.specs.Table.{layoutOf, inTurn, placed, stopped, reading, tableOf};
@@ -11,8 +11,8 @@ ghost use Rattle.tables.specs.Columns.{blocks, loops, BlocksRead, LoopsR
 ghost use Rattle.tables.specs.Place.{successor, QuickAt, stepOf, noSlots, gathered, rowsIn, rowCount, BlocksRoom, BlocksFilled, LoopsRoom, LoopsFilled};
 use csv::Cell;
 use csv::LastCell;
-use csv::SignedValue;
-use csv::Value;
+use numbers::SignedValue;
+use numbers::Value;
 
 // Which table.
 pub enum Shape {
@@ -86,32 +86,32 @@ pub struct Gathered {
 fn u16_in(text: &[u8], starts: &[usize; 8], ends: &[usize; 8], i: usize) -> Value
     ensures { λ r. ⌜ r ≡ unsigned 65535 (fieldAt (now (text .entry)) (now (starts .entry)) (now (ends .entry)) i) ⌝ }
 {
-    csv::u16_of(csv::find_field(text, starts, ends, i))
+    numbers::u16_of(csv::find_field(text, starts, ends, i))
 }
 
 fn u32_in(text: &[u8], starts: &[usize; 8], ends: &[usize; 8], i: usize) -> Value
     ensures { λ r. ⌜ r ≡ unsigned 4294967295 (fieldAt (now (text .entry)) (now (starts .entry)) (now (ends .entry)) i) ⌝ }
 {
-    csv::u32_of(csv::find_field(text, starts, ends, i))
+    numbers::u32_of(csv::find_field(text, starts, ends, i))
 }
 
 fn u64_in(text: &[u8], starts: &[usize; 8], ends: &[usize; 8], i: usize) -> Value
     ensures { λ r. ⌜ r ≡ unsigned 18446744073709551615 (fieldAt (now (text .entry)) (now (starts .entry)) (now (ends .entry)) i) ⌝ }
 {
-    csv::u64_of(csv::find_field(text, starts, ends, i))
+    numbers::u64_of(csv::find_field(text, starts, ends, i))
 }
 
 fn i64_in(text: &[u8], starts: &[usize; 8], ends: &[usize; 8], i: usize) -> SignedValue
     ensures { λ r. ⌜ r ≡ signed (fieldAt (now (text .entry)) (now (starts .entry)) (now (ends .entry)) i) ⌝ }
 {
-    csv::i64_of(csv::find_field(text, starts, ends, i))
+    numbers::i64_of(csv::find_field(text, starts, ends, i))
 }
 
 // A successor that is missing is 65,535.
 fn successor_in(text: &[u8], starts: &[usize; 8], ends: &[usize; 8], i: usize) -> Value
     ensures { λ r. ⌜ r ≡ orMissing (unsigned 65534 (fieldAt (now (text .entry)) (now (starts .entry)) (now (ends .entry)) i)) ⌝ }
 {
-    match csv::successor_of(csv::find_field(text, starts, ends, i)) {
+    match numbers::successor_of(csv::find_field(text, starts, ends, i)) {
         Value::Number(n) => Value::Number(n),
         Value::Missing => Value::Number(65535),
         Value::Bad => Value::Bad,

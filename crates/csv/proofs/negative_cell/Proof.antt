@@ -4,7 +4,7 @@ use Rattle.csv.proofs.negative_cell.Statement.{statement}
 use Rattle.csv.proofs.negative_cell.Tie as tie
 use Rattle.csv.proofs.negative_cell.Reads as reads
 use Rattle.csv.proofs.negative_cell.Lts as lts
-use Rattle.csv.proofs.digit_run.Reads as digit-run-reads
+use Rattle.numbers.proofs.digit_run.Reads as digit-run-reads
 use Rattle.csv.proofs.line_ends.Reads as line-ends-reads
 
 add-digit-run : tie.Need-add-digit-run

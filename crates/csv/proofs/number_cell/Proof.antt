@@ -4,7 +4,7 @@ use Rattle.csv.proofs.number_cell.Statement.{statement}
 use Rattle.csv.proofs.number_cell.Tie as tie
 use Rattle.csv.proofs.number_cell.Reads as reads
 use Rattle.csv.proofs.number_cell.Lts as lts
-use Rattle.csv.proofs.digit_run.Reads as digit-run-reads
+use Rattle.numbers.proofs.digit_run.Reads as digit-run-reads
 
 digit-run-requires : tie.Need-digit-run-requires
 digit-run-requires c κs = search needs

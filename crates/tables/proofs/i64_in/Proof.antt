@@ -5,7 +5,7 @@ use Rattle.tables.proofs.i64_in.Tie as tie
 use Rattle.tables.proofs.i64_in.Reads as reads
 use Rattle.tables.proofs.i64_in.Lts as lts
 use Rattle.csv.proofs.find_field.Reads as find-field-reads
-use Rattle.csv.proofs.i64_of.Reads as i64-of-reads
+use Rattle.numbers.proofs.i64_of.Reads as i64-of-reads
 
 find-field-requires : tie.Need-find-field-requires
 find-field-requires c κs = search needs

@@ -1,6 +1,6 @@
 use Prim.Native.Nat.{_+_, _-_, _^_}
 use native.Mathlib.Omega.{arith}
-use Rattle.csv.specs.Number.{unsigned}
+use Rattle.numbers.specs.Number.{unsigned}
 use Rattle.tables.specs.Place.{successor}
 use Rattle.tables.proofs.QuickRows.{cell-range, last-end, cell-fits16, cell-fits32, cell-fits-missing, quick-all}
 use borrow.Author.Needs.{needs}

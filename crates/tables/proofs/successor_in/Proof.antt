@@ -5,7 +5,7 @@ use Rattle.tables.proofs.successor_in.Tie as tie
 use Rattle.tables.proofs.successor_in.Reads as reads
 use Rattle.tables.proofs.successor_in.Lts as lts
 use Rattle.csv.proofs.find_field.Reads as find-field-reads
-use Rattle.csv.proofs.successor_of.Reads as successor-of-reads
+use Rattle.numbers.proofs.successor_of.Reads as successor-of-reads
 
 find-field-requires : tie.Need-find-field-requires
 find-field-requires c κs = search needs

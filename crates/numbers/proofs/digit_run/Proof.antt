@@ -1,14 +1,14 @@
-use Rattle.csv.specs.Place.{RunAt}
-use Rattle.csv.proofs.Numbers.{short-digits}
-use Rattle.csv.proofs.Cells.{run-start, run-on, short-start, short-next}
+use Rattle.numbers.specs.Digits.{RunAt}
+use Rattle.numbers.proofs.Numbers.{short-digits}
+use Rattle.numbers.proofs.Runs.{run-start, run-on, short-start, short-next}
 use Prim.Native.Nat.{_<_, _-_, _^_}
 use native.Mathlib.Omega.{arith}
 use borrow.Author.Needs.{needs}
-use Rattle.csv.proofs.digit_run.Statement.{statement}
-use Rattle.csv.proofs.digit_run.Tie as tie
-use Rattle.csv.proofs.digit_run.Reads as reads
-use Rattle.csv.proofs.digit_run.Lts as lts
-use Rattle.csv.proofs.run_limit.Reads as run-limit-reads
+use Rattle.numbers.proofs.digit_run.Statement.{statement}
+use Rattle.numbers.proofs.digit_run.Tie as tie
+use Rattle.numbers.proofs.digit_run.Reads as reads
+use Rattle.numbers.proofs.digit_run.Lts as lts
+use Rattle.numbers.proofs.run_limit.Reads as run-limit-reads
 
 abbrev Inv-loop : tie.InvT-loop
 Inv-loop text at limit n₀ i₀ n i = (n < 10 ^ (i - at)) × RunAt text at (record { value = n; end = i })

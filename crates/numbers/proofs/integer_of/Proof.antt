@@ -1,10 +1,10 @@
-use Rattle.csv.proofs.Numbers.{integer-none, integer-no-number, integer-minus-zero, minus-cast, minus-sub, integer-negative, plus-cast, integer-positive, integer-missing, integer-bad}
+use Rattle.numbers.proofs.Numbers.{integer-none, integer-no-number, integer-minus-zero, minus-cast, minus-sub, integer-negative, plus-cast, integer-positive, integer-missing, integer-bad}
 use borrow.Author.Needs.{needs}
-use Rattle.csv.proofs.integer_of.Statement.{statement}
-use Rattle.csv.proofs.integer_of.Tie as tie
-use Rattle.csv.proofs.integer_of.Reads as reads
-use Rattle.csv.proofs.integer_of.Lts as lts
-use Rattle.csv.proofs.natural_of.Reads as natural-of-reads
+use Rattle.numbers.proofs.integer_of.Statement.{statement}
+use Rattle.numbers.proofs.integer_of.Tie as tie
+use Rattle.numbers.proofs.integer_of.Reads as reads
+use Rattle.numbers.proofs.integer_of.Lts as lts
+use Rattle.numbers.proofs.natural_of.Reads as natural-of-reads
 
 returns : tie.Need-returns
 returns c = search integer-none

@@ -1,9 +1,9 @@
-use Rattle.csv.proofs.Numbers.{inner-none, inner-plain, inner-mark, inner-between}
+use Rattle.numbers.proofs.Numbers.{inner-none, inner-plain, inner-mark, inner-between}
 use borrow.Author.Needs.{needs}
-use Rattle.csv.proofs.inner_part.Statement.{statement}
-use Rattle.csv.proofs.inner_part.Tie as tie
-use Rattle.csv.proofs.inner_part.Reads as reads
-use Rattle.csv.proofs.inner_part.Lts as lts
+use Rattle.numbers.proofs.inner_part.Statement.{statement}
+use Rattle.numbers.proofs.inner_part.Tie as tie
+use Rattle.numbers.proofs.inner_part.Reads as reads
+use Rattle.numbers.proofs.inner_part.Lts as lts
 
 returns : tie.Need-returns
 returns c = search inner-none

@@ -1,11 +1,11 @@
-use Rattle.csv.proofs.Numbers.{natural-none, natural-zero, natural-leading, natural-gathered}
+use Rattle.numbers.proofs.Numbers.{natural-none, natural-zero, natural-leading, natural-gathered}
 use borrow.Author.Needs.{needs}
-use Rattle.csv.proofs.natural_of.Statement.{statement}
-use Rattle.csv.proofs.natural_of.Tie as tie
-use Rattle.csv.proofs.natural_of.Reads as reads
-use Rattle.csv.proofs.natural_of.Lts as lts
-use Rattle.csv.proofs.few_digits.Reads as few-digits-reads
-use Rattle.csv.proofs.many_digits.Reads as many-digits-reads
+use Rattle.numbers.proofs.natural_of.Statement.{statement}
+use Rattle.numbers.proofs.natural_of.Tie as tie
+use Rattle.numbers.proofs.natural_of.Reads as reads
+use Rattle.numbers.proofs.natural_of.Lts as lts
+use Rattle.numbers.proofs.few_digits.Reads as few-digits-reads
+use Rattle.numbers.proofs.many_digits.Reads as many-digits-reads
 
 returns : tie.Need-returns
 returns c = search natural-none

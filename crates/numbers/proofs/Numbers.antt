@@ -16,14 +16,14 @@ use mir.Syntax.{w64}
 use mir.Val.{SFits, toZ, ofZ}
 use mir.Facts.{toZ-pos, toZ-ofZ}
 use denote.Enum.Declared.{tagOf}
-use Rattle.csv.proofs.Value.{the-type}
-use Rattle.csv.specs.declared.SignedValue.{SignedValue}
-use Rattle.csv.specs.declared.SignedValue.the-variants.{Number as Signed, Missing as NoSigned, Bad as BadSigned}
+use Rattle.numbers.proofs.Value.{the-type}
+use Rattle.numbers.specs.declared.SignedValue.{SignedValue}
+use Rattle.numbers.specs.declared.SignedValue.the-variants.{Number as Signed, Missing as NoSigned, Bad as BadSigned}
 use lib.Dec.{leb, eqb, leb·zero}
-use Rattle.csv.specs.Number.{digit, digits, numeral, decimal, natural, undoubled, content, unsigned, integer, minus, plus, signed}
-use Rattle.csv.specs.Place.{inner, gathered}
-use Rattle.csv.specs.declared.Value.{Value}
-use Rattle.csv.specs.declared.Value.the-variants.{Number, Missing, Bad}
+use Rattle.numbers.specs.Number.{digit, digits, numeral, decimal, natural, undoubled, content, unsigned, integer, minus, plus, signed}
+use Rattle.numbers.specs.Digits.{inner, gathered}
+use Rattle.numbers.specs.declared.Value.{Value}
+use Rattle.numbers.specs.declared.Value.the-variants.{Number, Missing, Bad}
 
 -- more digits make no smaller number
 grows : (n : ℕ) (s : List ℕ) → n ≤ decimal n s
@@ -39,7 +39,15 @@ and-false : (t : Bool) → (t && false) ≡ false
 and-false true = refl
 and-false false = refl
 
-next-byte : (s : List ℕ) (i : ℕ) → i < length s → drop i s ≡ getD s i 0 ∷ drop (i + 1) s
+pub and-left : (a b : Bool) → (a && b) ≡ true → a ≡ true
+and-left true b e = refl
+and-left false b e = e
+
+pub and-right : (a b : Bool) → (a && b) ≡ true → b ≡ true
+and-right true b e = e
+and-right false b e = absurd (false≢true e)
+
+pub next-byte : (s : List ℕ) (i : ℕ) → i < length s → drop i s ≡ getD s i 0 ∷ drop (i + 1) s
 next-byte s i h = rw (add-one, drop-cons s i 0)
 
 -- Each way through a turn of the loop of `natural_of`, at byte i with n gathered. x is the answer for the whole text.

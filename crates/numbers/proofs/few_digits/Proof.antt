@@ -1,14 +1,14 @@
-use Rattle.csv.proofs.Numbers.{gather-done, gather-beyond, gather-low, gather-high, gather-on, short-digits, short-on}
+use Rattle.numbers.proofs.Numbers.{gather-done, gather-beyond, gather-low, gather-high, gather-on, short-digits, short-on}
 use Prim.Native.Nat.{_≤_, _<_, _-_, _^_}
 use mathlib.Core.Path.{_≡_}
 use native.Mathlib.Omega.{arith}
 use lib.ListN.{length, drop}
-use Rattle.csv.specs.Place.{gathered}
+use Rattle.numbers.specs.Digits.{gathered}
 use borrow.Author.Needs.{needs}
-use Rattle.csv.proofs.few_digits.Statement.{statement}
-use Rattle.csv.proofs.few_digits.Tie as tie
-use Rattle.csv.proofs.few_digits.Reads as reads
-use Rattle.csv.proofs.few_digits.Lts as lts
+use Rattle.numbers.proofs.few_digits.Statement.{statement}
+use Rattle.numbers.proofs.few_digits.Tie as tie
+use Rattle.numbers.proofs.few_digits.Reads as reads
+use Rattle.numbers.proofs.few_digits.Lts as lts
 
 abbrev Inv-loop : tie.InvT-loop
 Inv-loop s limit n₀ i₀ n i = (i ≤ length s) × (n < 10 ^ i) × (gathered limit 0 s ≡ gathered limit n (drop i s))
