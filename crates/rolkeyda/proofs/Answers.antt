@@ -24,7 +24,7 @@ use Rattle.walk.specs.Reply.{meaning, WalkAnswered}
 use Rattle.walk.specs.declared.WalkReply.{WalkReply}
 use Rattle.walk.specs.declared.WalkReply.the-variants as walk
 use Rattle.tables.specs.Columns.{BlockColumns, LoopColumns, shortestBlock, shortestLoop, BlocksRead, LoopsRead}
-use Rattle.tables.specs.declared.Shape.the-variants.{Blocks, Loops}
+use Rattle.rows.specs.declared.Shape.the-variants.{Blocks, Loops}
 use Rattle.tables.specs.declared.ReadReply.{ReadReply}
 use Rattle.tables.specs.declared.ReadReply.the-variants.{Rows, Refused}
 use Rattle.rolkeyda.specs.declared.Reply.{Reply}

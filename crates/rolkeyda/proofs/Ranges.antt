@@ -23,18 +23,19 @@ use Rattle.wcet.proofs.Walks.{walks-exactly}
 use Rattle.nesting.specs.Columns.{Sized, Ranged}
 use Rattle.nesting.proofs.Stages.{fits, headed}
 use Rattle.csv.specs.Grammar.{Record, records}
-use Rattle.tables.specs.Row.{mostRows, rowOf}
+use Rattle.rows.specs.Row.{mostRows, rowOf}
 use Rattle.tables.specs.Table as table
-use Rattle.tables.specs.Table.{End, all, Reading, layoutOf, inTurn, placed, fieldOf, judge, stopped, onward, reading, tableOf}
+use Rattle.rows.specs.Judge.{inTurn, placed, fieldOf, judge}
+use Rattle.tables.specs.Table.{End, all, Reading, layoutOf, stopped, onward, reading, tableOf}
 use Rattle.tables.specs.Columns.{replyBy, replyOf}
-use Rattle.tables.specs.declared.Shape.{Shape}
-use Rattle.tables.specs.declared.Shape.the-variants.{Blocks, Loops}
+use Rattle.rows.specs.declared.Shape.{Shape}
+use Rattle.rows.specs.declared.Shape.the-variants.{Blocks, Loops}
 use Rattle.tables.specs.declared.ReadReply.{ReadReply}
-use Rattle.tables.specs.declared.Row.{Row}
-use Rattle.tables.specs.declared.Row.the-variants.{Block, Loop, Bad}
-use Rattle.tables.specs.declared.Layout.{Layout}
-use Rattle.tables.specs.declared.Verdict.{Verdict}
-use Rattle.tables.specs.declared.Verdict.the-variants.{Taken, Fault}
+use Rattle.rows.specs.declared.Row.{Row}
+use Rattle.rows.specs.declared.Row.the-variants.{Block, Loop, Bad}
+use Rattle.rows.specs.declared.Layout.{Layout}
+use Rattle.rows.specs.declared.Verdict.{Verdict}
+use Rattle.rows.specs.declared.Verdict.the-variants.{Taken, Fault}
 use Rattle.rolkeyda.specs.declared.Reply.{Reply}
 use Rattle.rolkeyda.specs.Replies.{ofReading, PlaceFits, ValueFits}
 

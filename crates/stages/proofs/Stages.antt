@@ -15,13 +15,13 @@ use Rattle.lists.specs.Search.{firstBelow}
 use Rattle.wcet.specs.Table.{Routine}
 use Rattle.wcet.specs.Rules.{Reply as Answer, accepted, refused, Rule, refusedAt, check, structureRules, tableRules, bound, tableReply}
 use Rattle.nesting.specs.Columns.{routine}
-use Rattle.tables.specs.Row.{costOf, innermostOf, firstOf, secondOf, figureOf, parentOf, headOf, limitOf, multiplierOf}
+use Rattle.rows.specs.Row.{costOf, innermostOf, firstOf, secondOf, figureOf, parentOf, headOf, limitOf, multiplierOf}
 use Rattle.tables.specs.Table as table
 use Rattle.tables.specs.Table.{End, Reading, layoutOf, tableOf}
 use Rattle.tables.specs.Columns.{over, replyBy, replyOf, acceptedBy, BlockColumns, blocks, BlocksRead, LoopColumns, loops, LoopsRead}
 use Rattle.tables.specs.Columns as columns
-use Rattle.tables.specs.declared.Row.{Row}
-use Rattle.tables.specs.declared.Shape.the-variants.{Blocks as BlockRows, Loops as LoopRows}
+use Rattle.rows.specs.declared.Row.{Row}
+use Rattle.rows.specs.declared.Shape.the-variants.{Blocks as BlockRows, Loops as LoopRows}
 use Rattle.tables.specs.declared.ReadReply.{ReadReply}
 use Rattle.tables.specs.declared.ReadReply.the-variants as read
 use Rattle.rolkeyda.specs.declared.Reply.{Reply}

@@ -13,9 +13,9 @@ use Rattle.wcet.specs.Rules.{Reply, accepted, refused, tableReply}
 use Rattle.wcet.proofs.Bound.{wcet-bound}
 use Rattle.tables.specs.Table as table
 use Rattle.tables.specs.Table.{End, Reading, layoutOf, tableOf}
-use Rattle.tables.specs.declared.Layout.{Layout}
-use Rattle.tables.specs.declared.Row.{Row}
-use Rattle.tables.specs.declared.Shape.the-variants.{Blocks as BlockRows, Loops as LoopRows}
+use Rattle.rows.specs.declared.Layout.{Layout}
+use Rattle.rows.specs.declared.Row.{Row}
+use Rattle.rows.specs.declared.Shape.the-variants.{Blocks as BlockRows, Loops as LoopRows}
 use Rattle.report.specs.Line.{bytes}
 use Rattle.stages.specs.Stages.{same, headerOf, ofAnswer, ofEnd, ofReading, routineOf, tableStage, hasBlocks, hasLoops, loopsStage, blocksStage, settingStage, outcomeOf, wantedBy, Certified, FirstBytes, InTurn}
 use Rattle.stages.specs.declared.Header.{Header}

@@ -12,12 +12,12 @@ use Rattle.wcet.specs.Table.{Routine}
 use Rattle.wcet.specs.Rules.{Reply, accepted, refused, tableReply}
 use Rattle.wcet.specs.Claim.{WcetBound}
 use Rattle.nesting.specs.Columns.{routine}
-use Rattle.tables.specs.Row.{mostRows, costOf, innermostOf, firstOf, secondOf, figureOf, parentOf, headOf, limitOf, multiplierOf}
+use Rattle.rows.specs.Row.{mostRows, costOf, innermostOf, firstOf, secondOf, figureOf, parentOf, headOf, limitOf, multiplierOf}
 use Rattle.tables.specs.Table as table
 use Rattle.tables.specs.Table.{End, Reading, layoutOf, tableOf}
-use Rattle.tables.specs.declared.Shape.{Shape}
-use Rattle.tables.specs.declared.Shape.the-variants.{Blocks as BlockRows, Loops as LoopRows}
-use Rattle.tables.specs.declared.Row.{Row}
+use Rattle.rows.specs.declared.Shape.{Shape}
+use Rattle.rows.specs.declared.Shape.the-variants.{Blocks as BlockRows, Loops as LoopRows}
+use Rattle.rows.specs.declared.Row.{Row}
 use Rattle.report.specs.Line.{bytes}
 use Rattle.stages.specs.declared.Header.{Header}
 use Rattle.stages.specs.declared.Header.the-variants.{Absent, Present, Wrong}

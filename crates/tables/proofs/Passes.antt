@@ -26,18 +26,20 @@ use Rattle.numbers.specs.declared.SignedValue.{SignedValue}
 use Rattle.numbers.specs.declared.SignedValue.the-variants.{Number as Signed, Missing as NoSigned, Bad as BadSigned}
 use Rattle.numbers.proofs.Numbers.{signed-fits}
 use Rattle.csv.proofs.Records.{Spans, record-spans, records-none, records-step}
-use Rattle.tables.proofs.Row.{the-type}
-use Rattle.tables.specs.Row.{needed, neededSigned, orMissing, blockOf, loopOf, rowOf, figureOf}
-use Rattle.tables.specs.Table.{inTurn, placed, fieldOf, judge, End, all, stopped, Reading, onward, reading, headed, tableOf}
+use Rattle.rows.proofs.Row.{the-type}
+use Rattle.rows.specs.Row.{needed, neededSigned, orMissing, blockOf, loopOf, rowOf, figureOf}
+use Rattle.rows.specs.Judge.{inTurn, placed, fieldOf, judge}
+use Rattle.tables.specs.Table.{End, all, stopped, Reading, onward, reading, headed, tableOf}
 use Rattle.tables.specs.Columns.{replyBy}
-use Rattle.tables.specs.Place.{stepOf, slotOf, gathered, rowsIn, IsBlock, IsLoop, All}
-use Rattle.tables.specs.declared.Shape.the-variants.{Blocks, Loops}
-use Rattle.tables.specs.declared.Row.{Row}
-use Rattle.tables.specs.declared.Row.the-variants.{Block, Loop, Bad}
-use Rattle.tables.specs.declared.Layout.{Layout}
-use Rattle.tables.specs.declared.Verdict.{Verdict}
-use Rattle.tables.specs.declared.Verdict.the-variants.{Taken, Fault}
-use Rattle.tables.specs.declared.Step.{Step}
+use Rattle.rows.specs.Place.{stepOf}
+use Rattle.tables.specs.Place.{slotOf, gathered, rowsIn, IsBlock, IsLoop, All}
+use Rattle.rows.specs.declared.Shape.the-variants.{Blocks, Loops}
+use Rattle.rows.specs.declared.Row.{Row}
+use Rattle.rows.specs.declared.Row.the-variants.{Block, Loop, Bad}
+use Rattle.rows.specs.declared.Layout.{Layout}
+use Rattle.rows.specs.declared.Verdict.{Verdict}
+use Rattle.rows.specs.declared.Verdict.the-variants.{Taken, Fault}
+use Rattle.rows.specs.declared.Step.{Step}
 use Rattle.tables.specs.declared.Slot.{Slot}
 use Rattle.tables.specs.declared.Gathered.{Gathered}
 use Rattle.tables.specs.declared.ReadReply.the-variants.{Rows, Refused}

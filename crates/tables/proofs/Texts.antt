@@ -11,11 +11,12 @@ use lib.Dec.{eqb, leb}
 use Rattle.csv.specs.Grammar.{Record, records}
 use Rattle.csv.specs.Write.{Line, write, Allowed, recordsAs, AllSound, Written}
 use Rattle.csv.proofs.Inverse.{read-back, write-again}
-use Rattle.tables.specs.Table.{judge, placed, fieldOf, all, refused, stopped, onward, reading, headed, tableOf}
-use Rattle.tables.specs.Row.{rowOf}
-use Rattle.tables.specs.declared.Layout.{Layout}
-use Rattle.tables.specs.declared.Verdict.{Verdict}
-use Rattle.tables.specs.declared.Verdict.the-variants.{Taken, Fault}
+use Rattle.rows.specs.Judge.{judge, placed, fieldOf}
+use Rattle.tables.specs.Table.{all, refused, stopped, onward, reading, headed, tableOf}
+use Rattle.rows.specs.Row.{rowOf}
+use Rattle.rows.specs.declared.Layout.{Layout}
+use Rattle.rows.specs.declared.Verdict.{Verdict}
+use Rattle.rows.specs.declared.Verdict.the-variants.{Taken, Fault}
 
 refuse : {n place : ℕ} {A : Type 0} → refused n place ≡ all → A
 refuse q = absurd (let z : _≡_ {A = ℕ} 0 1 = cc in omega arith)

@@ -14,15 +14,15 @@ use Rattle.csv.specs.Grammar.{recordOf, records}
 use Rattle.csv.specs.Place.{splitOf, noPlaces}
 use Rattle.csv.specs.declared.Split.{Split}
 use Rattle.csv.proofs.Records.{Spans, record-spans, records-none, records-step}
-use Rattle.tables.specs.Row.{costOf, innermostOf, firstOf, secondOf, figureOf, parentOf, headOf, limitOf, multiplierOf}
+use Rattle.rows.specs.Row.{costOf, innermostOf, firstOf, secondOf, figureOf, parentOf, headOf, limitOf, multiplierOf}
 use Rattle.tables.specs.Table.{layoutOf, End, all, refused, stopped, reading, headed, tableOf}
 use Rattle.tables.specs.Columns.{replyBy, replyOf, acceptedBy, accepted, over, BlockColumns, LoopColumns, shortestBlock, shortestLoop, BlocksDone, LoopsDone}
 use Rattle.tables.specs.Place.{slotOf, noSlots, gathered, rowsIn, rowCount, All, IsBlock, IsLoop, BlocksRoom, BlocksFilled, LoopsRoom, LoopsFilled}
-use Rattle.tables.specs.declared.Shape.{Shape}
-use Rattle.tables.specs.declared.Shape.the-variants.{Blocks, Loops}
-use Rattle.tables.specs.declared.Layout.{Layout}
-use Rattle.tables.specs.declared.Row.{Row}
-use Rattle.tables.specs.declared.Row.the-variants.{Bad}
+use Rattle.rows.specs.declared.Shape.{Shape}
+use Rattle.rows.specs.declared.Shape.the-variants.{Blocks, Loops}
+use Rattle.rows.specs.declared.Layout.{Layout}
+use Rattle.rows.specs.declared.Row.{Row}
+use Rattle.rows.specs.declared.Row.the-variants.{Bad}
 use Rattle.tables.specs.declared.Slot.{Slot}
 use Rattle.tables.specs.declared.Gathered.{Gathered}
 use Rattle.tables.proofs.Passes.{table-fit, only-blocks, only-loops}

@@ -6,10 +6,10 @@ use mathlib.Core.Bool.{Bool}
 use mathlib.Core.List.{List, [], _∷_, map}
 use lib.ListN.{length}
 use lib.IntN.{ℤ}
-use Rattle.tables.specs.Row.{costOf, innermostOf, firstOf, secondOf, figureOf, parentOf, headOf, limitOf, multiplierOf}
+use Rattle.rows.specs.Row.{costOf, innermostOf, firstOf, secondOf, figureOf, parentOf, headOf, limitOf, multiplierOf}
 use Rattle.tables.specs.Table.{End, all, refused, Reading, layoutOf, tableOf}
-use Rattle.tables.specs.declared.Shape.the-variants.{Blocks, Loops}
-use Rattle.tables.specs.declared.Row.{Row}
+use Rattle.rows.specs.declared.Shape.the-variants.{Blocks, Loops}
+use Rattle.rows.specs.declared.Row.{Row}
 use Rattle.tables.specs.declared.ReadReply.{ReadReply}
 use Rattle.tables.specs.declared.ReadReply.the-variants.{Rows, Refused}
 

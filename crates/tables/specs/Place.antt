@@ -1,48 +1,20 @@
 -- What the functions under the two readers answer, by the definitions of Table.
 use Prim.Native.Nat.{ℕ, _+_, _≤_}
 use mathlib.Core.Path.{_≡_}
-use mathlib.Core.Bool.{true}
 use mathlib.Core.List.{List, [], _∷_, map}
-use lib.ListN.{length, take, drop, replicate}
+use lib.ListN.{length, take, replicate}
 use lib.Seq.{sets}
 use mir.Syntax.{w64}
 use mir.Val.{SFits}
-use Rattle.csv.specs.Grammar.{Record, recordOf}
-use Rattle.numbers.specs.Number.{unsigned}
-use Rattle.numbers.specs.declared.Value.{Value}
-use Rattle.tables.specs.Row.{orMissing, rowOf, costOf, innermostOf, firstOf, secondOf, figureOf, parentOf, headOf, limitOf, multiplierOf}
-use Rattle.tables.specs.Table.{fieldOf, Reading, judge}
+use Rattle.rows.specs.Row.{costOf, innermostOf, firstOf, secondOf, figureOf, parentOf, headOf, limitOf, multiplierOf}
+use Rattle.tables.specs.Table.{Reading}
 use Rattle.tables.specs.Columns.{replyBy, BlockColumns, LoopColumns}
-use Rattle.tables.specs.declared.Shape.the-variants.{Blocks}
-use Rattle.tables.specs.declared.Layout.{Layout}
-use Rattle.tables.specs.declared.Row.{Row}
-use Rattle.tables.specs.declared.Row.the-variants.{Block, Loop, Bad}
-use Rattle.tables.specs.declared.Quick.{Quick}
-use Rattle.tables.specs.declared.Quick.the-variants.{Block as QuickBlock, Other}
-use Rattle.tables.specs.declared.Step.{Step}
+use Rattle.rows.specs.declared.Row.{Row}
+use Rattle.rows.specs.declared.Row.the-variants.{Block, Loop, Bad}
 use Rattle.tables.specs.declared.Slot.{Slot}
 use Rattle.tables.specs.declared.Gathered.{Gathered}
 use Rattle.tables.specs.declared.ReadReply.{ReadReply}
 use Rattle.tables.specs.declared.ReadReply.the-variants.{Rows, Refused}
-
--- the verdict on the record r that starts at p, where row k is due, and the place behind it
-abbrev pub stepOf : Layout → ℕ → ℕ → Record → Step
-stepOf t k p r = record { verdict = judge t k r; next = p + r .bytes }
-
--- what a successor's field says, with 65,535 for a missing one
-abbrev pub successor : List ℕ → Value
-successor w = orMissing (unsigned 65534 w)
-
--- what is known of a block that was read in one scan
-pub record BlockAt (s : List ℕ) (at : ℕ) (w : Row) (next : ℕ) : Type 0 where
-  pub sound : recordOf (drop at s) .sound ≡ true
-  pub count : length (recordOf (drop at s) .fields) ≡ 6
-  pub says : w ≡ rowOf Blocks (fieldOf (recordOf (drop at s)))
-  pub behind : next ≡ at + recordOf (drop at s) .bytes
-
-abbrev pub QuickAt : List ℕ → ℕ → Quick → Type 0
-QuickAt s at (QuickBlock w next) = BlockAt s at w next
-QuickAt s at Other = Unit {0}
 
 -- the slots before a row is taken
 abbrev pub slotOf : Row → Slot

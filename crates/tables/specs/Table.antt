@@ -3,40 +3,21 @@
 use Prim.Native.Nat.{ℕ, suc, _+_, min}
 use mathlib.Core.Bool.{Bool, cond}
 use mathlib.Core.List.{List, [], _∷_}
-use lib.ListN.{length, getD}
-use lib.Dec.{ltb, leb, eqb}
+use lib.ListN.{length}
+use lib.Dec.{leb, eqb}
 use Rattle.csv.specs.Grammar.{Record, records}
-use Rattle.tables.specs.Row.{columnsOf, mostRows, rowOf}
-use Rattle.tables.specs.declared.Shape.{Shape}
-use Rattle.tables.specs.declared.Row.{Row}
-use Rattle.tables.specs.declared.Row.the-variants.{Block, Loop, Bad}
-use Rattle.tables.specs.declared.Layout.{Layout}
-use Rattle.tables.specs.declared.Verdict.{Verdict}
-use Rattle.tables.specs.declared.Verdict.the-variants.{Taken, Fault}
+use Rattle.rows.specs.Row.{columnsOf, mostRows}
+use Rattle.rows.specs.Judge.{judge}
+use Rattle.rows.specs.declared.Shape.{Shape}
+use Rattle.rows.specs.declared.Row.{Row}
+use Rattle.rows.specs.declared.Layout.{Layout}
+use Rattle.rows.specs.declared.Verdict.{Verdict}
+use Rattle.rows.specs.declared.Verdict.the-variants.{Taken, Fault}
 
 -- what a reader goes by: the shape of its rows, the count of their fields, and how many rows have a place. 106: "or no place left
 -- in the shortest lent column"
 abbrev pub layoutOf : Shape → ℕ → Layout
 layoutOf x places = record { shape = x; columns = columnsOf x; room = min places (mostRows x) }
-
--- 105: "row number out of turn", and then 106, for a row with number n where row k is due
-abbrev pub inTurn : ℕ → ℕ → ℕ → Row → Verdict
-inTurn room k n w = cond (eqb n k) (cond (ltb k room) (Taken w) (Fault 106)) (Fault 105)
-
--- 104 before them
-abbrev pub placed : ℕ → ℕ → Row → Verdict
-placed room k Bad = Fault 104
-placed room k (Block n c l a b z) = inTurn room k n (Block n c l a b z)
-placed room k (Loop n p h l m) = inTurn room k n (Loop n p h l m)
-
--- field i of a record as written
-abbrev pub fieldOf : Record → ℕ → List ℕ
-fieldOf r i = getD (r .fields) i []
-
--- "in it the lowest number": 102, "quote mark in a plain field ..", for a record that is not sound; 103, "wrong count of fields"; then
--- 104, 105, 106, of a record that stands where row k is due
-unfoldable pub judge : Layout → ℕ → Record → Verdict
-judge t k r = cond (r .sound) (cond (eqb (length (r .fields)) (t .columns)) (placed (t .room) k (rowOf (t .shape) (fieldOf r))) (Fault 103)) (Fault 102)
 
 -- how a reading ends: all records taken, or refused with a number and a place
 pub data End : Type 0 where

@@ -1,0 +1,3 @@
+pub mod Row
+pub mod Judge
+pub mod Place
