@@ -8,7 +8,7 @@ use native.Mathlib.Omega.{arith}
 use lib.ListN.{length, take, drop, length-drop}
 use lib.Dec.{leb}
 use Rattle.csv.specs.declared.Ending.the-variants.{CrLf, EndOfText}
-use Rattle.csv.specs.Grammar.{Extent, size, unclosed, longer, plain, inside, after, extent, isQuote, isComma, isCr, isLf, isText, Field, comma, ends, width, broken, following, lineFeed, limited, field, Record, recordWith, recordIn, recordOf, joined, onward, recordsIn, records}
+use Rattle.csv.specs.Grammar.{Extent, size, unclosed, longer, plain, inside, after, extent, isQuote, isComma, isCr, isLf, isText, Field, comma, ends, width, broken, following, lineFeed, limited, field, Record, recordWith, recordIn, recordOf, joined, recordsAfter, recordsIn, records}
 
 -- at most l bytes
 abbrev Bounded : ℕ → Extent → Type 0
@@ -138,7 +138,7 @@ records-enough (suc j) zero (b ∷ s) p q = absurd (omega arith)
 records-enough (suc j) (suc k) [] p q = refl
 records-enough (suc j) (suc k) (b ∷ s) p q = ap (λ (l : List Record). recordOf (b ∷ s) ∷ l) (go (λ t. records-enough j k t) (recordOf (b ∷ s)) (record-spans (b ∷ s)))
   where
-    go : ((t : List ℕ) → length t ≤ j → length t ≤ k → recordsIn j t ≡ recordsIn k t) → (r : Record) → (r .sound ≡ true → Spans r (suc (length s))) → onward (recordsIn j) (b ∷ s) r ≡ onward (recordsIn k) (b ∷ s) r
+    go : ((t : List ℕ) → length t ≤ j → length t ≤ k → recordsIn j t ≡ recordsIn k t) → (r : Record) → (r .sound ≡ true → Spans r (suc (length s))) → recordsAfter (recordsIn j) (b ∷ s) r ≡ recordsAfter (recordsIn k) (b ∷ s) r
     go ih r h = at (r .sound) refl
       where
         at : (t : Bool) → r .sound ≡ t → cond t (recordsIn j (drop (r .bytes) (b ∷ s))) [] ≡ cond t (recordsIn k (drop (r .bytes) (b ∷ s))) []
@@ -150,12 +150,12 @@ unfolding records recordsIn
 records-none [] e = refl
 records-none (b ∷ s) e = absurd (omega arith)
 
-pub records-step : (s : List ℕ) → 0 < length s → records s ≡ recordOf s ∷ onward records s (recordOf s)
+pub records-step : (s : List ℕ) → 0 < length s → records s ≡ recordOf s ∷ recordsAfter records s (recordOf s)
 unfolding records recordsIn
 records-step [] h = absurd (omega arith)
 records-step (b ∷ s) h = ap (λ (l : List Record). recordOf (b ∷ s) ∷ l) (go (recordOf (b ∷ s)) (record-spans (b ∷ s)))
   where
-    go : (r : Record) → (r .sound ≡ true → Spans r (suc (length s))) → onward (recordsIn (length s)) (b ∷ s) r ≡ onward records (b ∷ s) r
+    go : (r : Record) → (r .sound ≡ true → Spans r (suc (length s))) → recordsAfter (recordsIn (length s)) (b ∷ s) r ≡ recordsAfter records (b ∷ s) r
     go r h = at (r .sound) refl
       where
         at : (t : Bool) → r .sound ≡ t → cond t (recordsIn (length s) (drop (r .bytes) (b ∷ s))) [] ≡ cond t (records (drop (r .bytes) (b ∷ s))) []

@@ -126,15 +126,16 @@ unfoldable pub recordOf : List ℕ → Record
 recordOf s = recordIn (suc (length s)) s
 
 -- what comes behind the record r of s: nothing is read behind a record that is not sound
-abbrev pub onward : (List ℕ → List Record) → List ℕ → Record → List Record
-onward rest s r = cond (r .sound) (rest (drop (r .bytes) s)) []
+abbrev pub recordsAfter : (List ℕ → List Record) → List ℕ → Record → List Record
+recordsAfter rest s r = cond (r .sound) (rest (drop (r .bytes) s)) []
 
--- file = record *(CRLF record) [CRLF]: the records up to the first that is not sound. "An empty text has no records", so a final
--- line end opens none. A record that another follows has two bytes or more, so a text of n bytes has at most n records.
+-- file = [header CRLF] record *(CRLF record) [CRLF], where a header is a record like the others: the records up to the first that is not
+-- sound. "An empty text has no records", so a final line end opens none. A record that another follows has two bytes or more, so a text of
+-- n bytes has at most n records.
 unfoldable pub recordsIn : ℕ → List ℕ → List Record
 recordsIn zero s = []
 recordsIn (suc k) [] = []
-recordsIn (suc k) (b ∷ s) = recordOf (b ∷ s) ∷ onward (recordsIn k) (b ∷ s) (recordOf (b ∷ s))
+recordsIn (suc k) (b ∷ s) = recordOf (b ∷ s) ∷ recordsAfter (recordsIn k) (b ∷ s) (recordOf (b ∷ s))
 
 unfoldable pub records : List ℕ → List Record
 records s = recordsIn (length s) s

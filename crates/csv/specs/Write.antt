@@ -62,7 +62,8 @@ writeFields f (g ∷ gs) = written f ++ 44 ∷ writeFields g gs
 abbrev pub writeLine : Line → List ℕ
 writeLine l = writeFields (l .first) (l .more)
 
--- file = record *(CRLF record) [CRLF]: `ended` says whether the last line end is there
+-- file = [header CRLF] record *(CRLF record) [CRLF], where a header is a record like the others; `ended` says whether the last line end is
+-- there
 unfoldable pub write : List Line → Bool → List ℕ
 write [] ended = []
 write (l ∷ []) ended = writeLine l ++ cond ended (13 ∷ 10 ∷ []) []

@@ -1,13 +1,12 @@
 -- The choice by a test, and searches over the numbers 0 to k − 1.
 use Prim.Native.Nat.{ℕ, zero, suc, _+_}
-use mathlib.Core.Bool.{Bool, true, false, _||_}
+use mathlib.Core.Bool.{Bool, false, cond, _||_}
 use mathlib.Core.Option.{Option, none, some}
 
 infixr 1 if_then_else_
 -- the choice by a test
 abbrev pub if_then_else_ {ℓ} : {A : Type ℓ} → Bool → A → A → A
-if true then x else y = x
-if false then x else y = y
+if b then x else y = cond b x y
 
 -- some number below k passes the test p
 unfoldable pub anyBelow : ℕ → (ℕ → Bool) → Bool

@@ -26,7 +26,7 @@ use Rattle.csv.specs.Grammar.{Record, records}
 use Rattle.rows.specs.Row.{mostRows, rowOf}
 use Rattle.tables.specs.Table as table
 use Rattle.rows.specs.Judge.{inTurn, placed, fieldOf, judge}
-use Rattle.tables.specs.Table.{End, all, Reading, layoutOf, stopped, onward, reading, tableOf}
+use Rattle.tables.specs.Table.{End, all, Reading, layoutOf, stopped, readingAfter, reading, tableOf}
 use Rattle.tables.specs.Columns.{replyBy, replyOf}
 use Rattle.rows.specs.declared.Shape.{Shape}
 use Rattle.rows.specs.declared.Shape.the-variants.{Blocks, Loops}
@@ -204,7 +204,7 @@ reading-short t first k [] h = record { rows = omega arith; place = λ n p e. ab
 reading-short t first k (r ∷ rs) h = go (judge t k r) refl (reading-short t first (suc k) rs)
   where
     go : (v : Verdict) → judge t k r ≡ v → (suc k ≤ t .room → Short (t .room) (first + t .room) (suc k) (reading t first (suc k) rs))
-        → Short (t .room) (first + t .room) k (onward (reading t first (suc k) rs) (first + k) v)
+        → Short (t .room) (first + t .room) k (readingAfter (reading t first (suc k) rs) (first + k) v)
     go (Taken w) e later = let S = later (judge-room t k r w e) in record { rows = omega (arith, S .rows); place = S .place }
     go (Fault n) e later = stopped-short (t .room) (first + t .room) k n (first + k) h (omega arith)
 

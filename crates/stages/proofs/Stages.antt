@@ -27,7 +27,7 @@ use Rattle.tables.specs.declared.ReadReply.the-variants as read
 use Rattle.rolkeyda.specs.declared.Reply.{Reply}
 use Rattle.rolkeyda.specs.Replies.{ofTables, TablesReplied}
 use Rattle.rolkeyda.proofs.Ranges.{table-short}
-use Rattle.stages.specs.Stages.{headerOf, ofAnswer, ofEnd, ofReading, tableStage, hasBlocks, hasLoops, behindBlocks, routineOf, loopsStage, blocksStage, settingStage, outcomeOf, wantedBy}
+use Rattle.stages.specs.Stages.{headerOf, ofAnswer, ofEnd, ofReading, tableStage, hasBlocks, hasLoops, withLoops, routineOf, loopsStage, blocksStage, settingStage, outcomeOf, wantedBy}
 use Rattle.report.specs.declared.Stage.{Stage}
 use Rattle.report.specs.declared.Stage.the-variants.{Blocks, Loops, Table}
 use Rattle.stages.specs.declared.Files.{Files}
@@ -120,7 +120,7 @@ module _ (header : Bool) (files : Files) (s : List ℕ) (costs innermost firsts 
   text = tableOf (layoutOf LoopRows 64) header s
 
   abbrev routineWith : List Row → Routine
-  routineWith = behindBlocks costs innermost firsts seconds figures
+  routineWith = withLoops costs innermost firsts seconds figures
 
   pub loops-unread : {o : Outcome} → hasLoops files ≡ false → o ≡ Refused Loops 107 2 → o ≡ loopsStage header files s routineWith
   unfolding loopsStage
@@ -162,7 +162,7 @@ module _ (header : Bool) (files : Files) (s loops : List ℕ) where
 
   pub blocks-taken : {o : Outcome} {a : ReadReply} {new : BlockColumns} → hasBlocks files ≡ true → BlocksRead s header noBlocks a new → (m : ℕ)
       → {costs innermost firsts seconds : List ℕ} {figures : List ℤ} → costs ≡ take m (new .cost) → innermost ≡ take m (new .loops) → firsts ≡ take m (new .first) → seconds ≡ take m (new .second) → figures ≡ take m (new .figure)
-      → o ≡ loopsStage header files loops (behindBlocks costs innermost firsts seconds figures) → a ≡ read.Rows m → o ≡ blocksStage header files s loops
+      → o ≡ loopsStage header files loops (withLoops costs innermost firsts seconds figures) → a ≡ read.Rows m → o ≡ blocksStage header files s loops
   unfolding blocksStage
   blocks-taken h B m a b c d f t e =
       let T : Taken block-text m = taken block-text m (B .reply) e in

@@ -50,12 +50,12 @@ headerOf s = cond (says s "header=absent") Absent (cond (says s "header=present"
 -- ---- the stages
 
 -- the routine of the columns of blocks and the rows of loops
-abbrev pub behindBlocks : (costs loops firsts seconds : List ℕ) (figures : List ℤ) → List Row → Routine
-behindBlocks costs loops firsts seconds figures ls = routine costs loops firsts seconds figures (map parentOf ls) (map headOf ls) (map limitOf ls) (map multiplierOf ls)
+abbrev pub withLoops : (costs loops firsts seconds : List ℕ) (figures : List ℤ) → List Row → Routine
+withLoops costs loops firsts seconds figures ls = routine costs loops firsts seconds figures (map parentOf ls) (map headOf ls) (map limitOf ls) (map multiplierOf ls)
 
 -- the routine of the rows of blocks and those of loops
 abbrev pub routineOf : List Row → List Row → Routine
-routineOf bs = behindBlocks (map costOf bs) (map innermostOf bs) (map firstOf bs) (map secondOf bs) (map figureOf bs)
+routineOf bs = withLoops (map costOf bs) (map innermostOf bs) (map firstOf bs) (map secondOf bs) (map figureOf bs)
 
 -- the last stage: the bound, or 201 to 208
 abbrev pub ofAnswer : Reply ℤ → Outcome

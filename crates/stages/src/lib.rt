@@ -2,7 +2,7 @@
 ghost use mathlib.Core.Path.{_≡_};
 ghost use lib.ListN.{take};
 ghost use Rattle.nesting.specs.Columns.{routine};
-ghost use Rattle.stages.specs.Stages.{headerOf, hasBlocks, hasLoops, tableStage, behindBlocks, loopsStage, blocksStage, outcomeOf, wantedBy};
+ghost use Rattle.stages.specs.Stages.{headerOf, hasBlocks, hasLoops, tableStage, withLoops, loopsStage, blocksStage, outcomeOf, wantedBy};
 use report::Outcome;
 use report::Stage;
 use tables::ReadReply;
@@ -169,7 +169,7 @@ fn loops_stage(
     second: &[u16],
     figure: &[i64],
 ) -> Outcome
-    ensures { λ r. ⌜ r ≡ loopsStage header files (now (loops .entry)) (behindBlocks (now (cost .entry)) (now (innermost .entry)) (now (first .entry)) (now (second .entry)) (now (figure .entry))) ⌝ }
+    ensures { λ r. ⌜ r ≡ loopsStage header files (now (loops .entry)) (withLoops (now (cost .entry)) (now (innermost .entry)) (now (first .entry)) (now (second .entry)) (now (figure .entry))) ⌝ }
 {
     if !has_loops(files) {
         return refused(Stage::Loops, 107, 2);

@@ -29,7 +29,7 @@ use Rattle.csv.proofs.Records.{Spans, record-spans, records-none, records-step}
 use Rattle.rows.proofs.Row.{the-type}
 use Rattle.rows.specs.Row.{needed, neededSigned, orMissing, blockOf, loopOf, rowOf, figureOf}
 use Rattle.rows.specs.Judge.{inTurn, placed, fieldOf, judge}
-use Rattle.tables.specs.Table.{End, all, stopped, Reading, onward, reading, headed, tableOf}
+use Rattle.tables.specs.Table.{End, stopped, Reading, readingAfter, reading, headed, tableOf}
 use Rattle.tables.specs.Columns.{replyBy}
 use Rattle.rows.specs.Place.{stepOf}
 use Rattle.tables.specs.Place.{slotOf, gathered, rowsIn, IsBlock, IsLoop, All}
@@ -99,10 +99,10 @@ module _ (s : List ℕ) (t : Layout) (first k p : ℕ) {r : Step} (q : r ≡ ste
         let z : recordOf (drop p s) .bytes ≤ length s - p = rw length-drop at (x .within) in
         omega (arith, next-is, here .2)
 
-    rest : grammar.onward records (drop p s) (recordOf (drop p s)) ≡ records (drop (r .next) s)
+    rest : grammar.recordsAfter records (drop p s) (recordOf (drop p s)) ≡ records (drop (r .next) s)
     rest = rw (here .0, drop-drop, ← next-is)
 
-    row-reading : reading t first k (records (drop p s)) ≡ onward (reading t first (suc k) (records (drop (r .next) s))) (first + k) (Taken w)
+    row-reading : reading t first k (records (drop p s)) ≡ readingAfter (reading t first (suc k) (records (drop (r .next) s))) (first + k) (Taken w)
     unfolding reading
     row-reading = rw (records-step (drop p s) some ∙ ap (λ (l : List Record). recordOf (drop p s) ∷ l) rest, verdict-is ∙ e)
 
@@ -120,7 +120,7 @@ unfolding reading
 rows-fit t first k [] = omega arith
 rows-fit t first k (r ∷ rs) = go (judge t k r) refl (rows-fit t first (suc k) rs)
   where
-    go : (v : Verdict) → judge t k r ≡ v → length (reading t first (suc k) rs .rows) ≤ t .room - suc k → length (onward (reading t first (suc k) rs) (first + k) v .rows) ≤ t .room - k
+    go : (v : Verdict) → judge t k r ≡ v → length (reading t first (suc k) rs .rows) ≤ t .room - suc k → length (readingAfter (reading t first (suc k) rs) (first + k) v .rows) ≤ t .room - k
     go (Taken w) e h = let x = judge-of t k r w e in omega (arith, x .2)
     go (Fault n) e h = omega arith
 
@@ -170,7 +170,7 @@ module _ (P : Row → Type 0) (t : Layout) (made : (w : ℕ → List ℕ) → Or
   reading-all first k [] = tt
   reading-all first k (r ∷ rs) = go (judge t k r) refl (reading-all first (suc k) rs)
     where
-      go : (v : Verdict) → judge t k r ≡ v → All P (reading t first (suc k) rs .rows) → All P (onward (reading t first (suc k) rs) (first + k) v .rows)
+      go : (v : Verdict) → judge t k r ≡ v → All P (reading t first (suc k) rs .rows) → All P (readingAfter (reading t first (suc k) rs) (first + k) v .rows)
       go (Taken w) e h = let x = judge-of t k r w e in (taken-row k w (subst (OrBad P) (x .1) (made (fieldOf r))) (x .3), h)
       go (Fault n) e h = tt
 

@@ -12,7 +12,7 @@ use Rattle.csv.specs.Grammar.{Record, records}
 use Rattle.csv.specs.Write.{Line, write, Allowed, recordsAs, AllSound, Written}
 use Rattle.csv.proofs.Inverse.{read-back, write-again}
 use Rattle.rows.specs.Judge.{judge, placed, fieldOf}
-use Rattle.tables.specs.Table.{all, refused, stopped, onward, reading, headed, tableOf}
+use Rattle.tables.specs.Table.{all, refused, stopped, readingAfter, reading, headed, tableOf}
 use Rattle.rows.specs.Row.{rowOf}
 use Rattle.rows.specs.declared.Layout.{Layout}
 use Rattle.rows.specs.declared.Verdict.{Verdict}
@@ -41,7 +41,7 @@ unfolding reading
 reading-sound t first k [] e = tt
 reading-sound t first k (r ∷ rs) e = go (judge t k r) refl e (λ f. reading-sound t first (suc k) rs f)
   where
-    go : (v : Verdict) → judge t k r ≡ v → onward (reading t first (suc k) rs) (first + k) v .end ≡ all → (reading t first (suc k) rs .end ≡ all → AllSound rs) → AllSound (r ∷ rs)
+    go : (v : Verdict) → judge t k r ≡ v → readingAfter (reading t first (suc k) rs) (first + k) v .end ≡ all → (reading t first (suc k) rs .end ≡ all → AllSound rs) → AllSound (r ∷ rs)
     go (Taken w) g e ih = (taken-sound t k r (Taken w) g (λ z. let y : _≡_ {A = ℕ} 0 1 = cc in omega arith), ih e)
     go (Fault n) g e ih = refuse e
 

@@ -7,7 +7,7 @@ use Prim.Native.Nat.{ℕ, suc, _+_, _<_, _≤_}
 use native.Mathlib.Nat.{zero-add}
 use native.Mathlib.Omega.{arith}
 use borrow.Author.Tests.{eq-eqb, ne-eqb, le-leb, lt-leb}
-use lib.ListN.{length, take, drop, set, length-map, length-replicate}
+use lib.ListN.{length, drop, set, length-map, length-replicate}
 use lib.Seq.{sets, sets-eq, length-sets, take-append-seam}
 use Rattle.csv.specs.Grammar as grammar
 use Rattle.csv.specs.Grammar.{recordOf, records}
@@ -47,7 +47,7 @@ module _ (s : List ℕ) (t : Layout) (header : Bool) where
       table-headless z q = q ∙ rw (headed-table, records-none s z)
 
       module _ (z : length s ≡ 0 → ⊥) {r : Split} (y : r ≡ splitOf noPlaces noPlaces 0 0 (recordOf (drop 0 s))) where
-        stepped : records s ≡ recordOf s ∷ grammar.onward records s (recordOf s)
+        stepped : records s ≡ recordOf s ∷ grammar.recordsAfter records s (recordOf s)
         stepped = records-step s (omega arith)
 
         sound-is : recordOf s .sound ≡ r .sound

@@ -32,15 +32,15 @@ pub record Reading : Type 0 where
 abbrev pub stopped : ℕ → ℕ → Reading
 stopped n place = record { rows = []; end = refused n place }
 
-abbrev pub onward : Reading → ℕ → Verdict → Reading
-onward rest place (Taken w) = record { rows = w ∷ rest .rows; end = rest .end }
-onward rest place (Fault n) = stopped n place
+abbrev pub readingAfter : Reading → ℕ → Verdict → Reading
+readingAfter rest place (Taken w) = record { rows = w ∷ rest .rows; end = rest .end }
+readingAfter rest place (Fault n) = stopped n place
 
 -- "then the lowest record": the records from the one where row k is due. "Data rows are numbered 0, 1, 2 and so on, in order";
 -- row 0 stands in record `first`.
 unfoldable pub reading : Layout → ℕ → ℕ → List Record → Reading
 reading t first k [] = record { rows = []; end = all }
-reading t first k (r ∷ rs) = onward (reading t first (suc k) rs) (first + k) (judge t k r)
+reading t first k (r ∷ rs) = readingAfter (reading t first (suc k) rs) (first + k) (judge t k r)
 
 -- "With a header, record 1 is checked for form and field count and then dropped"; 103: "or a header promised and no record there
 -- (place 1)"

@@ -1,11 +1,10 @@
 -- The state of a run as the code has it, and what one block more makes of it.
-use Prim.Native.Nat.{ℕ, _+_, _-_, _*_, _/_, _%_, _^_, _≤_, _<_}
+use Prim.Native.Nat.{ℕ, _+_, _-_, _*_, _≤_, _<_}
 use mathlib.Core.Path.{_≡_}
-use mathlib.Core.Bool.{Bool, not, _&&_, _||_, false}
+use mathlib.Core.Bool.{not, _||_, false}
 use mathlib.Core.List.{List}
 use lib.Dec.{eqb, ltb}
 use lib.IntN.{ℤ}
-use lib.ListN.{getD}
 use Rattle.lists.specs.Search.{if_then_else_}
 use Rattle.wcet.specs.Table.{Routine, blockCount, exit, cost, edge}
 use Rattle.wcet.specs.Rules.{structureRules}
@@ -13,8 +12,7 @@ use Rattle.wcet.specs.Run.{State, next, passesLimit}
 use Rattle.wcet.specs.Walk.{longestWalk}
 use Rattle.wcet.specs.Claim.{AllHold}
 use Rattle.nesting.specs.Columns.{routine, Ranged}
-use Rattle.loopsets.specs.Sets.{member, SetsAround}
-use Rattle.loopsets.specs.declared.LoopSet.{LoopSet}
+use Rattle.loopsets.specs.Sets.{SetsAround}
 use Rattle.counts.specs.Counts.{countIn}
 use Rattle.walk.specs.declared.Run.{Run}
 use Rattle.walk.specs.declared.Answer.{Answer}

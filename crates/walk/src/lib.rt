@@ -1,10 +1,10 @@
 // A walk (a trace of blocks) through a routine: accepted exactly where it is a finished counted run, with its cost. A step is a few word
 // operations: of the 64 counts only those of the loops that are left, and of the loop that is stepped into, are touched.
 ghost use mathlib.Core.Path.{_≡_};
-ghost use mathlib.Core.Bool.{not, _&&_, _||_};
-ghost use Prim.Native.Nat.{ℕ, _<_, _≤_};
+ghost use mathlib.Core.Bool.{not, _||_};
+ghost use Prim.Native.Nat.{_<_};
 ghost use lib.Dec.{eqb};
-ghost use lib.ListN.{length, getD, set};
+ghost use lib.ListN.{length, getD};
 ghost use Rattle.wcet.specs.Run.{start};
 ghost use Rattle.nesting.specs.Columns.{routine};
 ghost use Rattle.walk.specs.Step.{stateOf, edgeAnswer, reading, Stands, Steps};

@@ -3,7 +3,6 @@ use Rattle.tables.proofs.block_layout.Statement.{statement}
 use Rattle.tables.proofs.block_layout.Tie as tie
 use Rattle.tables.proofs.block_layout.Reads as reads
 use Rattle.tables.proofs.block_layout.Lts as lts
-use Rattle.tables.proofs.least.Reads as least-reads
 
 least-requires : tie.Need-least-requires
 least-requires c κs = search needs

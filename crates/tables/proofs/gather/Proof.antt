@@ -11,7 +11,6 @@ use Rattle.tables.proofs.gather.Statement.{statement}
 use Rattle.tables.proofs.gather.Tie as tie
 use Rattle.tables.proofs.gather.Reads as reads
 use Rattle.tables.proofs.gather.Lts as lts
-use Rattle.rows.proofs.row_at.Reads as row-at-reads
 
 abbrev Inv-loop : tie.InvT-loop
 Inv-loop text t at first slots₀ p₀ k₀ slots p k = (p ≤ length text) × (k ≤ p) × (gathered noSlots 0 (reading t first 0 (records (drop at text))) ≡ gathered slots k (reading t first k (records (drop p text))))

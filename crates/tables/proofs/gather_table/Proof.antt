@@ -5,9 +5,6 @@ use Rattle.tables.proofs.gather_table.Statement.{statement}
 use Rattle.tables.proofs.gather_table.Tie as tie
 use Rattle.tables.proofs.gather_table.Reads as reads
 use Rattle.tables.proofs.gather_table.Lts as lts
-use Rattle.csv.proofs.scan_record.Reads as scan-record-reads
-use Rattle.tables.proofs.gather.Reads as gather-reads
-use Rattle.tables.proofs.refused.Reads as refused-reads
 
 refused-requires : tie.Need-refused-requires
 refused-requires c κs = search needs

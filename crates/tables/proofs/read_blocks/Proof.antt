@@ -5,10 +5,6 @@ use Rattle.tables.proofs.read_blocks.Statement.{statement}
 use Rattle.tables.proofs.read_blocks.Tie as tie
 use Rattle.tables.proofs.read_blocks.Reads as reads
 use Rattle.tables.proofs.read_blocks.Lts as lts
-use Rattle.tables.proofs.block_layout.Reads as block-layout-reads
-use Rattle.tables.proofs.fill_blocks.Reads as fill-blocks-reads
-use Rattle.tables.proofs.gather_table.Reads as gather-table-reads
-use Rattle.tables.proofs.row_count.Reads as row-count-reads
 
 block-layout-requires : tie.Need-block-layout-requires
 block-layout-requires c κs = search needs

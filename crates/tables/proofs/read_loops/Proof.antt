@@ -5,10 +5,6 @@ use Rattle.tables.proofs.read_loops.Statement.{statement}
 use Rattle.tables.proofs.read_loops.Tie as tie
 use Rattle.tables.proofs.read_loops.Reads as reads
 use Rattle.tables.proofs.read_loops.Lts as lts
-use Rattle.tables.proofs.fill_loops.Reads as fill-loops-reads
-use Rattle.tables.proofs.gather_table.Reads as gather-table-reads
-use Rattle.tables.proofs.loop_layout.Reads as loop-layout-reads
-use Rattle.tables.proofs.row_count.Reads as row-count-reads
 
 loop-layout-requires : tie.Need-loop-layout-requires
 loop-layout-requires c κs = search needs
