@@ -21,7 +21,6 @@ use Rattle.walk.specs.declared.Answer.the-variants.{Moved, NoBlock, Afte
 use Rattle.walk.specs.declared.Stepped.{Stepped}
 use Rattle.walk.specs.declared.WalkReply.{WalkReply}
 use Rattle.walk.specs.declared.WalkReply.the-variants.{Accepted, Unfinished}
-use Rattle.walk.specs.declared.WalkReply.the-variants as reply
 use Rattle.walk.specs.Step.{stateOf, Outcome, outcome, refusing, stepped, Walkable, Standing}
 use Rattle.walk.specs.Reply.{meaning, endOf}
 use Rattle.walk.proofs.Facts.{nesting}
@@ -29,7 +28,7 @@ use Rattle.walk.proofs.Facts.{nesting}
 -- ---- one step
 
 -- what a step's answer makes of the reply
-abbrev decided : Answer → ℕ → Reply Walked → Reply Walked
+abbrev pub decided : Answer → ℕ → Reply Walked → Reply Walked
 decided Moved i rest = rest
 decided NoBlock i rest = refused 302 i
 decided AfterExit i rest = refused 311 i
@@ -135,17 +134,9 @@ module _ (t : Routine) (sets : List ℕ) (S : Walkable t sets) (w : List ℕ) wh
           ∙ step-decides t (stateOf r) (r .cost) (getD w i 0) i (drop (suc i) w) (accepted (walked t w))
           ∙ ap (λ (x : Answer). decided x i (walkFrom t (next t (stateOf r) (getD w i 0)) (suc i) (drop (suc i) w) (accepted (walked t w)))) (ap (λ (x : Outcome). x .answer) (sym step) ∙ e)
 
-      pub stop-no-block : s .answer ≡ NoBlock → meaning (reply.NoBlock i) ≡ walkFrom t start 1 (drop 1 w) (accepted (walked t w))
-      stop-no-block e = sym (stops NoBlock e)
-
-      pub stop-after-exit : s .answer ≡ AfterExit → meaning (reply.AfterExit i) ≡ walkFrom t start 1 (drop 1 w) (accepted (walked t w))
-      stop-after-exit e = sym (stops AfterExit e)
-
-      pub stop-no-edge : s .answer ≡ NoEdge → meaning (reply.NoEdge i) ≡ walkFrom t start 1 (drop 1 w) (accepted (walked t w))
-      stop-no-edge e = sym (stops NoEdge e)
-
-      pub stop-over-limit : s .answer ≡ OverLimit → meaning (reply.OverLimit i) ≡ walkFrom t start 1 (drop 1 w) (accepted (walked t w))
-      stop-over-limit e = sym (stops OverLimit e)
+      -- the reply where the step stops the walk
+      pub stop-at : (a : Answer) (x : WalkReply) → ((y : Reply Walked) → meaning x ≡ decided a i y) → s .answer ≡ a → meaning x ≡ walkFrom t start 1 (drop 1 w) (accepted (walked t w))
+      stop-at a x d e = d _ ∙ sym (stops a e)
 
       pub underway-next : s .answer ≡ Moved → Underway t w (s .run) (i + 1)
       unfolding next

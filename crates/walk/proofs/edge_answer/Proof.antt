@@ -5,7 +5,6 @@ use Rattle.walk.proofs.edge_answer.Statement.{statement}
 use Rattle.walk.proofs.edge_answer.Tie as tie
 use Rattle.walk.proofs.edge_answer.Reads as reads
 use Rattle.walk.proofs.edge_answer.Lts as lts
-use Rattle.walk.proofs.has_edge.Reads as has-edge-reads
 
 returns : tie.Need-returns
 unfolding edgeAnswer

@@ -1,18 +1,23 @@
+use Rattle.wcet.specs.Rules.{Reply, accepted}
+use Rattle.wcet.specs.Run.{start}
+use Rattle.wcet.specs.Walk.{Walked, walked, walkFrom}
+use Rattle.walk.specs.Reply.{meaning}
+use Rattle.walk.specs.declared.Answer.{Answer}
+use Rattle.walk.specs.declared.Answer.the-variants.{NoBlock, AfterExit, NoEdge, OverLimit}
+use Rattle.walk.specs.declared.WalkReply.{WalkReply}
+use Rattle.walk.specs.declared.WalkReply.the-variants as reply
 use Rattle.walk.specs.Step.{stateOf, outcome, stepped, Walkable, Unread, reading}
 use Rattle.wcet.specs.Table.{Routine}
-use lib.ListN.{length, getD}
-use Prim.Native.Nat.{_-_, _<_}
-use mathlib.Core.Path.{_≡_}
-use Rattle.walk.proofs.Walks.{Underway, underway-first, underway-next, standing, end-reply, stop-no-block, stop-after-exit, stop-no-edge, stop-over-limit}
+use lib.ListN.{length, getD, drop}
+use Prim.Native.Nat.{ℕ, _-_, _<_}
+use mathlib.Core.Path.{_≡_, refl}
+use Rattle.walk.proofs.Walks.{Underway, underway-first, underway-next, standing, end-reply, decided, stop-at}
 use native.Mathlib.Omega.{arith}
 use borrow.Author.Needs.{needs}
 use Rattle.walk.proofs.follow.Statement.{statement}
 use Rattle.walk.proofs.follow.Tie as tie
 use Rattle.walk.proofs.follow.Reads as reads
 use Rattle.walk.proofs.follow.Lts as lts
-use Rattle.walk.proofs.Run.finish.Reads as finish-reads
-use Rattle.walk.proofs.Run.start.Reads as start-reads
-use Rattle.walk.proofs.Run.step.Reads as step-reads
 
 abbrev Inv-loop : tie.InvT-loop
 Inv-loop cost loops first second header limit around blocks last₀ i₀ last i =
@@ -38,6 +43,17 @@ module _ (c : tie.After-step Inv-loop μ-loop) (x : Unread) (S : Walkable (table
 
   step-is : outcome (c .step .result) ≡ stepped (table (entry c) x) (stateOf (c .before .before .before .before .loop .last .run)) (c .before .before .before .before .loop .last .run .cost) (getD (entry c .args .blocks .now) (c .before .before .before .before .loop .i) 0)
   step-is = c .step .ensures x S (standing before-step (omega (arith, in-walk c, entry c .pre .short)))
+
+  stop : (a : Answer) (r : WalkReply) → ((y : Reply Walked) → meaning r ≡ decided a (c .before .before .before .before .loop .i) y) → c .step .result .answer ≡ a
+      → meaning r ≡ walkFrom (table (entry c) x) start 1 (drop 1 (entry c .args .blocks .now)) (accepted (walked (table (entry c) x) (entry c .args .blocks .now)))
+  stop =
+      let s = entry c in
+      let loop = c .before .before .before .before .loop in
+      stop-at (table s x) (s .args .around .now) S (s .args .blocks .now) (loop .last .run) (loop .i) before-step (in-walk c) (c .step .result) step-is
+
+-- the block that a step answers of
+abbrev index : tie.After-step Inv-loop μ-loop → ℕ
+index c = c .before .before .before .before .loop .i
 
 shared-slice-read-start : tie.Need-shared-slice-read-start Inv-loop μ-loop
 shared-slice-read-start c = omega (arith, c .before .before .before .before .before .before .before .before .pre .walkable .ranged .sized .some-block)
@@ -69,41 +85,25 @@ enum-told-2 : tie.Need-enum-told-2 Inv-loop μ-loop
 enum-told-2 c = search needs
 
 returns : tie.Need-returns Inv-loop μ-loop
-returns c = λ x S.
-    let d = c .before .before in
-    let s = entry d in
-    let loop = d .before .before .before .before .loop in
-    stop-no-block (table s x) (s .args .around .now) S (s .args .blocks .now) (loop .last .run) (loop .i) (before-step d x S) (in-walk d) (d .step .result) (step-is d x S) (search needs)
+returns c = λ x S. stop (c .before .before) x S NoBlock (reply.NoBlock (index (c .before .before))) (λ y. refl) (search needs)
 
 enum-told-3 : tie.Need-enum-told-3 Inv-loop μ-loop
 enum-told-3 c = search needs
 
 returns-2 : tie.Need-returns-2 Inv-loop μ-loop
-returns-2 c = λ x S.
-    let d = c .before .before in
-    let s = entry d in
-    let loop = d .before .before .before .before .loop in
-    stop-after-exit (table s x) (s .args .around .now) S (s .args .blocks .now) (loop .last .run) (loop .i) (before-step d x S) (in-walk d) (d .step .result) (step-is d x S) (search needs)
+returns-2 c = λ x S. stop (c .before .before) x S AfterExit (reply.AfterExit (index (c .before .before))) (λ y. refl) (search needs)
 
 enum-told-4 : tie.Need-enum-told-4 Inv-loop μ-loop
 enum-told-4 c = search needs
 
 returns-3 : tie.Need-returns-3 Inv-loop μ-loop
-returns-3 c = λ x S.
-    let d = c .before .before in
-    let s = entry d in
-    let loop = d .before .before .before .before .loop in
-    stop-no-edge (table s x) (s .args .around .now) S (s .args .blocks .now) (loop .last .run) (loop .i) (before-step d x S) (in-walk d) (d .step .result) (step-is d x S) (search needs)
+returns-3 c = λ x S. stop (c .before .before) x S NoEdge (reply.NoEdge (index (c .before .before))) (λ y. refl) (search needs)
 
 enum-told-5 : tie.Need-enum-told-5 Inv-loop μ-loop
 enum-told-5 c = search needs
 
 returns-4 : tie.Need-returns-4 Inv-loop μ-loop
-returns-4 c = λ x S.
-    let d = c .before .before in
-    let s = entry d in
-    let loop = d .before .before .before .before .loop in
-    stop-over-limit (table s x) (s .args .around .now) S (s .args .blocks .now) (loop .last .run) (loop .i) (before-step d x S) (in-walk d) (d .step .result) (step-is d x S) (search needs)
+returns-4 c = λ x S. stop (c .before .before) x S OverLimit (reply.OverLimit (index (c .before .before))) (λ y. refl) (search needs)
 
 add-i : tie.Need-add-i Inv-loop μ-loop
 add-i c = search needs

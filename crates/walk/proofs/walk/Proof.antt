@@ -9,9 +9,6 @@ use Rattle.walk.proofs.walk.Statement.{statement}
 use Rattle.walk.proofs.walk.Tie as tie
 use Rattle.walk.proofs.walk.Reads as reads
 use Rattle.walk.proofs.walk.Lts as lts
-use Rattle.nesting.proofs.check_structure.Reads as check-structure-reads
-use Rattle.walk.proofs.first_block.Reads as first-block-reads
-use Rattle.walk.proofs.follow.Reads as follow-reads
 
 -- the columns that a walk does not read
 abbrev unread : tie.Start → Unread

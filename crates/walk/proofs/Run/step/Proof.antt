@@ -12,12 +12,6 @@ use Rattle.walk.proofs.Run.step.Statement.{statement}
 use Rattle.walk.proofs.Run.step.Tie as tie
 use Rattle.walk.proofs.Run.step.Reads as reads
 use Rattle.walk.proofs.Run.step.Lts as lts
-use Rattle.loopsets.proofs.LoopSet.contains.Reads as contains-reads
-use Rattle.loopsets.proofs.LoopSet.without.Reads as without-reads
-use Rattle.loopsets.proofs.set_at.Reads as set-at-reads
-use Rattle.walk.proofs.edge_answer.Reads as edge-answer-reads
-use Rattle.counts.proofs.header_visits.Reads as header-visits-reads
-use Rattle.counts.proofs.recount.Reads as recount-reads
 
 -- places on the way: where the edge is found, where the visits are, and where the counts are stored
 abbrev entry : tie.After-enum-told → tie.Start
