@@ -59,6 +59,9 @@ module _ (n d : ℕ) (l : d ≤ 9) where
       go true e = let m : 5 < d = ltb-true 5 d e in sym (lt-ltb (2 ^ 64 - 1) (n * 10 + d) (omega arith))
       go false e = let m : d ≤ 5 = ltb-false 5 d e in sym (le-ltb (2 ^ 64 - 1) (n * 10 + d) (omega arith))
 
+pub no-overflow : (n d : ℕ) {r : Bool} → r ≡ ltb (2 ^ 64 - 1) (n * 10 + d) → r ≡ false → n * 10 + d ≤ 2 ^ 64 - 1
+no-overflow n d e f = ltb-false (2 ^ 64 - 1) (n * 10 + d) (sym e ∙ f)
+
 -- more digits make no smaller number
 grows : (n : ℕ) (s : List ℕ) → n ≤ decimal n s
 unfolding decimal
@@ -84,9 +87,6 @@ module _ (s : List ℕ) (n i : ℕ) {x : DigitRun} (q : x ≡ runAfter n i (drop
 
     pub run-on : x ≡ runAfter (n * 10 + (getD s i 0 - 48)) (i + 1) (drop (i + 1) s)
     run-on = q ∙ goes-on
-
-    pub run-fits : {r : Bool} → r ≡ ltb (2 ^ 64 - 1) (n * 10 + (getD s i 0 - 48)) → r ≡ false → n * 10 + (getD s i 0 - 48) ≤ 2 ^ 64 - 1
-    run-fits e f = ltb-false (2 ^ 64 - 1) (n * 10 + (getD s i 0 - 48)) (sym e ∙ f)
 
     pub run-wide : {r : Bool} {e : ℕ} → r ≡ ltb (2 ^ 64 - 1) (n * 10 + (getD s i 0 - 48)) → r ≡ true → e ≡ i + digitCount (drop i s) → record { value = Bad; end = e } ≡ x
     run-wide {r} {e} f g w =

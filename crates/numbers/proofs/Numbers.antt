@@ -242,14 +242,17 @@ module _ (s : List ℕ) {x : DigitRun} where
     pub natural-whole : {r : Value} → greatest < 2 ^ 64 → length s ≤ x .end → r ≡ naturalBy greatest s (x .value) → r ≡ natural greatest s
     natural-whole l h e = e ∙ rw (run-value s 0 q h (omega arith)) (natural-by-is s greatest (omega arith) (run-whole s 0 q h (omega arith)))
 
-  module _ {p : ℕ} (i : p ≡ signCount s) (q : x ≡ runAt p (drop p s)) where
+  module _ {p : ℕ} (i : p ≡ 0 + signCount s) (q : x ≡ runAt p (drop p s)) where
+    start-is : p ≡ signCount s
+    start-is = omega arith
+
     pub integer-other : x .end < length s → BadSigned ≡ integer s
-    integer-other h = sym (no-integer s (rw (← i) (run-short s p q h)))
+    integer-other h = sym (no-integer s (rw (← start-is) (run-short s p q h)))
 
     pub integer-whole : {r : SignedValue} → length s ≤ x .end → r ≡ integerBy s (x .value) → r ≡ integer s
     integer-whole h e =
-        let l : p ≤ length s = rw i (sign-within s) in
-        e ∙ rw (run-value s p q h l, i) (integer-by-is s (rw (← i) (run-whole s p q h l)))
+        let l : p ≤ length s = omega (arith, sign-within s) in
+        e ∙ rw (run-value s p q h l, start-is) (integer-by-is s (rw (← start-is) (run-whole s p q h l)))
 
 -- a number that is read is within its width
 pub natural-fits : (s : List ℕ) (greatest n : ℕ) {r : Value} → r ≡ natural greatest s → r ≡ Number n → n ≤ greatest

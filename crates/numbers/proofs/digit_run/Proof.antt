@@ -1,0 +1,82 @@
+use Rattle.numbers.proofs.Digits.{runAfter, none-over, none-low, none-high, run-here, run-on, run-wide, no-overflow}
+use Prim.Native.Nat.{_≤_, _-_, _^_}
+use mathlib.Core.Path.{_≡_}
+use native.Mathlib.Omega.{arith}
+use lib.ListN.{length, drop, getD}
+use Rattle.numbers.specs.Digits.{runAt}
+use borrow.Author.Needs.{needs}
+use Rattle.numbers.proofs.digit_run.Statement.{statement}
+use Rattle.numbers.proofs.digit_run.Tie as tie
+use Rattle.numbers.proofs.digit_run.Reads as reads
+use Rattle.numbers.proofs.digit_run.Lts as lts
+use Rattle.numbers.proofs.digits_end.Reads as digits-end-reads
+use Rattle.numbers.proofs.overflows.Reads as overflows-reads
+
+abbrev Inv-loop : tie.InvT-loop
+Inv-loop text at n₀ i₀ n i = (n ≤ 2 ^ 64 - 1) × (runAt at (drop at text) ≡ runAfter n i (drop i text))
+
+abbrev μ-loop : tie.MeasureT-loop
+μ-loop text at n₀ i₀ n i = length text - i
+
+loop-holds : tie.Need-loop-holds Inv-loop μ-loop
+loop-holds c = search needs
+
+shared-slice-read-b : tie.Need-shared-slice-read-b Inv-loop μ-loop
+shared-slice-read-b c = search needs
+
+returns : tie.Need-returns Inv-loop μ-loop
+returns c = search (run-here, none-low)
+
+returns-2 : tie.Need-returns-2 Inv-loop μ-loop
+returns-2 c = search (run-here, none-high)
+
+cast-d : tie.Need-cast-d Inv-loop μ-loop
+cast-d c = search needs
+
+overflows-requires : tie.Need-overflows-requires Inv-loop μ-loop
+overflows-requires c κs = search needs
+
+digits-end-requires : tie.Need-digits-end-requires Inv-loop μ-loop
+digits-end-requires c κs = search needs
+
+returns-3 : tie.Need-returns-3 Inv-loop μ-loop
+returns-3 c = search run-wide
+
+mul-n : tie.Need-mul-n Inv-loop μ-loop
+mul-n c = let fits = no-overflow (c .before .before .before .before .before .before .loop .n) (getD (c .before .before .before .before .before .before .before .before .args .text .now) (c .before .before .before .before .before .before .loop .i) 0 - 48) (c .before .overflows .ensures) (c .if3 .left) in omega (arith, fits)
+
+add-n : tie.Need-add-n Inv-loop μ-loop
+add-n c = let fits = no-overflow (c .before .before .before .before .before .before .loop .n) (getD (c .before .before .before .before .before .before .before .before .args .text .now) (c .before .before .before .before .before .before .loop .i) 0 - 48) (c .before .overflows .ensures) (c .if3 .left) in omega (arith, fits)
+
+add-i : tie.Need-add-i Inv-loop μ-loop
+add-i c = search needs
+
+loop-less : tie.Need-loop-less Inv-loop μ-loop
+loop-less c = search needs
+
+loop-again : tie.Need-loop-again Inv-loop μ-loop
+loop-again c = (search no-overflow, search run-on)
+
+returns-4 : tie.Need-returns-4 Inv-loop μ-loop
+returns-4 c = search (run-here, none-over)
+
+pub digit-run-spec : {M : Type 1} → statement M
+digit-run-spec =
+    tie.close
+    (tie.spec
+    Inv-loop
+    μ-loop
+    loop-holds
+    shared-slice-read-b
+    returns
+    returns-2
+    cast-d
+    overflows-requires
+    digits-end-requires
+    returns-3
+    mul-n
+    add-n
+    add-i
+    loop-less
+    loop-again
+    returns-4)
