@@ -75,8 +75,7 @@ pub fn number_cell(text: &[u8], at: usize, greatest: u64) -> Cell
     let run = numbers::digit_run(text, at);
     let digits = run.value;
     let end = run.end;
-    let written = csv::part(text, at, end);
-    let value = numbers::natural_by(written, digits, greatest);
+    let value = numbers::natural_by(csv::part(text, at, end), digits, greatest);
     let found = found_after(text, at, end);
     Cell { value, found }
 }
@@ -88,8 +87,7 @@ pub fn integer_cell(text: &[u8], at: usize) -> SignedCell
     let run = numbers::digit_run(text, numbers::digits_start(text, at));
     let digits = run.value;
     let end = run.end;
-    let written = csv::part(text, at, end);
-    let value = numbers::integer_by(written, digits);
+    let value = numbers::integer_by(csv::part(text, at, end), digits);
     let found = found_after(text, at, end);
     SignedCell { value, found }
 }

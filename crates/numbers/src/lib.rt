@@ -67,32 +67,24 @@ pub fn digit_run(text: &[u8], at: usize) -> DigitRun
     while i < text.len() {
         let b = text[i];
         if b < b'0' {
-            return DigitRun {
-                value: Value::Number(n),
-                end: i,
-            };
+            let value = Value::Number(n);
+            return DigitRun { value, end: i };
         }
         if b > b'9' {
-            return DigitRun {
-                value: Value::Number(n),
-                end: i,
-            };
+            let value = Value::Number(n);
+            return DigitRun { value, end: i };
         }
         let d = (b - b'0') as u64;
         if overflows(n, d) {
+            let value = Value::Bad;
             let end = digits_end(text, i);
-            return DigitRun {
-                value: Value::Bad,
-                end,
-            };
+            return DigitRun { value, end };
         }
         n = n * 10 + d;
         i += 1;
     }
-    DigitRun {
-        value: Value::Number(n),
-        end: i,
-    }
+    let value = Value::Number(n);
+    DigitRun { value, end: i }
 }
 
 // Where the digits of a number at `at` start: after a minus sign, if one stands there.
