@@ -43,6 +43,18 @@ module _ (s : List ℕ) (from to : ℕ) where
   pub part-is : to ≤ length s → take (to - from) (drop from s) ≡ partOf s from to
   part-is l = rw (le-leb to (length s) l)
 
+-- n bytes of a text from p on, where there are as many
+pub part-at : (s : List ℕ) (p n : ℕ) → n ≤ length (drop p s) → partOf s p (p + n) ≡ take n (drop p s)
+part-at s p n h = let e : p + n - p ≡ n = omega arith in rw e (at (decLe (p + n) (length s)))
+  where
+    at : Dec (p + n ≤ length s) → cond (leb (p + n) (length s)) (take n (drop p s)) [] ≡ take n (drop p s)
+    at (yes l) = rw (le-leb (p + n) (length s) l)
+    at (no l) = let z : n ≡ 0 = omega (arith, rw length-drop at h) in rw z (flat (leb (p + 0) (length s)))
+      where
+        flat : (b : Bool) → cond b (take 0 (drop p s)) [] ≡ take 0 (drop p s)
+        flat true = refl
+        flat false = refl
+
 -- Each way through `find_field`.
 module _ (s starts stops : List ℕ) (i : ℕ) where
   pub field-none : 8 ≤ i → [] ≡ fieldAt s starts stops i
@@ -128,23 +140,15 @@ module _ (s : List ℕ) (p : ℕ) {r : Found} (q : r ≡ foundAt p (field (drop 
 -- The fields ws, as the record that starts at p has them: each is the part of the text between its bounds.
 abbrev Laid : List ℕ → ℕ → List (List ℕ) → Type 0
 Laid s p [] = Unit {0}
-Laid s p (w ∷ ws) = (cond (leb (p + length w) (length s)) (take (length w) (drop p s)) [] ≡ w) × Laid s (p + length w + 1) ws
+Laid s p (w ∷ ws) = (partOf s p (p + length w) ≡ w) × Laid s (p + length w + 1) ws
 
 laid-in : (k : ℕ) (s : List ℕ) (p : ℕ) → Laid s p (recordIn k (drop p s) .fields)
 unfolding recordIn
 laid-in zero s p = tt
 laid-in (suc k) s p = go (λ q. laid-in k s q) (field (drop p s)) (field-within (drop p s))
   where
-    part : (n : ℕ) → n ≤ length (drop p s) → cond (leb (p + length (take n (drop p s))) (length s)) (take (length (take n (drop p s))) (drop p s)) [] ≡ take n (drop p s)
-    part n h = rw (length-take-le n (drop p s) h) (at (decLe (p + n) (length s)))
-      where
-        at : Dec (p + n ≤ length s) → cond (leb (p + n) (length s)) (take n (drop p s)) [] ≡ take n (drop p s)
-        at (yes l) = rw (le-leb (p + n) (length s) l)
-        at (no l) = let z : n ≡ 0 = omega (arith, rw length-drop at h) in rw z (flat (leb (p + 0) (length s)))
-          where
-            flat : (b : Bool) → cond b (take 0 (drop p s)) [] ≡ take 0 (drop p s)
-            flat true = refl
-            flat false = refl
+    part : (n : ℕ) → n ≤ length (drop p s) → partOf s p (p + length (take n (drop p s))) ≡ take n (drop p s)
+    part n h = rw (length-take-le n (drop p s) h) (part-at s p n h)
 
     go : ((q : ℕ) → Laid s q (recordIn k (drop q s) .fields)) → (f : Field) → Within (length (drop p s)) f → Laid s p (recordWith (recordIn k) (drop p s) f .fields)
     go ih (comma n) h =
@@ -192,7 +196,7 @@ laid-field : (s : List ℕ) (p : ℕ) (ws : List (List ℕ)) → Laid s p ws →
 unfolding startsOf stopsOf
 laid-field s p [] h zero = rw leb·zero
 laid-field s p [] h (suc j) = rw leb·zero
-laid-field s p (w ∷ ws) h zero = let e : p + length w - p ≡ length w = omega arith in rw e (h .0)
+laid-field s p (w ∷ ws) h zero = h .0
 laid-field s p (w ∷ ws) h (suc j) = laid-field s (p + length w + 1) ws (h .1) j
 
 -- what `find_field` gives of the bounds that `scan_record` noted is the field
