@@ -9,7 +9,7 @@ use native.Mathlib.Omega.{arith}
 use borrow.Author.Tests.{leb-true, ne-eqb, eqb-true, le-leb, lt-leb}
 use lib.Dec.{leb, eqb}
 use lib.ListN.{length, take, drop, length-drop}
-use lib.Seq.{length-take-le, drop-drop}
+use lib.Seq.{drop-drop}
 use Rattle.limits.specs.Limits.{mostFieldBytes}
 use Rattle.numbers.specs.Number.{digit, digits, natural, integer}
 use Rattle.numbers.specs.Digits.{digitCount, wideNumber, runAt, signCount, naturalBy, integerBy}
@@ -18,7 +18,7 @@ use Rattle.numbers.specs.declared.SignedValue.{SignedValue}
 use Rattle.numbers.specs.declared.DigitRun.{DigitRun}
 use Rattle.numbers.proofs.Digits.{count-within, count-digits, sign-within}
 use Rattle.numbers.proofs.Numbers.{natural-by-is, integer-by-is}
-use Rattle.csv.specs.Grammar.{isText, width, size, Field, comma, ends, broken, following, limited, field, content}
+use Rattle.csv.specs.Grammar.{isText, width, size, comma, ends, following, limited, field, content}
 use Rattle.csv.specs.Place.{foundAt, partOf}
 use Rattle.csv.specs.Write.{bare, allText}
 use Rattle.csv.specs.declared.Ending.{Ending}

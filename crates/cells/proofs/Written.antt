@@ -1,7 +1,7 @@
 -- A number that is written in decimal digits, in a field with quote marks or without, is read as that number.
 -- Assumes nothing.
 use mathlib.Core.Path.{_≡_, ap, _∙_}
-use mathlib.Core.List.{List, _∷_}
+use mathlib.Core.List.{_∷_}
 use Prim.Native.Nat.{ℕ, suc, _-_, _^_, _≤_}
 use lib.IntN.{pos, negsuc}
 use Rattle.numbers.specs.Number.{natural, integer, numeralOf}

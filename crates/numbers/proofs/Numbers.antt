@@ -1,14 +1,14 @@
 -- What digits say once their number is known, over any width; and that a number that is read fits its width.
 -- Assumes nothing.
 use mathlib.Core.Path.{_≡_, refl, sym, ap, subst, _∙_}
-use mathlib.Core.Bool.{Bool, true, false, cond, not, _&&_, and-true, and-false, true≢false, false≢true}
+use mathlib.Core.Bool.{Bool, true, false, cond, not, _&&_, and-true, and-false, true≢false}
 use mathlib.Core.Logic.{_⊎_, inl, inr}
 use mathlib.Core.List.{List, [], _∷_}
-use Prim.Native.Nat.{ℕ, zero, suc, _+_, _-_, _*_, _^_, _<_, _≤_}
+use Prim.Native.Nat.{ℕ, zero, suc, _+_, _-_, _^_, _<_, _≤_}
 use native.Mathlib.Nat.{zero-add}
 use native.Mathlib.Numerals.{sub-one}
 use native.Mathlib.Omega.{arith}
-use borrow.Author.Tests.{leb-true, leb-false, eqb-true, eq-eqb, ne-eqb, le-leb, lt-leb}
+use borrow.Author.Tests.{leb-true, leb-false, eq-eqb, ne-eqb, le-leb, lt-leb}
 use lib.ListN.{length, take, drop, getD, length-drop}
 use lib.Seq.{take-all}
 use lib.IntN.{ℤ, pos, negsuc, _-ℤ_}
@@ -25,7 +25,7 @@ use Rattle.numbers.specs.declared.SignedValue.the-variants.{Number as Si
 use Rattle.numbers.specs.declared.DigitRun.{DigitRun}
 use Rattle.numbers.specs.Number.{digit, digits, numeral, decimal, natural, integer, minus, plus}
 use Rattle.numbers.specs.Digits.{digitCount, wideNumber, runAt, signCount, atMost, naturalBy, integerBy}
-use Rattle.numbers.proofs.Digits.{count-within, count-digits, count-all, sign-within}
+use Rattle.numbers.proofs.Digits.{count-digits, count-all, sign-within}
 
 -- Each way through `at_most`.
 module _ (v : Value) (greatest : ℕ) where
@@ -60,24 +60,24 @@ module _ (w : List ℕ) (v : Value) (greatest : ℕ) where
       go (b ∷ []) e = q
       go (b ∷ c ∷ s) e = absurd (omega arith)
 
-  module _ (f : length w ≡ 0 → ⊥) (g : length w ≡ 1 → ⊥) where
-    pub by-zero : getD w 0 0 ≡ 48 → Bad ≡ naturalBy greatest w v
-    unfolding naturalBy
-    by-zero e = go w f g e
-      where
-        go : (w : List ℕ) → (length w ≡ 0 → ⊥) → (length w ≡ 1 → ⊥) → getD w 0 0 ≡ 48 → Bad ≡ naturalBy greatest w v
-        go [] f g e = absurd (f refl)
-        go (b ∷ []) f g e = absurd (g refl)
-        go (b ∷ c ∷ s) f g e = rw (eq-eqb b 48 e)
-
+  module _ (f : length w ≡ 0 → ⊥) where
     pub by-more : {r : Value} → (getD w 0 0 ≡ 48 → ⊥) → r ≡ atMost greatest v → r ≡ naturalBy greatest w v
     unfolding naturalBy
-    by-more {r} e q = go w f g e
+    by-more {r} e q = go w f e
       where
-        go : (w : List ℕ) → (length w ≡ 0 → ⊥) → (length w ≡ 1 → ⊥) → (getD w 0 0 ≡ 48 → ⊥) → r ≡ naturalBy greatest w v
-        go [] f g e = absurd (f refl)
-        go (b ∷ []) f g e = absurd (g refl)
-        go (b ∷ c ∷ s) f g e = rw (ne-eqb b 48 e) q
+        go : (w : List ℕ) → (length w ≡ 0 → ⊥) → (getD w 0 0 ≡ 48 → ⊥) → r ≡ naturalBy greatest w v
+        go [] f e = absurd (f refl)
+        go (b ∷ []) f e = q
+        go (b ∷ c ∷ s) f e = rw (ne-eqb b 48 e) q
+
+    pub by-zero : getD w 0 0 ≡ 48 → (length w ≡ 1 → ⊥) → Bad ≡ naturalBy greatest w v
+    unfolding naturalBy
+    by-zero e g = go w f e g
+      where
+        go : (w : List ℕ) → (length w ≡ 0 → ⊥) → getD w 0 0 ≡ 48 → (length w ≡ 1 → ⊥) → Bad ≡ naturalBy greatest w v
+        go [] f e g = absurd (f refl)
+        go (b ∷ []) f e g = absurd (g refl)
+        go (b ∷ c ∷ s) f e g = rw (eq-eqb b 48 e)
 
 -- a number that is held to its width is within it
 at-most-fits : (v : Value) (greatest n : ℕ) → Number n ≡ atMost greatest v → n ≤ greatest

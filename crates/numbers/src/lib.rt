@@ -121,13 +121,13 @@ pub fn natural_by(written: &[u8], value: Value, greatest: u64) -> Value
     if written.len() == 0 {
         return Value::Missing;
     }
+    if written[0] != b'0' {
+        return at_most(value, greatest);
+    }
     if written.len() == 1 {
         return at_most(value, greatest);
     }
-    if written[0] == b'0' {
-        return Value::Bad;
-    }
-    at_most(value, greatest)
+    Value::Bad
 }
 
 // What the digits `written` say, with a minus sign allowed, where `value` is the number that the digits write.

@@ -1,5 +1,4 @@
 use Rattle.numbers.proofs.Digits.{far-below, far-above, last-digit}
-use borrow.Author.Needs.{needs}
 use Rattle.numbers.proofs.overflows.Statement.{statement}
 use Rattle.numbers.proofs.overflows.Tie as tie
 use Rattle.numbers.proofs.overflows.Reads as reads
