@@ -4,29 +4,32 @@ use mathlib.Core.Path.{_≡_, refl, sym, ap, subst, _∙_}
 use mathlib.Core.Bool.{Bool, true, false, cond, and-eq-true-iff}
 use mathlib.Core.List.{List, [], _∷_}
 use Prim.Native.Nat.{ℕ, suc, _+_, _-_, _^_, _<_, _≤_}
-use native.Mathlib.Nat.{zero-add}
+use native.Mathlib.Nat.{zero-add, add-zero}
 use native.Mathlib.Omega.{arith}
 use borrow.Author.Tests.{leb-true, ne-eqb, eqb-true, le-leb, lt-leb}
 use lib.Dec.{leb, eqb}
-use lib.ListN.{length, take, drop, length-drop}
+use lib.ListN.{length, take, drop, length-drop, drop-of-length-le}
 use lib.Seq.{drop-drop}
 use Rattle.limits.specs.Limits.{mostFieldBytes}
 use Rattle.numbers.specs.Number.{digit, digits, natural, integer}
 use Rattle.numbers.specs.Digits.{digitCount, wideNumber, runAt, signCount, naturalBy, integerBy}
 use Rattle.numbers.specs.declared.Value.{Value}
+use Rattle.numbers.specs.declared.Value.the-variants.{Missing}
 use Rattle.numbers.specs.declared.SignedValue.{SignedValue}
+use Rattle.numbers.specs.declared.SignedValue.the-variants.{Missing as NoSigned}
 use Rattle.numbers.specs.declared.DigitRun.{DigitRun}
 use Rattle.numbers.proofs.Digits.{count-within, count-digits, sign-within}
 use Rattle.numbers.proofs.Numbers.{natural-by-is, integer-by-is}
 use Rattle.csv.specs.Grammar.{isText, width, size, comma, ends, following, limited, field, content}
-use Rattle.csv.specs.Place.{foundAt, partOf}
+use Rattle.csv.specs.Place.{foundAt}
 use Rattle.csv.specs.Write.{bare, allText}
 use Rattle.csv.specs.declared.Ending.{Ending}
+use Rattle.csv.specs.declared.Ending.the-variants.{EndOfText}
 use Rattle.csv.specs.declared.Found.{Found}
 use Rattle.csv.specs.declared.Found.the-variants.{Comma, Ends, Broken}
 use Rattle.csv.proofs.Fields.{found-from}
 use Rattle.csv.proofs.Records.{Within, field-within}
-use Rattle.csv.proofs.Splits.{part-at, comma-of, ends-of}
+use Rattle.csv.proofs.Splits.{comma-of, ends-of}
 use Rattle.csv.proofs.Inverse.{content-written}
 use Rattle.csv.proofs.Short.{short-field, Sized, short-sized}
 use Rattle.cells.specs.Cell.{unsigned, signed, cellAt, signedCount, signedCellAt}
@@ -80,6 +83,16 @@ module _ (s : List ℕ) (at e : ℕ) (l : at ≤ e) where
   pub found-short : {r : Found} → e - at ≤ mostFieldBytes → r ≡ foundAt e (following 0 (drop e s)) → r ≡ foundAt at (limited (drop at s) (size (e - at)))
   found-short h q = q ∙ found-from s at (e - at) e (omega arith) ∙ rw (le-leb (e - at) mostFieldBytes h)
 
+-- Nothing at all, at the end of the text or after it.
+module _ (s : List ℕ) (at : ℕ) (h : length s ≤ at) where
+  pub cell-over : (g : ℕ) → record { value = Missing; found = Ends EndOfText at } ≡ cellAt g at (drop at s)
+  unfolding unsigned content natural digitCount following
+  cell-over g = rw (drop-of-length-le s h, add-zero)
+
+  pub signed-over : record { value = NoSigned; found = Ends EndOfText at } ≡ signedCellAt at (drop at s)
+  unfolding signed content integer signCount digitCount following
+  signed-over = rw (drop-of-length-le s h, add-zero)
+
 -- What `number_cell` puts together: x is the run of digits at `at`.
 module _ (s : List ℕ) (at : ℕ) {x : DigitRun} (q : x ≡ runAt at (drop at s)) where
   run-end : x .end ≡ at + digitCount (drop at s)
@@ -88,12 +101,15 @@ module _ (s : List ℕ) (at : ℕ) {x : DigitRun} (q : x ≡ runAt at (drop at s
   pub run-from : at ≤ x .end
   run-from = omega (arith, run-end)
 
-  pub cell-is : {w : List ℕ} {v : Value} {f : Found} (g : ℕ) → g < 2 ^ 64 → w ≡ partOf s at (x .end) → v ≡ naturalBy g w (x .value) → f ≡ foundAt at (limited (drop at s) (size (x .end - at))) → record { value = v; found = f } ≡ cellAt g at (drop at s)
+  pub run-inside : at < length s → x .end ≤ length s
+  run-inside h = omega (arith, run-end, count-within (drop at s), length-drop at s)
+
+  pub cell-is : {w : List ℕ} {v : Value} {f : Found} (g : ℕ) → g < 2 ^ 64 → w ≡ take (x .end - at) (drop at s) → v ≡ naturalBy g w (x .value) → f ≡ foundAt at (limited (drop at s) (size (x .end - at))) → record { value = v; found = f } ≡ cellAt g at (drop at s)
   unfolding unsigned
   cell-is {w} {v} {f} g l a b c =
       let d : List ℕ = drop at s in
       let n : x .end - at ≡ digitCount d = omega (arith, run-end) in
-      let t : w ≡ take (digitCount d) d = a ∙ ap (partOf s at) run-end ∙ part-at s at (digitCount d) (count-within d) in
+      let t : w ≡ take (digitCount d) d = a ∙ ap (λ (k : ℕ). take k d) n in
       let u : v ≡ naturalBy g (take (digitCount d) d) (wideNumber (take (digitCount d) d)) = b ∙ rw (t, ap (λ (y : DigitRun). y .value) q) in
       let y : v ≡ natural g (content (take (digitCount d) d)) = u ∙ natural-by-is (take (digitCount d) d) g (omega arith) (count-digits d) ∙ ap (natural g) (sym (content-written (bare (take (digitCount d) d)) (count-text d))) in
       let z : f ≡ foundAt at (limited d (size (digitCount d))) = c ∙ ap (λ (k : ℕ). foundAt at (limited d (size k))) n in
@@ -110,7 +126,10 @@ module _ (s : List ℕ) (at p : ℕ) (h : p ≡ at + signCount (drop at s)) {x :
   pub signed-from : at ≤ x .end
   signed-from = omega (arith, signed-end)
 
-  pub signed-is : {w : List ℕ} {v : SignedValue} {f : Found} → w ≡ partOf s at (x .end) → v ≡ integerBy w (x .value) → f ≡ foundAt at (limited (drop at s) (size (x .end - at))) → record { value = v; found = f } ≡ signedCellAt at (drop at s)
+  pub signed-inside : at < length s → x .end ≤ length s
+  signed-inside i = omega (arith, signed-end, signed-within (drop at s), length-drop at s)
+
+  pub signed-is : {w : List ℕ} {v : SignedValue} {f : Found} → w ≡ take (x .end - at) (drop at s) → v ≡ integerBy w (x .value) → f ≡ foundAt at (limited (drop at s) (size (x .end - at))) → record { value = v; found = f } ≡ signedCellAt at (drop at s)
   unfolding signed
   signed-is {w} {v} {f} a b c =
       let d : List ℕ = drop at s in
@@ -118,7 +137,7 @@ module _ (s : List ℕ) (at p : ℕ) (h : p ≡ at + signCount (drop at s)) {x :
       let k : SignedWord (signCount d) d m = signed-word d in
       let o : drop (signCount m) m ≡ take (digitCount (drop (signCount d) d)) (drop (signCount d) d) = ap (λ (j : ℕ). drop j m) (k .sign) ∙ k .after in
       let n : x .end - at ≡ signedCount d = omega (arith, signed-end) in
-      let t : w ≡ m = a ∙ ap (partOf s at) signed-end ∙ part-at s at (signedCount d) (signed-within d) in
+      let t : w ≡ m = a ∙ ap (λ (j : ℕ). take j d) n in
       let r : x .value ≡ wideNumber (drop (signCount m) m) = ap (λ (y : DigitRun). y .value) q ∙ rw (o, digits-at) in
       let g : digits (drop (signCount m) m) ≡ true = ap digits o ∙ count-digits (drop (signCount d) d) in
       let u : v ≡ integerBy m (wideNumber (drop (signCount m) m)) = b ∙ rw (t, r) in

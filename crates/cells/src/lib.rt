@@ -5,6 +5,7 @@ ghost use lib.ListN.{drop};
 ghost use Rattle.csv.specs.Grammar.{size, limited};
 ghost use Rattle.csv.specs.Place.{foundAt};
 ghost use Rattle.cells.specs.Cell.{unsigned, signed, cellAt, signedCellAt};
+use csv::Ending;
 use csv::Found;
 use limits::MOST_FIELD_BYTES;
 use numbers::SignedValue;
@@ -68,14 +69,21 @@ fn found_after(text: &[u8], at: usize, end: usize) -> Found
     csv::follow(text, end)
 }
 
-// The field at `at`, taken to be the digits that stand there, at a width that ends at `greatest`: one scan finds and reads it.
+// The field at `at`, taken to be the digits that stand there, at a width that ends at `greatest`: one scan finds and reads it. Its bytes as
+// written are a part of the caller's text.
 pub fn number_cell(text: &[u8], at: usize, greatest: u64) -> Cell
     ensures { λ r. ⌜ r ≡ cellAt greatest at (drop at (now (text .entry))) ⌝ }
 {
+    if at >= text.len() {
+        return Cell {
+            value: Value::Missing,
+            found: Found::Ends(Ending::EndOfText, at),
+        };
+    }
     let run = numbers::digit_run(text, at);
     let digits = run.value;
     let end = run.end;
-    let value = numbers::natural_by(csv::part(text, at, end), digits, greatest);
+    let value = numbers::natural_by(&text[at..end], digits, greatest);
     let found = found_after(text, at, end);
     Cell { value, found }
 }
@@ -84,10 +92,17 @@ pub fn number_cell(text: &[u8], at: usize, greatest: u64) -> Cell
 pub fn integer_cell(text: &[u8], at: usize) -> SignedCell
     ensures { λ r. ⌜ r ≡ signedCellAt at (drop at (now (text .entry))) ⌝ }
 {
-    let run = numbers::digit_run(text, numbers::digits_start(text, at));
+    if at >= text.len() {
+        return SignedCell {
+            value: SignedValue::Missing,
+            found: Found::Ends(Ending::EndOfText, at),
+        };
+    }
+    let start = numbers::digits_start(text, at);
+    let run = numbers::digit_run(text, start);
     let digits = run.value;
     let end = run.end;
-    let value = numbers::integer_by(csv::part(text, at, end), digits);
+    let value = numbers::integer_by(&text[at..end], digits);
     let found = found_after(text, at, end);
     SignedCell { value, found }
 }

@@ -74,7 +74,7 @@ pub fn digit_run(text: &[u8], at: usize) -> DigitRun
             let value = Value::Number(n);
             return DigitRun { value, end: i };
         }
-        let d = (b - b'0') as u64;
+        let d = b as u64 - 48;
         if overflows(n, d) {
             let value = Value::Bad;
             let end = digits_end(text, i);

@@ -33,6 +33,9 @@ returns-2 c = search (run-here, none-high)
 cast-d : tie.Need-cast-d Inv-loop μ-loop
 cast-d c = search needs
 
+sub-d : tie.Need-sub-d Inv-loop μ-loop
+sub-d c = search needs
+
 overflows-requires : tie.Need-overflows-requires Inv-loop μ-loop
 overflows-requires c κs = search needs
 
@@ -71,6 +74,7 @@ digit-run-spec =
     returns
     returns-2
     cast-d
+    sub-d
     overflows-requires
     digits-end-requires
     returns-3
