@@ -5,6 +5,7 @@ use mathlib.Core.Bool.{Bool, not}
 use mathlib.Core.List.{List, []}
 use lib.IntN.{ℤ}
 use lib.ListN.{length}
+use Rattle.limits.specs.Limits.{mostBlocks}
 use Rattle.wcet.specs.Table.{Routine, blockCount, exit, cost, loopOf, figure, limit, multiplier, someEdge}
 use Rattle.wcet.specs.Rules.{isHeader}
 use Rattle.loopsets.specs.Sets.{member, setAt}
@@ -20,7 +21,7 @@ priceColumns costs figures = routine costs [] [] [] figures [] [] [] []
 
 -- what 201 to 203 leave of them
 pub record Weighed (t : Routine) : Type 0 where
-  pub few-blocks : blockCount t ≤ 1024
+  pub few-blocks : blockCount t ≤ mostBlocks
   pub loops : length (t .loops) ≡ blockCount t
   pub figures : length (t .figures) ≡ blockCount t
   pub limits : length (t .limits) ≡ length (t .headers)
@@ -34,7 +35,7 @@ pub record Weighed (t : Routine) : Type 0 where
 
 pub record Priced (t : Routine) : Type 0 where
   pub some-block : 0 < blockCount t
-  pub few-blocks : blockCount t ≤ 1024
+  pub few-blocks : blockCount t ≤ mostBlocks
   pub figures : length (t .figures) ≡ blockCount t
   pub cost-most : cost t 0 ≤ 1000000
   pub entry-range : Figure (figure t 0)

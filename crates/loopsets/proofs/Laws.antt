@@ -8,6 +8,7 @@ use native.Mathlib.Omega.{arith}
 use lib.Dec.{eqb}
 use lib.ListN.{length, getD, set, replicate}
 use lib.Seq.{getD-set-same, getD-set-other}
+use Rattle.limits.specs.Limits.{mostLoops}
 use Rattle.bits.specs.Digits.{has}
 use Rattle.bits.proofs.Laws.{has-pow}
 use Rattle.wcet.specs.Table.{around}
@@ -18,10 +19,10 @@ use Rattle.loopsets.specs.declared.LoopSet.{LoopSet}
 
 -- the sets of the loops below i are filled
 pub record Filled (parents sets : List ℕ) (i : ℕ) : Type 0 where
-  pub size : length sets ≡ 64
+  pub size : length sets ≡ mostLoops
   pub each : (l k : ℕ) → l < i → member (setAt sets l) k ≡ around parents (length parents) l k
 
-pub filled-first : (parents : List ℕ) → Parents parents → Filled parents (set (replicate 64 0) 0 1) 1
+pub filled-first : (parents : List ℕ) → Parents parents → Filled parents (set (replicate mostLoops 0) 0 1) 1
 unfolding member setAt
 filled-first parents P = record {
   size = refl;
@@ -29,7 +30,7 @@ filled-first parents P = record {
 }
 
 -- s is the set of l's parent with l in it
-pub filled-next : (parents sets : List ℕ) → Parents parents → (l : ℕ) → 1 ≤ l → l < length parents → length parents ≤ 64 → Filled parents sets l
+pub filled-next : (parents sets : List ℕ) → Parents parents → (l : ℕ) → 1 ≤ l → l < length parents → length parents ≤ mostLoops → Filled parents sets l
     → (s : LoopSet) → ((k : ℕ) → member s k ≡ (eqb l k || member (setAt sets (getD parents l 0)) k))
     → Filled parents (set sets l (s .word)) (l + 1)
 unfolding member setAt

@@ -4,6 +4,7 @@ use mathlib.Core.Path.{_≡_}
 use mathlib.Core.Bool.{Bool, true, false}
 use mathlib.Core.List.{List}
 use lib.ListN.{length, getD}
+use Rattle.limits.specs.Limits.{mostLoops}
 use Rattle.bits.specs.Digits.{has}
 use Rattle.wcet.specs.Table.{around}
 use Rattle.loopsets.specs.declared.LoopSet.{LoopSet}
@@ -12,10 +13,10 @@ use Rattle.loopsets.specs.declared.LoopSet.{LoopSet}
 unfoldable pub member : LoopSet → ℕ → Bool
 member s k = has (s .word) k
 
--- l is the lowest loop in the set, and 64 where the set is empty
+-- l is the lowest loop in the set, and mostLoops where the set is empty
 pub record LowestOf (s : LoopSet) (l : ℕ) : Type 0 where
-  pub within : l ≤ 64
-  pub present : l < 64 → member s l ≡ true
+  pub within : l ≤ mostLoops
+  pub present : l < mostLoops → member s l ≡ true
   pub lower : (k : ℕ) → k < l → member s k ≡ false
 
 -- the set of loop l
@@ -29,5 +30,5 @@ pub record Parents (parents : List ℕ) : Type 0 where
 
 -- the set of each loop has the loops around it
 pub record SetsAround (parents sets : List ℕ) : Type 0 where
-  pub size : length sets ≡ 64
+  pub size : length sets ≡ mostLoops
   pub each : (l k : ℕ) → l < length parents → member (setAt sets l) k ≡ around parents (length parents) l k

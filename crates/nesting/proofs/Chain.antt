@@ -5,6 +5,7 @@ use mathlib.Core.List.{List, [], _∷_, _++_}
 use Prim.Native.Nat.{ℕ, _<_}
 use native.Mathlib.Omega.{arith}
 use lib.ListN.{drop}
+use Rattle.limits.specs.Limits.{mostBlocks, mostLoops}
 use Rattle.lists.specs.Search.{firstBelow}
 use Rattle.lists.proofs.Search.{not-found}
 use Rattle.lists.proofs.Tests.{or-false}
@@ -44,7 +45,7 @@ none-left passed = refl
 module _ (t : Routine) where
   pub blocks-decide : blockSizesWrong t ≡ true → sizesWrong t ≡ true
   unfolding sizesWrong
-  blocks-decide e = go (outOfRange 2 1024 (blockCount t)) (outOfRange 1 64 (loopCount t)) (not (blockColumnsEqual t)) (not (loopColumnsEqual t)) e
+  blocks-decide e = go (outOfRange 2 mostBlocks (blockCount t)) (outOfRange 1 mostLoops (loopCount t)) (not (blockColumnsEqual t)) (not (loopColumnsEqual t)) e
     where
       go : (a b c d : Bool) → (a || c) ≡ true → (a || b || c || d) ≡ true
       go true b c d e = refl
@@ -53,7 +54,7 @@ module _ (t : Routine) where
 
   pub loops-decide : loopSizesWrong t ≡ true → sizesWrong t ≡ true
   unfolding sizesWrong
-  loops-decide e = go (outOfRange 2 1024 (blockCount t)) (outOfRange 1 64 (loopCount t)) (not (blockColumnsEqual t)) (not (loopColumnsEqual t)) e
+  loops-decide e = go (outOfRange 2 mostBlocks (blockCount t)) (outOfRange 1 mostLoops (loopCount t)) (not (blockColumnsEqual t)) (not (loopColumnsEqual t)) e
     where
       go : (a b c d : Bool) → (b || d) ≡ true → (a || b || c || d) ≡ true
       go true b c d e = refl
@@ -64,8 +65,8 @@ module _ (t : Routine) where
   pub neither-decides : blockSizesWrong t ≡ false → loopSizesWrong t ≡ false → sizesWrong t ≡ false
   unfolding sizesWrong
   neither-decides e f =
-      let p = or-false (outOfRange 2 1024 (blockCount t)) (not (blockColumnsEqual t)) e in
-      let q = or-false (outOfRange 1 64 (loopCount t)) (not (loopColumnsEqual t)) f in
+      let p = or-false (outOfRange 2 mostBlocks (blockCount t)) (not (blockColumnsEqual t)) e in
+      let q = or-false (outOfRange 1 mostLoops (loopCount t)) (not (loopColumnsEqual t)) f in
       rw (p .0, p .1, q .0, q .1)
 
 pub sizes-decide : {A : Type 0} (t : Routine) (passed : Reply A) → sizesWrong t ≡ true → refused 201 0 ≡ check (structureRules t) passed

@@ -10,6 +10,7 @@ use native.Mathlib.Omega.{arith}
 use lib.Dec.{eqb, ltb}
 use lib.ListN.{length, getD}
 use borrow.Author.Tests.{eqb-true, eq-eqb, ne-eqb}
+use Rattle.limits.specs.Limits.{mostLoops, mostDepth}
 use Rattle.lists.specs.Search.{anyBelow, countBelow, firstBelow}
 use Rattle.lists.proofs.Tests.{both}
 use Rattle.lists.proofs.Search.{any-none, none-of, any-at, first-ext, count-ext, count-beyond, count-none, none-counted, count-remove}
@@ -24,13 +25,13 @@ use Rattle.nesting.proofs.Edges.{edges-ext}
 
 -- what the code counts: the loops of the target's set that the source's has not
 pub entered-count : (sets loops : List ℕ) (u v : ℕ) (to from s : LoopSet) (n : ℕ) → to ≡ setAt sets (getD loops v 0) → from ≡ setAt sets (getD loops u 0)
-    → ((k : ℕ) → k < 64 → member s k ≡ (member to k && not (member from k))) → n ≡ countBelow 64 (member s) → n ≡ enteredBySets sets loops u v
-entered-count sets loops u v to from s n p q e size = size ∙ count-ext 64 (member s) _ (λ k b. e k b ∙ rw (p, q))
+    → ((k : ℕ) → k < mostLoops → member s k ≡ (member to k && not (member from k))) → n ≡ countBelow mostLoops (member s) → n ≡ enteredBySets sets loops u v
+entered-count sets loops u v to from s n p q e size = size ∙ count-ext mostLoops (member s) _ (λ k b. e k b ∙ rw (p, q))
 
 module _ (t : Routine) (sets : List ℕ) (N : Nestable t) (S : SetsAround (t .parents) sets) where
-  -- a count over all 64 numbers is one over the loops
-  few : (p : ℕ → Bool) → ((k : ℕ) → loopCount t ≤ k → p k ≡ false) → countBelow 64 p ≡ countBelow (loopCount t) p
-  few p none-above = count-beyond (loopCount t) 64 p (omega (arith, N .innermost .few, N .headers)) (λ k a b. none-above k a)
+  -- a count over all numbers below mostLoops is one over the loops
+  few : (p : ℕ → Bool) → ((k : ℕ) → loopCount t ≤ k → p k ≡ false) → countBelow mostLoops p ≡ countBelow (loopCount t) p
+  few p none-above = count-beyond (loopCount t) mostLoops p (omega (arith, N .innermost .few, N .headers)) (λ k a b. none-above k a)
 
   above : (l k : ℕ) → l < loopCount t → loopCount t ≤ k → around (t .parents) (loopCount t) l k ≡ false
   above l k b h = around-above (t .parents) (N .parents .root) (N .parents .below) (loopCount t) l k (omega arith)
@@ -42,8 +43,8 @@ module _ (t : Routine) (sets : List ℕ) (N : Nestable t) (S : SetsAround (t .pa
   depth : (l : ℕ) → l < loopCount t → deepBySets sets l ≡ tooDeep t l
   unfolding tooDeep inside
   depth l b =
-      ap (ltb 16)
-      (count-ext 64 (member (setAt sets l)) (around (t .parents) (loopCount t) l) (λ k c. S .each l k b)
+      ap (ltb mostDepth)
+      (count-ext mostLoops (member (setAt sets l)) (around (t .parents) (loopCount t) l) (λ k c. S .each l k b)
       ∙ few (around (t .parents) (loopCount t) l) (λ k h. above l k b h)
       ∙ sym (count-ext (loopCount t) (inside t (header t l)) (around (t .parents) (loopCount t) l) (λ k c. ap (λ (x : ℕ). around (t .parents) (loopCount t) x k) (N .own l b))))
 
@@ -59,7 +60,7 @@ module _ (t : Routine) (sets : List ℕ) (N : Nestable t) (S : SetsAround (t .pa
     entered : enteredBySets sets (t .loops) u v ≡ countBelow (loopCount t) into
     unfolding inside
     entered =
-        count-ext 64 (λ k. member (setAt sets (loopOf t v)) k && not (member (setAt sets (loopOf t u)) k)) into (λ k b. rw (S .each (loopOf t v) k own-below, S .each (loopOf t u) k (loop-below u ub)))
+        count-ext mostLoops (λ k. member (setAt sets (loopOf t v)) k && not (member (setAt sets (loopOf t u)) k)) into (λ k b. rw (S .each (loopOf t v) k own-below, S .each (loopOf t u) k (loop-below u ub)))
         ∙ few into (λ k h. rw (above (loopOf t v) k own-below h))
 
     -- the target's innermost loop is entered if any is

@@ -8,6 +8,7 @@ use borrow.Author.Tests.{eqb-true, ltb-true, ltb-false, ne-eqb, not-false}
 use lib.IntN.{pos, negℤ}
 use lib.ListN.{getD, List·getD-eq-default}
 use lib.Signed.{_≤ℤ_, ltZ}
+use Rattle.limits.specs.Limits.{mostBlocks, mostLoops}
 use Rattle.lists.proofs.Tests.{or-false, and-true}
 use Rattle.integers.proofs.Laws.{ints}
 use Rattle.wcet.specs.Table.{Routine, blockCount, loopCount, missing, cost, loopOf, first, second, figure, parent, header, limit, multiplier}
@@ -28,11 +29,11 @@ module _ (t : Routine) where
   pub fits : sizesWrong t ≡ false → Sized t
   unfolding sizesWrong
   fits e =
-      let p = or-false (outOfRange 2 1024 (blockCount t) || outOfRange 1 64 (loopCount t) || not (blockColumnsEqual t)) (not (loopColumnsEqual t)) e in
-      let q = or-false (outOfRange 2 1024 (blockCount t) || outOfRange 1 64 (loopCount t)) (not (blockColumnsEqual t)) (p .0) in
-      let r = or-false (outOfRange 2 1024 (blockCount t)) (outOfRange 1 64 (loopCount t)) (q .0) in
-      let n = in-range 2 1024 (blockCount t) (r .0) in
-      let m = in-range 1 64 (loopCount t) (r .1) in
+      let p = or-false (outOfRange 2 mostBlocks (blockCount t) || outOfRange 1 mostLoops (loopCount t) || not (blockColumnsEqual t)) (not (loopColumnsEqual t)) e in
+      let q = or-false (outOfRange 2 mostBlocks (blockCount t) || outOfRange 1 mostLoops (loopCount t)) (not (blockColumnsEqual t)) (p .0) in
+      let r = or-false (outOfRange 2 mostBlocks (blockCount t)) (outOfRange 1 mostLoops (loopCount t)) (q .0) in
+      let n = in-range 2 mostBlocks (blockCount t) (r .0) in
+      let m = in-range 1 mostLoops (loopCount t) (r .1) in
       let b = and-true (sized (blockCount t) (t .loops) && sized (blockCount t) (t .firsts) && sized (blockCount t) (t .seconds)) (sized (blockCount t) (t .figures)) (not-false _ (q .1)) in
       let c = both₂ (sized (blockCount t) (t .loops)) (sized (blockCount t) (t .firsts)) (sized (blockCount t) (t .seconds)) (b .0) in
       let l = both₂ (sized (loopCount t) (t .headers)) (sized (loopCount t) (t .limits)) (sized (loopCount t) (t .multipliers)) (not-false _ (p .1)) in

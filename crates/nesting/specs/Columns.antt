@@ -8,6 +8,7 @@ use lib.Dec.{eqb, ltb}
 use lib.IntN.{ℤ, pos, negℤ}
 use lib.ListN.{length, getD}
 use lib.Signed.{_≤ℤ_}
+use Rattle.limits.specs.Limits.{mostBlocks, mostLoops, mostDepth}
 use Rattle.lists.specs.Search.{anyBelow, countBelow}
 use Rattle.wcet.specs.Table.{Routine, blockCount, loopCount, missing, cost, loopOf, first, second, figure, header, limit, multiplier, someEdge}
 use Rattle.wcet.specs.Rules.{outOfRange, blockColumnsEqual, loopColumnsEqual, enters}
@@ -46,10 +47,10 @@ nestingColumns costs loops firsts seconds parents headers = routine costs loops 
 
 -- 201, of either table
 abbrev pub blockSizesWrong : Routine → Bool
-blockSizesWrong t = outOfRange 2 1024 (blockCount t) || not (blockColumnsEqual t)
+blockSizesWrong t = outOfRange 2 mostBlocks (blockCount t) || not (blockColumnsEqual t)
 
 abbrev pub loopSizesWrong : Routine → Bool
-loopSizesWrong t = outOfRange 1 64 (loopCount t) || not (loopColumnsEqual t)
+loopSizesWrong t = outOfRange 1 mostLoops (loopCount t) || not (loopColumnsEqual t)
 
 -- what 201 leaves: columns that fit each other, and counts within their limits
 pub record BlocksSized (t : Routine) : Type 0 where
@@ -58,14 +59,14 @@ pub record BlocksSized (t : Routine) : Type 0 where
   pub seconds : length (t .seconds) ≡ blockCount t
   pub figures : length (t .figures) ≡ blockCount t
   pub some-block : 0 < blockCount t
-  pub few-blocks : blockCount t ≤ 1024
+  pub few-blocks : blockCount t ≤ mostBlocks
 
 pub record LoopsSized (t : Routine) : Type 0 where
   pub headers : length (t .headers) ≡ loopCount t
   pub limits : length (t .limits) ≡ loopCount t
   pub multipliers : length (t .multipliers) ≡ loopCount t
   pub some-loop : 0 < loopCount t
-  pub few-loops : loopCount t ≤ 64
+  pub few-loops : loopCount t ≤ mostLoops
 
 pub record Sized (t : Routine) : Type 0 where
   pub loops : length (t .loops) ≡ blockCount t
@@ -77,8 +78,8 @@ pub record Sized (t : Routine) : Type 0 where
   pub multipliers : length (t .multipliers) ≡ loopCount t
   pub some-block : 0 < blockCount t
   pub some-loop : 0 < loopCount t
-  pub few-blocks : blockCount t ≤ 1024
-  pub few-loops : loopCount t ≤ 64
+  pub few-blocks : blockCount t ≤ mostBlocks
+  pub few-loops : loopCount t ≤ mostLoops
 
 -- a successor that is present, and of which the test p holds
 abbrev pub ofEdge : ℕ → (ℕ → Bool) → Bool
@@ -110,17 +111,17 @@ pub record Headed (t : Routine) : Type 0 where
 
 -- of these, for who reads some of the columns: each header is a block
 pub record HeadersNamed (loops headers : List ℕ) : Type 0 where
-  pub few : length headers ≤ 64
+  pub few : length headers ≤ mostLoops
   pub below : (l : ℕ) → l < length headers → getD headers l 0 < length loops
 
 -- each block's innermost loop is a loop
 pub record Innermost (loops headers : List ℕ) : Type 0 where
-  pub few : length headers ≤ 64
+  pub few : length headers ≤ mostLoops
   pub below : (u : ℕ) → u < length loops → getD loops u 0 < length headers
 
 -- each successor of n blocks that is present is a block
 pub record Linked (n : ℕ) (firsts seconds : List ℕ) : Type 0 where
-  pub few : n ≤ 1024
+  pub few : n ≤ mostBlocks
   pub first-size : length firsts ≡ n
   pub second-size : length seconds ≡ n
   pub first-names : (u : ℕ) → u < n → Names n (getD firsts u 0)
@@ -141,13 +142,13 @@ pub record Nestable (t : Routine) : Type 0 where
 unfoldable pub pastHeader : Routine → ℕ → ℕ → Bool
 pastHeader t u v = anyBelow (loopCount t) (λ l. enters t u v l && not (eqb (header t l) v))
 
--- 205, read off the sets: the set of loop l has more than 16 loops
+-- 205, read off the sets: the set of loop l has more than mostDepth loops
 abbrev pub deepBySets : List ℕ → ℕ → Bool
-deepBySets sets l = ltb 16 (countBelow 64 (member (setAt sets l)))
+deepBySets sets l = ltb mostDepth (countBelow mostLoops (member (setAt sets l)))
 
 -- 207, of an edge from u to v, read off the sets: it enters a loop, and not only its target's innermost one at its header
 abbrev pub enteredBySets : (sets loops : List ℕ) → ℕ → ℕ → ℕ
-enteredBySets sets loops u v = countBelow 64 (λ l. member (setAt sets (getD loops v 0)) l && not (member (setAt sets (getD loops u 0)) l))
+enteredBySets sets loops u v = countBelow mostLoops (λ l. member (setAt sets (getD loops v 0)) l && not (member (setAt sets (getD loops u 0)) l))
 
 unfoldable pub pastBySets : (sets loops headers : List ℕ) → ℕ → ℕ → Bool
 pastBySets sets loops headers u v =

@@ -8,11 +8,15 @@ ghost use lib.Dec.{eqb, ltb};
 ghost use lib.IntN.{pos, negℤ};
 ghost use lib.Signed.{ltZ};
 ghost use lib.ListN.{length};
+ghost use Rattle.limits.specs.Limits.{mostLoops};
 ghost use Rattle.lists.specs.Search.{if_then_else_, firstBelow};
 ghost use Rattle.wcet.specs.Rules.{outOfRange, loopWrong, blockWrong, headerElsewhere, entryOrExitEdge};
 ghost use Rattle.nesting.specs.Columns.{routine, loopColumns, blockColumns, headerColumns, edgeColumns, nestingColumns, blockSizesWrong, loopSizesWrong, BlocksSized, LoopsSized, HeadersNamed, Innermost, Linked, Nestable, Names, ofEdge, deepBySets, pastBySets, anyPastBySets};
 ghost use Rattle.nesting.specs.Answers.{placeOf, StructureChecked, NestingChecked};
 ghost use Rattle.nesting.specs.declared.Structure.the-variants.{Broken};
+use limits::MOST_BLOCKS;
+use limits::MOST_DEPTH;
+use limits::MOST_LOOPS;
 use loopsets::Sets;
 
 // The lowest place that breaks a rule, or none.
@@ -64,7 +68,7 @@ fn block_sizes_wrong(
     ensures { λ r. ⌜ r ≡ blockSizesWrong (blockColumns (now (cost .entry)) (now (loops .entry)) (now (first .entry)) (now (second .entry)) (now (figure .entry)) []) ⌝ }
 {
     let n = cost.len();
-    if out_of_range(2, 1024, n) {
+    if out_of_range(2, MOST_BLOCKS, n) {
         return true;
     }
     if loops.len() != n {
@@ -83,7 +87,7 @@ fn loop_sizes_wrong(parent: &[u16], header: &[u16], limit: &[u32], multiplier: &
     ensures { λ r. ⌜ r ≡ loopSizesWrong (loopColumns [] (now (parent .entry)) (now (header .entry)) (now (limit .entry)) (now (multiplier .entry))) ⌝ }
 {
     let m = parent.len();
-    if out_of_range(1, 64, m) {
+    if out_of_range(1, MOST_LOOPS, m) {
         return true;
     }
     if header.len() != m {
@@ -249,13 +253,13 @@ fn first_header_elsewhere(loops: &[u16], header: &[u16]) -> Place
 // ---- 205
 
 fn first_too_deep(around: &Sets, m: usize) -> Place
-    requires { ⌜ m ≤ 64 ⌝ }
+    requires { ⌜ m ≤ mostLoops ⌝ }
     ensures { λ r. ⌜ placeOf r ≡ firstBelow m (deepBySets (now (around .entry))) ⌝ }
 {
     let mut l = 0;
     while l < m {
         let set = loopsets::set_at(around, l);
-        if 16 < set.size() {
+        if MOST_DEPTH < set.size() {
             return Place::At(l);
         }
         l += 1;
@@ -353,7 +357,7 @@ fn broken(fault: StructureFault) -> Structured
 {
     Structured {
         answer: Structure::Broken(fault),
-        around: [0u64; 64],
+        around: [0u64; MOST_LOOPS],
     }
 }
 

@@ -8,12 +8,13 @@ use lib.Dec.{eqb, ltb}
 use borrow.Author.Tests.{eqb-true, ltb-false}
 use lib.ListN.{length, getD, drop}
 use lib.Seq.{drop-cons}
+use Rattle.limits.specs.Limits.{longestWalk}
 use Rattle.lists.specs.Search.{if_then_else_}
 use Rattle.lists.proofs.Tests.{or-false}
 use Rattle.wcet.specs.Table.{Routine, blockCount}
 use Rattle.wcet.specs.Rules.{Reply, accepted, refused, check, outOfRange, structureRules}
 use Rattle.wcet.specs.Run.{start}
-use Rattle.wcet.specs.Walk.{Walked, walked, longestWalk, lengthRule, walkFrom, walkBlocks, walkReply}
+use Rattle.wcet.specs.Walk.{Walked, walked, lengthRule, walkFrom, walkBlocks, walkReply}
 use Rattle.wcet.specs.Claim.{AllHold}
 use Rattle.wcet.proofs.Replies.{decides, hands-on, behind-all, passes}
 use Rattle.wcet.proofs.Walks.{walks-exactly}

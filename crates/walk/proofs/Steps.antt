@@ -10,11 +10,11 @@ use lib.Dec.{eqb, ltb}
 use borrow.Author.Tests.{eq-eqb, ne-eqb, lt-ltb, le-ltb, eqb-false, ltb-true, ltb-false}
 use lib.ListN.{length, List·getD-eq-default, replicate}
 use denote.Enum.Declared.{tagOf}
+use Rattle.limits.specs.Limits.{mostBlocks, mostLoops, longestWalk}
 use Rattle.lists.specs.Search.{if_then_else_}
 use Rattle.wcet.specs.Table.{Routine, blockCount, loopCount, exit, missing, cost, loopOf, first, second, header, limit, someEdge, edge, inside}
 use Rattle.wcet.specs.Rules.{isHeader}
 use Rattle.wcet.specs.Run.{State, leaves, nextCount, next, passesLimit, start}
-use Rattle.wcet.specs.Walk.{longestWalk}
 use Rattle.wcet.proofs.Potential.{inside-own}
 use Rattle.wcet.proofs.Around.{header-of}
 use Rattle.wcet.proofs.Limits.{limits-kept}
@@ -25,7 +25,7 @@ use Rattle.walk.specs.declared.Run.{Run}
 use Rattle.walk.specs.declared.Answer.{Answer}
 use Rattle.walk.specs.declared.Answer.the-variants.{Moved, NoBlock, AfterExit, NoEdge, OverLimit}
 use Rattle.walk.specs.Step.{Outcome, refusing, stepped, edgeAnswer, Walkable, Standing, stateOf}
-use Rattle.counts.specs.Counts.{countIn, headerVisits, countAfter}
+use Rattle.counts.specs.Counts.{countWords, countIn, headerVisits, countAfter}
 use Rattle.walk.proofs.Answer.{the-type}
 use Rattle.walk.proofs.Facts.{nesting, not-entry}
 use Rattle.counts.proofs.Counts.{first-counts, past-loops}
@@ -66,15 +66,15 @@ module _ (t : Routine) (sets : List ℕ) (S : Walkable t sets) (u v : ℕ) (bloc
   other-next l c ne = rw (ne-eqb (header t l) v (other-header l ne))
 
   module _ (here next left : LoopSet) (p : here ≡ setAt sets (loopOf t u)) (q : next ≡ setAt sets (loopOf t v))
-      (left-is : (k : ℕ) → k < 64 → member left k ≡ (member here k && not (member next k))) where
-    left-leaves : (l : ℕ) → l < 64 → member left l ≡ leaves t u v l
+      (left-is : (k : ℕ) → k < mostLoops → member left k ≡ (member here k && not (member next k))) where
+    left-leaves : (l : ℕ) → l < mostLoops → member left l ≡ leaves t u v l
     unfolding inside
     left-leaves l h =
         left-is l h
         ∙ rw (p, q, S .sets-around .each (loopOf t u) l (nesting t sets S .innermost u block), S .sets-around .each (loopOf t v) l (nesting t sets S .innermost v (nesting t sets S .target u v block there)))
 
     -- the loop that the step ends in is not left
-    own-next : (c k : ℕ) → k ≡ headerVisits c (eqb (header t (loopOf t v)) v) (inside t u (loopOf t v)) → loopOf t v < 64
+    own-next : (c k : ℕ) → k ≡ headerVisits c (eqb (header t (loopOf t v)) v) (inside t u (loopOf t v)) → loopOf t v < mostLoops
         → countAfter left (loopOf t v) k (loopOf t v) c ≡ nextCount t u v (loopOf t v) c
     unfolding nextCount
     own-next c k e h =
@@ -88,7 +88,7 @@ module _ (t : Routine) (sets : List ℕ) (S : Walkable t sets) (u v : ℕ) (bloc
         go false b = refl
 
     -- a number that is no loop stands at 0 and stays there
-    past-next : (l : ℕ) → 64 ≤ l → 0 ≡ nextCount t u v l 0
+    past-next : (l : ℕ) → mostLoops ≤ l → 0 ≡ nextCount t u v l 0
     past-next l h =
         none (leaves t u v l)
         ∙ other-next l 0 (λ q. let into : loopOf t v < loopCount t = nesting t sets S .innermost v (nesting t sets S .target u v block there) in omega (arith, S .ranged .sized .few-loops))
@@ -98,18 +98,18 @@ module _ (t : Routine) (sets : List ℕ) (S : Walkable t sets) (u v : ℕ) (bloc
         none false = refl
 
     -- k are the visits to the header of the loop that the step ends in
-    pub counts-next : (words after : List ℕ) (k : ℕ) → length words ≡ 16 → length after ≡ 16
+    pub counts-next : (words after : List ℕ) (k : ℕ) → length words ≡ countWords → length after ≡ countWords
         → k ≡ headerVisits (countIn words (loopOf t v)) (eqb (header t (loopOf t v)) v) (inside t u (loopOf t v))
-        → ((j : ℕ) → j < 64 → countIn after j ≡ countAfter left (loopOf t v) k j (countIn words j))
+        → ((j : ℕ) → j < mostLoops → countIn after j ≡ countAfter left (loopOf t v) k j (countIn words j))
         → (j : ℕ) → countIn after j ≡ nextCount t u v j (countIn words j)
-    counts-next words after k size still e each j = go (ltb j 64) refl (ℕ-discrete j (loopOf t v))
+    counts-next words after k size still e each j = go (ltb j mostLoops) refl (ℕ-discrete j (loopOf t v))
       where
-        go : (b : Bool) → ltb j 64 ≡ b → Dec (j ≡ loopOf t v) → countIn after j ≡ nextCount t u v j (countIn words j)
-        go false p d = rw (past-loops after j still (ltb-false j 64 p), past-loops words j size (ltb-false j 64 p)) (past-next j (ltb-false j 64 p))
-        go true p (yes z) = each j (ltb-true j 64 p) ∙ rw z (own-next (countIn words (loopOf t v)) k e (omega (arith, ltb-true j 64 p)))
+        go : (b : Bool) → ltb j mostLoops ≡ b → Dec (j ≡ loopOf t v) → countIn after j ≡ nextCount t u v j (countIn words j)
+        go false p d = rw (past-loops after j still (ltb-false j mostLoops p), past-loops words j size (ltb-false j mostLoops p)) (past-next j (ltb-false j mostLoops p))
+        go true p (yes z) = each j (ltb-true j mostLoops p) ∙ rw z (own-next (countIn words (loopOf t v)) k e (omega (arith, ltb-true j mostLoops p)))
         go true p (no ne) =
-            each j (ltb-true j 64 p)
-            ∙ rw (ne-eqb (loopOf t v) j (λ q. ne (sym q)), and-false (not (eqb k 0)), left-leaves j (ltb-true j 64 p)) (other-next j (countIn words j) ne)
+            each j (ltb-true j mostLoops p)
+            ∙ rw (ne-eqb (loopOf t v) j (λ q. ne (sym q)), and-false (not (eqb k 0)), left-leaves j (ltb-true j mostLoops p)) (other-next j (countIn words j) ne)
 
 -- ---- the limit
 
@@ -155,7 +155,7 @@ not-moved n (inr (inl e)) z = omega arith
 not-moved n (inr (inr (inl e))) z = omega arith
 not-moved n (inr (inr (inr e))) z = omega arith
 
-module _ (t : Routine) (few : blockCount t ≤ 1024) (s : State) (c v : ℕ) where
+module _ (t : Routine) (few : blockCount t ≤ mostBlocks) (s : State) (c v : ℕ) where
   pub on-edge : edgeAnswer (blockCount t) (first t (s .block)) (second t (s .block)) (s .block) v ≡ Moved → OnEdge t (s .block) v
   unfolding edgeAnswer
   on-edge = go (ltb v (blockCount t)) refl (eqb (s .block) (exit t)) refl (eqb (first t (s .block)) v || eqb (second t (s .block)) v) refl
@@ -192,8 +192,8 @@ pub record InStep (t : Routine) (r : Run) (v : ℕ) : Type 0 where
   pub loops : length (t .loops) ≡ blockCount t
   pub headers : length (t .headers) ≡ loopCount t
   pub limits : length (t .limits) ≡ loopCount t
-  pub few-blocks : blockCount t ≤ 1024
-  pub few-loops : loopCount t ≤ 64
+  pub few-blocks : blockCount t ≤ mostBlocks
+  pub few-loops : loopCount t ≤ mostLoops
   pub into : loopOf t v < loopCount t
   pub from : loopOf t (r .at) < loopCount t
   pub limit-most : limit t (loopOf t v) ≤ 65535
@@ -225,6 +225,6 @@ module _ (t : Routine) (s : State) (c v : ℕ) (E : OnEdge t (s .block) v) where
   unfolding stepped next
   step-moved e a m counts each = rw (lt-ltb v (blockCount t) (E .block), ne-eqb (s .block) (exit t) (E .on), E .there, e, m) (ap (λ (f : ℕ → ℕ). record { state = record { block = v; count = f }; spent = c + cost t v; answer = Moved }) (fun-ext each))
 
-pub start-is : (c : ℕ) → stateOf (record { at = 0; cost = c; counts = 1 ∷ replicate 15 0 }) ≡ start
+pub start-is : (c : ℕ) → stateOf (record { at = 0; cost = c; counts = 1 ∷ replicate (countWords - 1) 0 }) ≡ start
 unfolding start
 start-is c = ap (λ (f : ℕ → ℕ). record { block = 0; count = f }) (fun-ext first-counts)

@@ -9,11 +9,12 @@ use lib.Dec.{eqb, ltb}
 use borrow.Author.Tests.{ltb-true}
 use lib.ListN.{length, getD, drop, drop-of-length-le}
 use lib.Seq.{drop-cons}
+use Rattle.limits.specs.Limits.{longestWalk}
 use Rattle.lists.specs.Search.{if_then_else_}
 use Rattle.wcet.specs.Table.{Routine, blockCount, exit, cost, edge}
 use Rattle.wcet.specs.Rules.{Reply, accepted, refused}
 use Rattle.wcet.specs.Run.{State, start, next, passesLimit, runCost}
-use Rattle.wcet.specs.Walk.{Walked, walked, longestWalk, walkFrom}
+use Rattle.wcet.specs.Walk.{Walked, walked, walkFrom}
 use Rattle.wcet.proofs.Walks.{start-kept}
 use Rattle.walk.specs.declared.Run.{Run}
 use Rattle.walk.specs.declared.Answer.{Answer}

@@ -6,11 +6,12 @@ use mathlib.Core.Logic.{_↔_}
 use mathlib.Core.List.{List}
 use lib.Dec.{eqb, ltb}
 use lib.ListN.{length, getD, drop}
+use Rattle.limits.specs.Limits.{longestWalk}
 use Rattle.lists.specs.Search.{if_then_else_}
 use Rattle.wcet.specs.Table.{Routine}
 use Rattle.wcet.specs.Rules.{Reply, accepted, refused, outOfRange, structureRules}
 use Rattle.wcet.specs.Run.{start}
-use Rattle.wcet.specs.Walk.{Walked, walked, longestWalk, walkFrom, walkReply}
+use Rattle.wcet.specs.Walk.{Walked, walked, walkFrom, walkReply}
 use Rattle.wcet.specs.Claim.{AllHold, FinishedRun}
 use Rattle.nesting.specs.Answers.{refusal}
 use Rattle.walk.specs.declared.Run.{Run}

@@ -5,11 +5,11 @@ use mathlib.Core.Bool.{not, _||_, false}
 use mathlib.Core.List.{List}
 use lib.Dec.{eqb, ltb}
 use lib.IntN.{ℤ}
+use Rattle.limits.specs.Limits.{longestWalk}
 use Rattle.lists.specs.Search.{if_then_else_}
 use Rattle.wcet.specs.Table.{Routine, blockCount, exit, cost, edge}
 use Rattle.wcet.specs.Rules.{structureRules}
 use Rattle.wcet.specs.Run.{State, next, passesLimit}
-use Rattle.wcet.specs.Walk.{longestWalk}
 use Rattle.wcet.specs.Claim.{AllHold}
 use Rattle.nesting.specs.Columns.{routine, Ranged}
 use Rattle.loopsets.specs.Sets.{SetsAround}

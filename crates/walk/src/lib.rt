@@ -1,5 +1,5 @@
 // A walk (a trace of blocks) through a routine: accepted exactly where it is a finished counted run, with its cost. A step is a few word
-// operations: of the 64 counts only those of the loops that are left, and of the loop that is stepped into, are touched.
+// operations: of the counts only those of the loops that are left, and of the loop that is stepped into, are touched.
 ghost use mathlib.Core.Path.{_≡_};
 ghost use mathlib.Core.Bool.{not, _||_};
 ghost use Prim.Native.Nat.{_<_};
@@ -9,13 +9,12 @@ ghost use Rattle.wcet.specs.Run.{start};
 ghost use Rattle.nesting.specs.Columns.{routine};
 ghost use Rattle.walk.specs.Step.{stateOf, edgeAnswer, reading, Stands, Steps};
 ghost use Rattle.walk.specs.Reply.{meaning, endOf, entryAnswer, Enters, Follows, WalkAnswered};
+use counts::COUNT_WORDS;
 use counts::Counts;
+use limits::LONGEST_WALK;
 use loopsets::Sets;
 use nesting::Structure;
 use nesting::StructureFault;
-
-// The longest walk that is accepted, in blocks.
-const LONGEST_WALK: usize = 1048576;
 
 // The state of a run: the block it stands at, the cost of its blocks, and for each loop the visits to its header in the present stay.
 struct Run {
@@ -92,7 +91,7 @@ impl Run {
     fn start(cost: u32) -> Run
         ensures { λ r. ⌜ (stateOf r ≡ start) × (r .cost ≡ cost) ⌝ }
     {
-        let mut counts = [0u64; 16];
+        let mut counts = [0u64; COUNT_WORDS];
         counts[0] = 1;
         Run {
             at: 0,

@@ -5,6 +5,7 @@ use Prim.Native.Nat.{ℕ, _≤_, _<_}
 use native.Mathlib.Omega.{arith}
 use lib.Dec.{eqb, ltb}
 use borrow.Author.Tests.{eqb-true, eqb-false, ltb-true, ltb-false, not-false, ne-eqb}
+use Rattle.limits.specs.Limits.{mostBlocks, mostLoops}
 use Rattle.lists.specs.Search.{anyBelow}
 use Rattle.lists.proofs.Tests.{or-false, and-true}
 use Rattle.lists.proofs.Search.{none-of}
@@ -67,7 +68,7 @@ nested t h = record {
     past : ℕ → ℕ → ℕ → Bool
     past u v l = enters t u v l && not (eqb (header t l) v)
 
-    sizes : (outOfRange 2 1024 (blockCount t) ≡ false) × (outOfRange 1 64 (loopCount t) ≡ false)
+    sizes : (outOfRange 2 mostBlocks (blockCount t) ≡ false) × (outOfRange 1 mostLoops (loopCount t) ≡ false)
     sizes = or-false _ _ (or-false _ _ (or-false _ _ (h .0 0 (omega arith)) .0) .0)
 
     blocks : 2 ≤ blockCount t

@@ -12,12 +12,13 @@ use lib.IntN.{ℤ, pos}
 use lib.ListN.{length, getD}
 use lib.Seq.{take-length}
 use lib.Signed.{_≤ℤ_}
+use Rattle.limits.specs.Limits.{longestWalk}
 use Rattle.lists.specs.Search.{if_then_else_}
 use Rattle.lists.proofs.Tests.{or-false, and-true, both, neither}
 use Rattle.wcet.specs.Table.{Routine, blockCount, exit, limit, edge}
 use Rattle.wcet.specs.Rules.{Reply, accepted, refused, structureRules, tableReply}
 use Rattle.wcet.specs.Run.{path, run, State, start, next, after, passesLimit, keepsLimits, countedRun}
-use Rattle.wcet.specs.Walk.{Walked, walked, longestWalk, lengthRule, walkFrom, walkBlocks, walkReply}
+use Rattle.wcet.specs.Walk.{Walked, walked, lengthRule, walkFrom, walkBlocks, walkReply}
 use Rattle.wcet.specs.Claim.{AllHold, FinishedRun, WalksExactly}
 use Rattle.wcet.proofs.Replies.{passes, all-append, append-all, all-pass}
 use Rattle.wcet.proofs.Nesting.{Nested, nested}

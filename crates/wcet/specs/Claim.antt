@@ -7,10 +7,11 @@ use mathlib.Core.List.{List, [], _∷_, _++_}
 use lib.IntN.{ℤ, pos, _+ℤ_}
 use lib.ListN.{length, getD, take}
 use lib.Signed.{_≤ℤ_, _<ℤ_}
+use Rattle.limits.specs.Limits.{longestWalk}
 use Rattle.wcet.specs.Table.{Routine, exit, cost, figure}
 use Rattle.wcet.specs.Rules.{Reply, accepted, refused, Rule, structureRules, tableRules, bound, tableReply}
 use Rattle.wcet.specs.Run.{countedRun, runCost}
-use Rattle.wcet.specs.Walk.{Walked, walked, longestWalk, walkReply}
+use Rattle.wcet.specs.Walk.{Walked, walked, walkReply}
 
 -- ---- demand 3
 

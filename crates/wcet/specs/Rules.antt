@@ -8,6 +8,7 @@ use lib.Dec.{eqb, ltb}
 use lib.IntN.{ℤ, pos, negℤ, _+ℤ_, _-ℤ_, _*ℤ_}
 use lib.ListN.{length}
 use lib.Signed.{leZ, ltZ}
+use Rattle.limits.specs.Limits.{mostBlocks, mostLoops, mostDepth}
 use Rattle.lists.specs.Search.{if_then_else_, anyBelow, countBelow, firstBelow}
 use Rattle.wcet.specs.Table.{Routine, blockCount, loopCount, exit, cost, loopOf, figure, parent, header, limit, multiplier, someEdge, inside}
 
@@ -48,7 +49,7 @@ loopColumnsEqual t = sized (loopCount t) (t .headers) && sized (loopCount t) (t 
 
 -- 201: "n not 2 to 1,024, m not 1 to 64, or columns of one table unequal in length"
 unfoldable pub sizesWrong : Routine → Bool
-sizesWrong t = outOfRange 2 1024 (blockCount t) || outOfRange 1 64 (loopCount t) || not (blockColumnsEqual t) || not (loopColumnsEqual t)
+sizesWrong t = outOfRange 2 mostBlocks (blockCount t) || outOfRange 1 mostLoops (loopCount t) || not (blockColumnsEqual t) || not (loopColumnsEqual t)
 
 -- 202: "loop 0 is not parent 0, header 0, limit 1, multiplier 0; or another loop has a parent not below its own number,
 -- a header not below n, a limit not 1 to 65,535, or a multiplier over 2^40"
@@ -72,7 +73,7 @@ headerElsewhere t l = not (eqb (loopOf t (header t l)) l)
 
 -- 205: "more than 16 loops around a header, loop 0 and its own counted"
 unfoldable pub tooDeep : Routine → ℕ → Bool
-tooDeep t l = ltb 16 (countBelow (loopCount t) (inside t (header t l)))
+tooDeep t l = ltb mostDepth (countBelow (loopCount t) (inside t (header t l)))
 
 -- 206: "an edge into block 0 or out of block n−1"
 unfoldable pub entryOrExitEdge : Routine → ℕ → Bool
