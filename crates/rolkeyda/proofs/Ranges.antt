@@ -16,7 +16,8 @@ use Rattle.integers.proofs.Laws.{ints}
 use Rattle.wcet.specs.Table.{Routine, blockCount, exit, cost, edge}
 use Rattle.wcet.specs.Rules.{Reply as Answer, accepted, refused, Rule, refusedAt, check, sizesWrong, structureRules, tableRules, bound, tableReply}
 use Rattle.wcet.specs.Run.{State, start, next, passesLimit, runCost}
-use Rattle.wcet.specs.Walk.{Walked, walked, longestWalk, lengthRule, walkFrom, walkBlocks, walkReply}
+use Rattle.limits.specs.Limits.{longestWalk}
+use Rattle.wcet.specs.Walk.{Walked, walked, lengthRule, walkFrom, walkBlocks, walkReply}
 use Rattle.wcet.specs.Claim.{AllHold, FinishedRun}
 use Rattle.wcet.proofs.Replies.{decides, hands-on, all-append, passes}
 use Rattle.wcet.proofs.Walks.{walks-exactly}
