@@ -1,14 +1,16 @@
 -- What a search over the numbers below k finds, from what holds at each number, and the other way round. Assumes nothing.
-use mathlib.Core.Path.{_≡_, refl, sym, _∙_, ap, subst}
+use mathlib.Core.Path.{_≡_, refl, sym, _∙_, ap, ap₂, subst}
 use mathlib.Core.Bool.{Bool, true, false, not, _&&_, _||_, and-true, or-true}
+use mathlib.Core.List.{List, [], _∷_}
 use mathlib.Core.Option.{Option, none, some}
 use Prim.Native.Nat.{ℕ, zero, suc, _+_, _≤_, _<_}
 use native.Mathlib.Decide.{ℕ-discrete}
 use native.Mathlib.Nat.{add-assoc}
 use native.Mathlib.Omega.{arith}
 use lib.Dec.{eqb}
+use lib.ListN.{length, getD}
 use borrow.Author.Tests.{eq-eqb, ne-eqb}
-use Rattle.lists.specs.Search.{if_then_else_, anyBelow, countBelow, orElse, firstBelow}
+use Rattle.lists.specs.Search.{if_then_else_, anyBelow, countBelow, orElse, firstBelow, tabulate}
 use Rattle.lists.proofs.Tests.{or-false, neither}
 
 -- ---- one number more
@@ -153,3 +155,19 @@ count-remove (suc k) h p l e = go (ℕ-discrete h k) (λ b. count-remove k h p b
         rw (← q, e, eq-eqb h h refl) (let s : countBelow h (λ i. p i && not (eqb i h)) ≡ countBelow h p = rw (← q) at same in omega arith)
     go (no ne) rest =
         rw (ne-eqb k h (λ z. ne (sym z)), and-true (p k)) (let r = rest (omega arith) in omega arith)
+
+-- ---- tabulate
+
+pub tabulate-at {ℓ} : {A : Type ℓ} (k : ℕ) (f : ℕ → A) (d : A) (i : ℕ) → i < k → getD (tabulate k f) i d ≡ f i
+unfolding tabulate
+tabulate-at zero f d i h = absurd (omega arith)
+tabulate-at (suc k) f d zero h = refl
+tabulate-at (suc k) f d (suc i) h = tabulate-at k (λ j. f (suc j)) d i (omega arith)
+
+-- a list of k entries that f gives is the list of f
+pub tabulated {ℓ} : {A : Type ℓ} (xs : List A) (k : ℕ) (f : ℕ → A) (d : A) → length xs ≡ k → ((i : ℕ) → i < k → getD xs i d ≡ f i) → xs ≡ tabulate k f
+unfolding tabulate
+tabulated [] zero f d e h = refl
+tabulated [] (suc k) f d e h = absurd (omega arith)
+tabulated (x ∷ xs) zero f d e h = absurd (omega arith)
+tabulated (x ∷ xs) (suc k) f d e h = ap₂ _∷_ (h 0 (omega arith)) (tabulated xs k (λ i. f (suc i)) d (omega arith) (λ i b. h (suc i) (omega arith)))

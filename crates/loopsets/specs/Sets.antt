@@ -3,9 +3,11 @@ use Prim.Native.Nat.{ℕ, _≤_, _<_}
 use mathlib.Core.Path.{_≡_}
 use mathlib.Core.Bool.{Bool, true, false}
 use mathlib.Core.List.{List}
-use lib.ListN.{length, getD}
+use lib.Dec.{ltb}
+use lib.ListN.{length, getD, replicate}
 use Rattle.limits.specs.Limits.{mostLoops}
-use Rattle.bits.specs.Digits.{has}
+use Rattle.lists.specs.Search.{if_then_else_, tabulate}
+use Rattle.bits.specs.Digits.{has, setOf}
 use Rattle.wcet.specs.Table.{around}
 use Rattle.loopsets.specs.declared.LoopSet.{LoopSet}
 
@@ -28,7 +30,11 @@ pub record Parents (parents : List ℕ) : Type 0 where
   pub root : getD parents 0 0 ≡ 0
   pub below : (l : ℕ) → 0 < l → getD parents l 0 < l
 
--- the set of each loop has the loops around it
-pub record SetsAround (parents sets : List ℕ) : Type 0 where
-  pub size : length sets ≡ mostLoops
-  pub each : (l k : ℕ) → l < length parents → member (setAt sets l) k ≡ around parents (length parents) l k
+-- Document 01: "The loops around a block fit one 64-bit set". The word of each loop's set: the loops around it, and none where the parent
+-- column has no loop l.
+unfoldable pub setsAround : List ℕ → List ℕ
+setsAround parents = tabulate mostLoops (λ l. if ltb l (length parents) then setOf mostLoops (around parents (length parents) l) else 0)
+
+-- every set is empty
+unfoldable pub noSets : List ℕ
+noSets = replicate mostLoops 0

@@ -8,7 +8,7 @@ ghost use lib.Dec.{eqb};
 ghost use lib.ListN.{length};
 ghost use Rattle.limits.specs.Limits.{mostLoops};
 ghost use Rattle.lists.specs.Search.{countBelow};
-ghost use Rattle.loopsets.specs.Sets.{member, setAt, LowestOf, Parents, SetsAround};
+ghost use Rattle.loopsets.specs.Sets.{member, setAt, LowestOf, Parents, setsAround};
 
 use limits::MOST_LOOPS;
 
@@ -81,10 +81,11 @@ pub fn set_at(sets: &Sets, l: usize) -> LoopSet
     LoopSet { word: sets[l] }
 }
 
-// The loops around each loop of the parent column: around loop 0 itself alone, around any other loop itself and the loops around its parent.
+// The loops around each loop of the parent column: loop 0 around itself, and around any other loop itself and the loops around its parent.
+// The sets after the last loop are empty.
 pub fn sets_around(parent: &[u16]) -> Sets
     requires { ⌜ (0 < length (now parent)) × (length (now parent) ≤ mostLoops) × Parents (now parent) ⌝ }
-    ensures { λ r. ⌜ SetsAround (now (parent .entry)) r ⌝ }
+    ensures { λ r. ⌜ r ≡ setsAround (now (parent .entry)) ⌝ }
 {
     let mut around = [0u64; MOST_LOOPS];
     around[0] = 1;
