@@ -36,5 +36,5 @@ unfoldable pub setsAround : List ℕ → List ℕ
 setsAround parents = tabulate mostLoops (λ l. if ltb l (length parents) then setOf mostLoops (around parents (length parents) l) else 0)
 
 -- every set is empty
-unfoldable pub noSets : List ℕ
+abbrev pub noSets : List ℕ
 noSets = replicate mostLoops 0

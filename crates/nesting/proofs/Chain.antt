@@ -13,12 +13,14 @@ use Rattle.wcet.specs.Rules.{Reply, accepted, refused, Rule, check, outOfRange,
 use Rattle.wcet.specs.Table.{Routine, blockCount, loopCount, someEdge, inside}
 use Rattle.wcet.specs.Claim.{AllHold}
 use Rattle.wcet.proofs.Replies.{decides, hands-on, passes, refused-append}
+use Rattle.loopsets.specs.Sets.{setsAround, noSets}
 use Rattle.nesting.specs.Columns.{nestingColumns, blockSizesWrong, loopSizesWrong}
-use Rattle.nesting.specs.Answers.{placeOf, refusal, structureReply, StructureChecked, NestingChecked}
+use Rattle.nesting.specs.Answers.{placeOf, refusal, structureReply, setsBeside, RulesChecked, StructureChecked, NestingChecked}
 use Rattle.nesting.specs.declared.Place.{Place}
 use Rattle.nesting.specs.declared.Place.the-variants.{At, Nowhere}
 use Rattle.nesting.specs.declared.StructureFault.{StructureFault}
 use Rattle.nesting.specs.declared.StructureFault.the-variants.{Sizes, Loop, Block, Header, Depth, EntryOrExit, PastHeader}
+use Rattle.nesting.specs.declared.Structure.{Structure}
 use Rattle.nesting.specs.declared.Structure.the-variants.{Sound, Broken}
 use Rattle.nesting.specs.declared.Structured.{Structured}
 
@@ -79,16 +81,11 @@ sizes-clear t passed e = sym (hands-on _ _ passed (λ p h. e))
 
 -- ---- the whole check
 
-never-sound : (r : Structured) (f : StructureFault) → r .answer ≡ Broken f → r .answer ≡ Sound → ⊥
-never-sound r f e s = let z : _≡_ {A = ℕ} 0 1 = cc in omega arith
+pub broken-checked : (rs : List Rule) (parents : List ℕ) (r : Structured) (f : StructureFault) → (r .answer ≡ Broken f) × (r .around ≡ noSets)
+    → refusal {A = Unit {0}} f ≡ check rs (accepted tt) → RulesChecked rs parents r
+broken-checked rs parents r f e q = record { replied = ap structureReply (e .0) ∙ q; sets = e .1 ∙ sym (ap (λ (a : Structure). setsBeside a parents) (e .0)) }
 
-pub broken-checked : (t : Routine) (r : Structured) (f : StructureFault) → r .answer ≡ Broken f → refusal {A = Unit {0}} f ≡ check (structureRules t) (accepted tt) → StructureChecked t r
-broken-checked t r f e q = record { replied = ap structureReply e ∙ q; sets = λ s. absurd (never-sound r f e s) }
-
-pub broken-nesting : (t : Routine) (r : Structured) (f : StructureFault) → r .answer ≡ Broken f → refusal {A = Unit {0}} f ≡ check (drop 4 (structureRules t)) (accepted tt) → NestingChecked t r
-broken-nesting t r f e q = record { replied = ap structureReply e ∙ q; sets = λ s. absurd (never-sound r f e s) }
-
--- what the nesting's columns are refused or accepted with, behind 201 to 204, the routine is
+-- what the nesting's columns are refused or accepted with after 201 to 204, the routine is
 pub nesting-checked : (t : Routine) (r : Structured) → NestingChecked (nestingColumns (t .costs) (t .loops) (t .firsts) (t .seconds) (t .parents) (t .headers)) r
     → check (drop 4 (structureRules t)) (accepted (tt {0})) ≡ check (structureRules t) (accepted tt) → StructureChecked t r
 unfolding structureRules tooDeep entryOrExitEdge entersPastHeader someEdge inside
@@ -113,6 +110,9 @@ refusal-stands t r C f e qs passed = go f (sym (ap structureReply e) ∙ C .repl
     go (EntryOrExit u) q = stands 206 u q
     go (PastHeader u) q = stands 207 u q
 
--- where its answer is Sound, 201 to 207 hold
+-- where its answer is Sound, 201 to 207 hold, and the sets are those of the loops around each loop
 pub sound-holds : (t : Routine) (r : Structured) → StructureChecked t r → r .answer ≡ Sound → AllHold (structureRules t)
 sound-holds t r C e = passes (structureRules t) (accepted tt) tt (sym (C .replied) ∙ ap structureReply e) .0
+
+pub sound-sets : (t : Routine) (r : Structured) → StructureChecked t r → r .answer ≡ Sound → r .around ≡ setsAround (t .parents)
+sound-sets t r C e = C .sets ∙ ap (λ (a : Structure). setsBeside a (t .parents)) e

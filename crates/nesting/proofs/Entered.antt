@@ -18,8 +18,9 @@ use Rattle.wcet.specs.Table.{Routine, blockCount, loopCount, loopOf, header, so
 use Rattle.wcet.specs.Rules.{tooDeep, enters, entersPastHeader, isHeader}
 use Rattle.wcet.proofs.Potential.{inside-own}
 use Rattle.wcet.proofs.Around.{around-above, entered-own}
-use Rattle.loopsets.specs.Sets.{member, setAt, SetsAround}
+use Rattle.loopsets.specs.Sets.{member, setAt, setsAround}
 use Rattle.loopsets.specs.declared.LoopSet.{LoopSet}
+use Rattle.loopsets.proofs.Laws.{member-around}
 use Rattle.nesting.specs.Columns.{Nestable, pastHeader, deepBySets, enteredBySets, pastBySets, anyPastBySets}
 use Rattle.nesting.proofs.Edges.{edges-ext}
 
@@ -28,10 +29,16 @@ pub entered-count : (sets loops : List ℕ) (u v : ℕ) (to from s : LoopSet) (n
     → ((k : ℕ) → k < mostLoops → member s k ≡ (member to k && not (member from k))) → n ≡ countBelow mostLoops (member s) → n ≡ enteredBySets sets loops u v
 entered-count sets loops u v to from s n p q e size = size ∙ count-ext mostLoops (member s) _ (λ k b. e k b ∙ rw (p, q))
 
-module _ (t : Routine) (sets : List ℕ) (N : Nestable t) (S : SetsAround (t .parents) sets) where
+module _ (t : Routine) (sets : List ℕ) (N : Nestable t) (S : sets ≡ setsAround (t .parents)) where
+  few-loops : loopCount t ≤ mostLoops
+  few-loops = omega (arith, N .innermost .few, N .headers)
+
+  each : (l k : ℕ) → l < loopCount t → k < mostLoops → member (setAt sets l) k ≡ around (t .parents) (loopCount t) l k
+  each = member-around (t .parents) sets S few-loops
+
   -- a count over all numbers below mostLoops is one over the loops
   few : (p : ℕ → Bool) → ((k : ℕ) → loopCount t ≤ k → p k ≡ false) → countBelow mostLoops p ≡ countBelow (loopCount t) p
-  few p none-above = count-beyond (loopCount t) mostLoops p (omega (arith, N .innermost .few, N .headers)) (λ k a b. none-above k a)
+  few p none-above = count-beyond (loopCount t) mostLoops p few-loops (λ k a b. none-above k a)
 
   above : (l k : ℕ) → l < loopCount t → loopCount t ≤ k → around (t .parents) (loopCount t) l k ≡ false
   above l k b h = around-above (t .parents) (N .parents .root) (N .parents .below) (loopCount t) l k (omega arith)
@@ -44,7 +51,7 @@ module _ (t : Routine) (sets : List ℕ) (N : Nestable t) (S : SetsAround (t .pa
   unfolding tooDeep inside
   depth l b =
       ap (ltb mostDepth)
-      (count-ext mostLoops (member (setAt sets l)) (around (t .parents) (loopCount t) l) (λ k c. S .each l k b)
+      (count-ext mostLoops (member (setAt sets l)) (around (t .parents) (loopCount t) l) (λ k c. each l k b c)
       ∙ few (around (t .parents) (loopCount t) l) (λ k h. above l k b h)
       ∙ sym (count-ext (loopCount t) (inside t (header t l)) (around (t .parents) (loopCount t) l) (λ k c. ap (λ (x : ℕ). around (t .parents) (loopCount t) x k) (N .own l b))))
 
@@ -60,7 +67,7 @@ module _ (t : Routine) (sets : List ℕ) (N : Nestable t) (S : SetsAround (t .pa
     entered : enteredBySets sets (t .loops) u v ≡ countBelow (loopCount t) into
     unfolding inside
     entered =
-        count-ext mostLoops (λ k. member (setAt sets (loopOf t v)) k && not (member (setAt sets (loopOf t u)) k)) into (λ k b. rw (S .each (loopOf t v) k own-below, S .each (loopOf t u) k (loop-below u ub)))
+        count-ext mostLoops (λ k. member (setAt sets (loopOf t v)) k && not (member (setAt sets (loopOf t u)) k)) into (λ k b. rw (each (loopOf t v) k own-below b, each (loopOf t u) k (loop-below u ub) b))
         ∙ few into (λ k h. rw (above (loopOf t v) k own-below h))
 
     -- the target's innermost loop is entered if any is

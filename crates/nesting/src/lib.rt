@@ -11,6 +11,7 @@ ghost use lib.ListN.{length};
 ghost use Rattle.limits.specs.Limits.{mostLoops};
 ghost use Rattle.lists.specs.Search.{if_then_else_, firstBelow};
 ghost use Rattle.wcet.specs.Rules.{outOfRange, loopWrong, blockWrong, headerElsewhere, entryOrExitEdge};
+ghost use Rattle.loopsets.specs.Sets.{noSets};
 ghost use Rattle.nesting.specs.Columns.{routine, loopColumns, blockColumns, headerColumns, edgeColumns, nestingColumns, blockSizesWrong, loopSizesWrong, BlocksSized, LoopsSized, HeadersNamed, Innermost, Linked, Nestable, Names, ofEdge, deepBySets, pastBySets, anyPastBySets};
 ghost use Rattle.nesting.specs.Answers.{placeOf, StructureChecked, NestingChecked};
 ghost use Rattle.nesting.specs.declared.Structure.the-variants.{Broken};
@@ -41,7 +42,7 @@ pub enum Structure {
     Broken(StructureFault),
 }
 
-// The answer, and beside it the sets of the loops around each loop, made once for whoever goes on.
+// The answer, and beside it the sets of the loops around each loop, made once for the checks that follow. Beside a refusal they are empty.
 pub struct Structured {
     pub answer: Structure,
     pub around: Sets,
@@ -351,9 +352,9 @@ fn first_past_header(
 
 // ---- 201 to 207
 
-// A refusal has no sets beside it.
+// A refusal has empty sets beside it.
 fn broken(fault: StructureFault) -> Structured
-    ensures { λ r. ⌜ r .answer ≡ Broken fault ⌝ }
+    ensures { λ r. ⌜ (r .answer ≡ Broken fault) × (r .around ≡ noSets) ⌝ }
 {
     Structured {
         answer: Structure::Broken(fault),

@@ -73,7 +73,7 @@ broken-requires : tie.Need-broken-requires
 broken-requires c κs = search needs
 
 returns : tie.Need-returns
-returns c = broken-checked (at-entry (c .before .before .before .before .before .before .before .before .before .before .before)) _ _ (c .broken .ensures) (sizes-decide (at-entry (c .before .before .before .before .before .before .before .before .before .before .before)) _ (blocks-decide (at-entry (c .before .before .before .before .before .before .before .before .before .before .before)) (sym (c .before .before .block-sizes-wrong .ensures) ∙ c .before .if1 .taken)))
+returns c = broken-checked _ _ _ _ (c .broken .ensures) (sizes-decide (at-entry (c .before .before .before .before .before .before .before .before .before .before .before)) _ (blocks-decide (at-entry (c .before .before .before .before .before .before .before .before .before .before .before)) (sym (c .before .before .block-sizes-wrong .ensures) ∙ c .before .if1 .taken)))
 
 loop-sizes-wrong-requires : tie.Need-loop-sizes-wrong-requires
 loop-sizes-wrong-requires c κs = search needs
@@ -82,7 +82,7 @@ broken-requires-2 : tie.Need-broken-requires-2
 broken-requires-2 c κs = search needs
 
 returns-2 : tie.Need-returns-2
-returns-2 c = broken-checked (at-entry (c .before .before .before .before .before .before .before .before .before .before .before .before .before)) _ _ (c .broken2 .ensures) (sizes-decide (at-entry (c .before .before .before .before .before .before .before .before .before .before .before .before .before)) _ (loops-decide (at-entry (c .before .before .before .before .before .before .before .before .before .before .before .before .before)) (sym (c .before .before .loop-sizes-wrong .ensures) ∙ c .before .if2 .taken)))
+returns-2 c = broken-checked _ _ _ _ (c .broken2 .ensures) (sizes-decide (at-entry (c .before .before .before .before .before .before .before .before .before .before .before .before .before)) _ (loops-decide (at-entry (c .before .before .before .before .before .before .before .before .before .before .before .before .before)) (sym (c .before .before .loop-sizes-wrong .ensures) ∙ c .before .if2 .taken)))
 
 first-wrong-loop-requires : tie.Need-first-wrong-loop-requires
 first-wrong-loop-requires c κs = loops-sized (at-entry (c .before .before .before .before .before .before .before .before .before .before .before .before)) (sized c)
@@ -95,7 +95,7 @@ broken-requires-3 c κs = search needs
 
 returns-3 : tie.Need-returns-3
 unfolding structureRules
-returns-3 c = broken-checked (at-entry (c .before .before .before .before .before .before .before .before .before .before .before .before .before .before .before .before .before)) _ _ (c .broken3 .ensures) (place-decides _ _ _ (loop-place (c .before .before .before .before)) 202 _ _ _ (c .before .before .l .given .1) ∙ sizes-clear (at-entry (c .before .before .before .before .before .before .before .before .before .before .before .before .before .before .before .before .before)) _ (behind-201 (c .before .before .before .before .before)))
+returns-3 c = broken-checked _ _ _ _ (c .broken3 .ensures) (place-decides _ _ _ (loop-place (c .before .before .before .before)) 202 _ _ _ (c .before .before .l .given .1) ∙ sizes-clear (at-entry (c .before .before .before .before .before .before .before .before .before .before .before .before .before .before .before .before .before)) _ (behind-201 (c .before .before .before .before .before)))
 
 enum-told : tie.Need-enum-told
 enum-told c = search needs
@@ -111,7 +111,7 @@ broken-requires-4 c κs = search needs
 
 returns-4 : tie.Need-returns-4
 unfolding structureRules
-returns-4 c = broken-checked (at-entry (c .before .before .before .before .before .before .before .before .before .before .before .before .before .before .before .before .before .before .before .before)) _ _ (c .broken4 .ensures) (place-decides _ _ _ (block-place (c .before .before .before .before)) 203 _ _ _ (c .before .before .u .given .1) ∙ behind-202 (c .before .before .before .before .before))
+returns-4 c = broken-checked _ _ _ _ (c .broken4 .ensures) (place-decides _ _ _ (block-place (c .before .before .before .before)) 203 _ _ _ (c .before .before .u .given .1) ∙ behind-202 (c .before .before .before .before .before))
 
 enum-told-2 : tie.Need-enum-told-2
 enum-told-2 c = search needs
@@ -127,7 +127,7 @@ broken-requires-5 c κs = search needs
 
 returns-5 : tie.Need-returns-5
 unfolding structureRules
-returns-5 c = broken-checked (at-entry (c .before .before .before .before .before .before .before .before .before .before .before .before .before .before .before .before .before .before .before .before .before .before .before)) _ _ (c .broken5 .ensures) (place-decides _ _ _ (header-place (c .before .before .before .before)) 204 _ _ _ (c .before .before .h .given .1) ∙ behind-203 (c .before .before .before .before .before))
+returns-5 c = broken-checked _ _ _ _ (c .broken5 .ensures) (place-decides _ _ _ (header-place (c .before .before .before .before)) 204 _ _ _ (c .before .before .h .given .1) ∙ behind-203 (c .before .before .before .before .before))
 
 enum-told-3 : tie.Need-enum-told-3
 enum-told-3 c = search needs
