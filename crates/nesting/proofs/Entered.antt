@@ -24,7 +24,15 @@ use Rattle.loopsets.proofs.Laws.{member-around}
 use Rattle.nesting.specs.Columns.{Nestable, pastHeader, deepBySets, enteredBySets, pastBySets, anyPastBySets}
 use Rattle.nesting.proofs.Edges.{edges-ext}
 
--- what the code counts: the loops of the target's set that the source's has not
+-- an edge within one innermost loop enters none
+pub none-entered : (sets loops : List ℕ) (u v : ℕ) → getD loops u 0 ≡ getD loops v 0 → enteredBySets sets loops u v ≡ 0
+none-entered sets loops u v e = count-none mostLoops _ (λ l b. rw e (not-both (member (setAt sets (getD loops v 0)) l)))
+  where
+    not-both : (b : Bool) → (b && not b) ≡ false
+    not-both true = refl
+    not-both false = refl
+
+-- what the code counts: the loops of the target's set that are not in the source's
 pub entered-count : (sets loops : List ℕ) (u v : ℕ) (to from s : LoopSet) (n : ℕ) → to ≡ setAt sets (getD loops v 0) → from ≡ setAt sets (getD loops u 0)
     → ((k : ℕ) → k < mostLoops → member s k ≡ (member to k && not (member from k))) → n ≡ countBelow mostLoops (member s) → n ≡ enteredBySets sets loops u v
 entered-count sets loops u v to from s n p q e size = size ∙ count-ext mostLoops (member s) _ (λ k b. e k b ∙ rw (p, q))
@@ -63,7 +71,7 @@ module _ (t : Routine) (sets : List ℕ) (N : Nestable t) (S : sets ≡ setsArou
     own-below : loopOf t v < loopCount t
     own-below = loop-below v vb
 
-    -- how many loops the target's set has that the source's has not is how many are entered
+    -- the loops of the target's set that are not in the source's are the ones entered
     entered : enteredBySets sets (t .loops) u v ≡ countBelow (loopCount t) into
     unfolding inside
     entered =

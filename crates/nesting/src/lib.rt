@@ -304,8 +304,8 @@ fn first_entry_or_exit_edge(cost: &[u32], first: &[u16], second: &[u16]) -> Plac
 
 // ---- 207
 
-// Whether an edge from block u to v enters a loop elsewhere than at its header. It enters its target's innermost loop if it enters any, so
-// it may enter that one, at its header, and no second.
+// Whether an edge from block u to v enters a loop elsewhere than at its header. Within one innermost loop it enters none, and no set is
+// looked at. Else it enters its target's innermost loop if it enters any, so it may enter that one, at its header, and no other.
 fn past_header(around: &Sets, loops: &[u16], header: &[u16], u: usize, v: u16) -> bool
     requires { ⌜ Innermost (now loops) (now header) × (u < length (now loops)) × Names (length (now loops)) v ⌝ }
     ensures { λ r. ⌜ r ≡ ofEdge v (pastBySets (now (around .entry)) (now (loops .entry)) (now (header .entry)) u) ⌝ }
@@ -315,6 +315,9 @@ fn past_header(around: &Sets, loops: &[u16], header: &[u16], u: usize, v: u16) -
     }
     let from = loops[u] as usize;
     let to = loops[v as usize] as usize;
+    if from == to {
+        return false;
+    }
     let target = loopsets::set_at(around, to);
     let entered = target.without(loopsets::set_at(around, from)).size();
     if entered == 0 {
