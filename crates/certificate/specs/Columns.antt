@@ -2,15 +2,15 @@
 use Prim.Native.Nat.{ℕ, _^_, _≤_, _<_}
 use mathlib.Core.Path.{_≡_}
 use mathlib.Core.Bool.{Bool, not}
-use mathlib.Core.List.{List, []}
+use mathlib.Core.List.{List, [], _∷_}
 use lib.IntN.{ℤ}
 use lib.ListN.{length}
 use Rattle.limits.specs.Limits.{mostBlocks}
 use Rattle.wcet.specs.Table.{Routine, blockCount, exit, cost, loopOf, figure, limit, multiplier, someEdge}
-use Rattle.wcet.specs.Rules.{isHeader}
+use Rattle.wcet.specs.Rules.{Reply, accepted, check, isHeader, inequality, bound}
 use Rattle.loopsets.specs.Sets.{member, setAt}
 use Rattle.nesting.specs.Columns.{routine, edgeColumns, Innermost}
-use Rattle.certificate.specs.Figures.{Figure, inequality}
+use Rattle.certificate.specs.Figures.{Figure}
 
 -- what the inequality of an edge is read off, beside the sets; and the bound
 abbrev pub weightColumns : (costs loops : List ℕ) (figures : List ℤ) (headers limits multipliers : List ℕ) → Routine
@@ -49,3 +49,7 @@ brokenBySets sets t u v =
 -- of either edge of block u
 abbrev pub anyBrokenBySets : (sets firsts seconds : List ℕ) (t : Routine) → ℕ → Bool
 anyBrokenBySets sets firsts seconds t u = someEdge (edgeColumns [] firsts seconds) u (brokenBySets sets t u)
+
+-- 208 and the bound, read off the sets
+abbrev pub certifiedBySets : (sets firsts seconds : List ℕ) (t : Routine) → Reply ℤ
+certifiedBySets sets firsts seconds t = check (record { number = 208; places = blockCount t; broken = anyBrokenBySets sets firsts seconds t } ∷ []) (accepted (bound t))

@@ -9,7 +9,7 @@ use Rattle.limits.specs.Limits.{mostBlocks, mostLoops}
 use Rattle.lists.specs.Search.{firstBelow}
 use Rattle.lists.proofs.Search.{not-found}
 use Rattle.lists.proofs.Tests.{or-false}
-use Rattle.wcet.specs.Rules.{Reply, accepted, refused, Rule, check, outOfRange, blockColumnsEqual, loopColumnsEqual, sizesWrong, tooDeep, entryOrExitEdge, entersPastHeader, structureRules}
+use Rattle.wcet.specs.Rules.{Reply, accepted, refused, Rule, check, outOfRange, blockColumnsEqual, loopColumnsEqual, sizesWrong, tooDeep, entryOrExitEdge, pastHeader, entersPastHeader, structureRules}
 use Rattle.wcet.specs.Table.{Routine, blockCount, loopCount, someEdge, inside}
 use Rattle.wcet.specs.Claim.{AllHold}
 use Rattle.wcet.proofs.Replies.{decides, hands-on, passes, refused-append}
@@ -88,7 +88,7 @@ broken-checked rs parents r f e q = record { replied = ap structureReply (e .0) 
 -- what the nesting's columns are refused or accepted with after 201 to 204, the routine is
 pub nesting-checked : (t : Routine) (r : Structured) → NestingChecked (nestingColumns (t .costs) (t .loops) (t .firsts) (t .seconds) (t .parents) (t .headers)) r
     → check (drop 4 (structureRules t)) (accepted (tt {0})) ≡ check (structureRules t) (accepted tt) → StructureChecked t r
-unfolding structureRules tooDeep entryOrExitEdge entersPastHeader someEdge inside
+unfolding structureRules tooDeep entryOrExitEdge pastHeader entersPastHeader someEdge inside
 nesting-checked t r N e = record { replied = N .replied ∙ e; sets = N .sets }
 
 -- ---- for who goes on

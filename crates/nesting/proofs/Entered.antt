@@ -15,13 +15,13 @@ use Rattle.lists.specs.Search.{anyBelow, countBelow, firstBelow}
 use Rattle.lists.proofs.Tests.{both}
 use Rattle.lists.proofs.Search.{any-none, none-of, any-at, first-ext, count-ext, count-beyond, count-none, none-counted, count-remove}
 use Rattle.wcet.specs.Table.{Routine, blockCount, loopCount, loopOf, header, someEdge, around, inside}
-use Rattle.wcet.specs.Rules.{tooDeep, enters, entersPastHeader, isHeader}
+use Rattle.wcet.specs.Rules.{tooDeep, enters, pastHeader, entersPastHeader, isHeader}
 use Rattle.wcet.proofs.Potential.{inside-own}
 use Rattle.wcet.proofs.Around.{around-above, entered-own}
 use Rattle.loopsets.specs.Sets.{member, setAt, setsAround}
 use Rattle.loopsets.specs.declared.LoopSet.{LoopSet}
 use Rattle.loopsets.proofs.Laws.{member-around}
-use Rattle.nesting.specs.Columns.{Nestable, pastHeader, deepBySets, enteredBySets, pastBySets, anyPastBySets}
+use Rattle.nesting.specs.Columns.{Nestable, deepBySets, enteredBySets, pastBySets, anyPastBySets}
 use Rattle.nesting.proofs.Edges.{edges-ext}
 
 -- an edge within one innermost loop enters none
@@ -167,7 +167,7 @@ module _ (t : Routine) (sets : List ℕ) (N : Nestable t) (S : sets ≡ setsArou
         go (no z) (no o) = rw (ne-eqb _ 0 z, ne-eqb _ 1 o) (sym (enters-more z o))
 
   any-past : (u : ℕ) → u < blockCount t → anyPastBySets sets (t .loops) (t .firsts) (t .seconds) (t .headers) u ≡ entersPastHeader t u
-  unfolding entersPastHeader pastHeader someEdge
+  unfolding entersPastHeader someEdge
   any-past u b = edges-ext t u (pastBySets sets (t .loops) (t .headers) u) (pastHeader t u) (λ h. past u _ b (N .linked .first-names u b h)) (λ h. past u _ b (N .linked .second-names u b h))
 
   -- ---- the places

@@ -9,9 +9,9 @@ use lib.IntN.{ℤ, pos, negℤ}
 use lib.ListN.{length, getD}
 use lib.Signed.{_≤ℤ_}
 use Rattle.limits.specs.Limits.{mostBlocks, mostLoops, mostDepth}
-use Rattle.lists.specs.Search.{anyBelow, countBelow}
+use Rattle.lists.specs.Search.{countBelow}
 use Rattle.wcet.specs.Table.{Routine, blockCount, loopCount, missing, cost, loopOf, first, second, figure, header, limit, multiplier, someEdge}
-use Rattle.wcet.specs.Rules.{outOfRange, blockColumnsEqual, loopColumnsEqual, enters}
+use Rattle.wcet.specs.Rules.{outOfRange, blockColumnsEqual, loopColumnsEqual}
 use Rattle.loopsets.specs.Sets.{member, setAt, Parents}
 
 -- the routine of nine columns, in the order in which every function takes them
@@ -137,10 +137,6 @@ pub record Nestable (t : Routine) : Type 0 where
   pub innermost : Innermost (t .loops) (t .headers)
   pub linked : Linked (blockCount t) (t .firsts) (t .seconds)
   pub own : (l : ℕ) → l < loopCount t → loopOf t (header t l) ≡ l
-
--- 207, of an edge from u to v
-unfoldable pub pastHeader : Routine → ℕ → ℕ → Bool
-pastHeader t u v = anyBelow (loopCount t) (λ l. enters t u v l && not (eqb (header t l) v))
 
 -- 205, read off the sets: the set of loop l has more than mostDepth loops
 abbrev pub deepBySets : List ℕ → ℕ → Bool

@@ -17,7 +17,7 @@ use Rattle.integers.specs.Parts.{up, dn}
 use Rattle.integers.proofs.Laws.{ints, sum, diff, times, leZ-le}
 use Rattle.integers.proofs.Direction.{atMost}
 use Rattle.wcet.specs.Table.{Routine, blockCount, exit, cost, figure, limit, multiplier, edge}
-use Rattle.wcet.specs.Rules.{Reply, accepted, edgeHolds, inequalityBroken, inequalityRule, structureRules, tableRules, bound, tableReply}
+use Rattle.wcet.specs.Rules.{Reply, accepted, inequality, edgeHolds, inequalityBroken, inequalityRule, structureRules, tableRules, bound, tableReply}
 use Rattle.wcet.specs.Run.{path, run, State, start, next, after, passesLimit, keepsLimits, countedRun, runCost}
 use Rattle.wcet.specs.Claim.{AllHold, BoundedAt, WcetBound, Checked, FinishedRun, NegativeBound}
 use Rattle.wcet.proofs.Replies.{all-append, replies-exactly}
@@ -57,7 +57,7 @@ module _ (t : Routine) (F : Facts t) where
 
   sound : (s : State) (v : ℕ) → s .block < blockCount t → WithinLimits t s → edge t (s .block) v ≡ true
       → Sound t _≤ℤ_ (certificate t) s v (pos (stepCost t (s .block) v))
-  unfolding edgeHolds
+  unfolding inequality edgeHolds
   sound s v b W e = record {
     loop = innermost v (target (s .block) v b e);
     own = own;

@@ -83,32 +83,36 @@ entryOrExitEdge t u = someEdge t u (λ v. eqb v 0 || eqb u (exit t))
 abbrev pub enters : Routine → ℕ → ℕ → ℕ → Bool
 enters t u v l = inside t v l && not (inside t u l)
 
--- 207: "an edge ends inside a loop that its source is outside of, and not at that loop's header"
+-- 207: "an edge ends inside a loop that its source is outside of, and not at that loop's header": of an edge from u to v
+unfoldable pub pastHeader : Routine → ℕ → ℕ → Bool
+pastHeader t u v = anyBelow (loopCount t) (λ l. enters t u v l && not (eqb (header t l) v))
+
+-- of either edge of block u
 unfoldable pub entersPastHeader : Routine → ℕ → Bool
-entersPastHeader t u = someEdge t u (λ v. anyBelow (loopCount t) (λ l. enters t u v l && not (eqb (header t l) v)))
+entersPastHeader t u = someEdge t u (pastHeader t u)
 
 -- v is a header: by 203 and 204 it is then the header of its innermost loop, and of no other
 abbrev pub isHeader : Routine → ℕ → Bool
 isHeader t v = eqb (header t (loopOf t v)) v
 
+-- The inequality of an edge from u to v, on numbers: v is a header or not, u is inside its loop or not, the cost of v, the figures of u and
+-- of v, the multiplier and the limit of v's loop.
 -- "For an edge from u to v let D be the figure of u less the figure of v.
 --  v is no header: cost of v ≤ D.
 --  v is the header of a loop that u is inside: cost of v ≤ D + multiplier.
 --  v is the header of a loop that u is outside: cost of v + multiplier × (limit − 1) ≤ D."
-unfoldable pub edgeHolds : Routine → ℕ → ℕ → Bool
-edgeHolds t u v =
-    if not (isHeader t v) then leZ c d else
-    if inside t u l then leZ c (d +ℤ pos (multiplier t l)) else
-    leZ (c +ℤ pos (multiplier t l) *ℤ (pos (limit t l) -ℤ pos 1)) d
+unfoldable pub inequality : (headed inner : Bool) (c : ℕ) (from to : ℤ) (k b : ℕ) → Bool
+inequality headed inner c from to k b =
+    if not headed then leZ (pos c) d else
+    if inner then leZ (pos c) (d +ℤ pos k) else
+    leZ (pos c +ℤ pos k *ℤ (pos b -ℤ pos 1)) d
   where
-    l : ℕ
-    l = loopOf t v
-
-    c : ℤ
-    c = pos (cost t v)
-
     d : ℤ
-    d = figure t u -ℤ figure t v
+    d = from -ℤ to
+
+-- the inequality of an edge from u to v of the tables holds
+unfoldable pub edgeHolds : Routine → ℕ → ℕ → Bool
+edgeHolds t u v = inequality (isHeader t v) (inside t u (loopOf t v)) (cost t v) (figure t u) (figure t v) (multiplier t (loopOf t v)) (limit t (loopOf t v))
 
 -- 208: "an edge breaks its inequality"
 unfoldable pub inequalityBroken : Routine → ℕ → Bool
