@@ -15,24 +15,21 @@ use Rattle.wcet.specs.Table.{Routine, blockCount}
 use Rattle.wcet.specs.Rules.{Reply, accepted, refused, check, outOfRange, structureRules}
 use Rattle.wcet.specs.Run.{start}
 use Rattle.wcet.specs.Walk.{Walked, walked, lengthRule, walkFrom, walkBlocks, walkReply}
-use Rattle.wcet.specs.Claim.{AllHold}
+use Rattle.wcet.specs.Claim.{AllHold, WalkChecked}
 use Rattle.wcet.proofs.Replies.{decides, hands-on, behind-all, passes}
-use Rattle.wcet.proofs.Walks.{walks-exactly}
+use Rattle.wcet.proofs.Walks.{walk-checked}
 use Rattle.nesting.specs.Answers.{refusal, StructureChecked}
 use Rattle.nesting.specs.declared.StructureFault.{StructureFault}
 use Rattle.nesting.specs.declared.Structure.the-variants.{Sound, Broken}
 use Rattle.nesting.specs.declared.Structured.{Structured}
-use Rattle.nesting.proofs.Chain.{refusal-stands, sound-holds}
+use Rattle.nesting.proofs.Chain.{refusal-stands, sound-holds, sound-sets}
 use Rattle.walk.specs.declared.Entry.{Entry}
 use Rattle.walk.specs.declared.Entry.the-variants as entry
 use Rattle.walk.specs.declared.WalkReply.{WalkReply}
 use Rattle.walk.specs.declared.WalkReply.the-variants.{Structure, Length, NoBlock, NotEntry}
-use Rattle.walk.specs.Reply.{meaning, entryAnswer, WalkAnswered}
+use Rattle.walk.specs.Reply.{meaning, entryAnswer}
 use Rattle.walk.specs.Step.{Walkable}
 use Rattle.walk.proofs.Facts.{walkable}
-
-pub answered : (t : Routine) (w : List ℕ) (r : Reply Walked) → r ≡ walkReply t w → WalkAnswered t w r
-answered t w r e = record { replied = e; accepts = λ h k x. rw e (walks-exactly t h w k x) }
 
 -- what the answer to the first block makes of the reply
 abbrev opens : Entry → Reply Walked → Reply Walked
@@ -61,16 +58,16 @@ starts n w = go (outOfRange 1 longestWalk (length w)) refl (ltb (getD w 0 0) n) 
 -- ---- the tables
 
 module _ (t : Routine) (w : List ℕ) (s : Structured) (checked : StructureChecked t s) where
-  pub reply-structure : (f : StructureFault) → s .answer ≡ Broken f → WalkAnswered t w (meaning (Structure f))
+  pub reply-structure : (f : StructureFault) → s .answer ≡ Broken f → WalkChecked t w (meaning (Structure f))
   unfolding walkReply
-  reply-structure f e = answered t w (refusal f) (refusal-stands t s checked f e (lengthRule w ∷ []) (walkBlocks t w (accepted (walked t w))))
+  reply-structure f e = walk-checked t w (refusal f) (refusal-stands t s checked f e (lengthRule w ∷ []) (walkBlocks t w (accepted (walked t w))))
 
   module _ (sound : s .answer ≡ Sound) where
     rules : AllHold (structureRules t)
     rules = sound-holds t s checked sound
 
     pub keeps : Walkable t (s .around)
-    keeps = walkable t (s .around) rules (checked .sets sound)
+    keeps = walkable t (s .around) rules (sound-sets t s checked sound)
 
     -- ---- the length and the first block
 
@@ -102,14 +99,14 @@ module _ (t : Routine) (w : List ℕ) (s : Structured) (checked : StructureCheck
       replies : (b : Entry) → a ≡ b → opens b rest ≡ walkReply t w
       replies b e = sym (opened ∙ ap (λ (x : Entry). opens x rest) (sym found ∙ e))
 
-      pub reply-length : a ≡ entry.Length → WalkAnswered t w (meaning Length)
-      reply-length e = answered t w (meaning Length) (replies entry.Length e)
+      pub reply-length : a ≡ entry.Length → WalkChecked t w (meaning Length)
+      reply-length e = walk-checked t w (meaning Length) (replies entry.Length e)
 
-      pub reply-no-block : a ≡ entry.NoBlock → WalkAnswered t w (meaning (NoBlock 0))
-      reply-no-block e = answered t w (meaning (NoBlock 0)) (replies entry.NoBlock e)
+      pub reply-no-block : a ≡ entry.NoBlock → WalkChecked t w (meaning (NoBlock 0))
+      reply-no-block e = walk-checked t w (meaning (NoBlock 0)) (replies entry.NoBlock e)
 
-      pub reply-not-entry : a ≡ entry.NotEntry → WalkAnswered t w (meaning NotEntry)
-      reply-not-entry e = answered t w (meaning NotEntry) (replies entry.NotEntry e)
+      pub reply-not-entry : a ≡ entry.NotEntry → WalkChecked t w (meaning NotEntry)
+      reply-not-entry e = walk-checked t w (meaning NotEntry) (replies entry.NotEntry e)
 
-      pub reply-follow : a ≡ entry.Entered → (r : WalkReply) → meaning r ≡ rest → WalkAnswered t w (meaning r)
-      reply-follow e r q = answered t w (meaning r) (q ∙ replies entry.Entered e)
+      pub reply-follow : a ≡ entry.Entered → (r : WalkReply) → meaning r ≡ rest → WalkChecked t w (meaning r)
+      reply-follow e r q = walk-checked t w (meaning r) (q ∙ replies entry.Entered e)

@@ -24,10 +24,10 @@ use Rattle.loopsets.specs.declared.LoopSet.{LoopSet}
 use Rattle.walk.specs.declared.Run.{Run}
 use Rattle.walk.specs.declared.Answer.{Answer}
 use Rattle.walk.specs.declared.Answer.the-variants.{Moved, NoBlock, AfterExit, NoEdge, OverLimit}
-use Rattle.walk.specs.Step.{Outcome, refusing, stepped, edgeAnswer, Walkable, Standing, stateOf}
+use Rattle.walk.specs.Step.{Outcome, unmoved, stepped, edgeAnswer, Walkable, Standing, stateOf}
 use Rattle.counts.specs.Counts.{countWords, countIn, headerVisits, countAfter}
 use Rattle.walk.proofs.Answer.{the-type}
-use Rattle.walk.proofs.Facts.{nesting, not-entry}
+use Rattle.walk.proofs.Facts.{nesting, not-entry, member-inside}
 use Rattle.counts.proofs.Counts.{first-counts, past-loops}
 
 -- ---- the edge
@@ -68,10 +68,7 @@ module _ (t : Routine) (sets : List ℕ) (S : Walkable t sets) (u v : ℕ) (bloc
   module _ (here next left : LoopSet) (p : here ≡ setAt sets (loopOf t u)) (q : next ≡ setAt sets (loopOf t v))
       (left-is : (k : ℕ) → k < mostLoops → member left k ≡ (member here k && not (member next k))) where
     left-leaves : (l : ℕ) → l < mostLoops → member left l ≡ leaves t u v l
-    unfolding inside
-    left-leaves l h =
-        left-is l h
-        ∙ rw (p, q, S .sets-around .each (loopOf t u) l (nesting t sets S .innermost u block), S .sets-around .each (loopOf t v) l (nesting t sets S .innermost v (nesting t sets S .target u v block there)))
+    left-leaves l h = left-is l h ∙ rw (p, q, member-inside t sets S u l block h, member-inside t sets S v l (nesting t sets S .target u v block there) h)
 
     -- the loop that the step ends in is not left
     own-next : (c k : ℕ) → k ≡ headerVisits c (eqb (header t (loopOf t v)) v) (inside t u (loopOf t v)) → loopOf t v < mostLoops
@@ -134,8 +131,10 @@ module _ (t : Routine) (sets : List ℕ) (S : Walkable t sets) (s : State) (v : 
   -- the visits as the code finds them: by the set of the present block's loop
   pub visits-found : (here : LoopSet) (b : Bool) (k : ℕ) → here ≡ setAt sets (loopOf t (s .block)) → b ≡ member here (loopOf t v)
       → k ≡ headerVisits (s .count (loopOf t v)) (eqb (header t (loopOf t v)) v) b → k ≡ visitsTo t s v
-  unfolding inside
-  visits-found here b k p q e = e ∙ rw (q, p, S .sets-around .each (loopOf t (s .block)) (loopOf t v) (nesting t sets S .innermost (s .block) block))
+  visits-found here b k p q e = e ∙ rw (q, p, member-inside t sets S (s .block) (loopOf t v) block (omega (arith, into, S .ranged .sized .few-loops)))
+    where
+      into : loopOf t v < loopCount t
+      into = nesting t sets S .innermost v (nesting t sets S .target (s .block) v block there)
 
 -- ---- the five answers
 
@@ -171,16 +170,16 @@ module _ (t : Routine) (few : blockCount t ≤ mostBlocks) (s : State) (c v : �
       go true p true q d r e = absurd (let z : _≡_ {A = ℕ} 0 1 = cc in omega arith)
       go true p false q false r e = absurd (let z : _≡_ {A = ℕ} 0 1 = cc in omega arith)
 
-  pub step-refused : (a : Answer) → a ≡ edgeAnswer (blockCount t) (first t (s .block)) (second t (s .block)) (s .block) v → Refuses (tagOf the-type a) → refusing s c a ≡ stepped t s c v
+  pub step-refused : (a : Answer) → a ≡ edgeAnswer (blockCount t) (first t (s .block)) (second t (s .block)) (s .block) v → Refuses (tagOf the-type a) → unmoved s c a ≡ stepped t s c v
   unfolding edgeAnswer stepped
   step-refused a e f = go (ltb v (blockCount t)) refl (eqb (s .block) (exit t)) (eqb (first t (s .block)) v || eqb (second t (s .block)) v) refl e
     where
       further : Outcome
-      further = if passesLimit t (next t s v) then refusing s c OverLimit else record { state = next t s v; spent = c + cost t v; answer = Moved }
+      further = if passesLimit t (next t s v) then unmoved s c OverLimit else record { state = next t s v; spent = c + cost t v; answer = Moved }
 
       go : (x : Bool) → ltb v (blockCount t) ≡ x → (b d : Bool) → (eqb (first t (s .block)) v || eqb (second t (s .block)) v) ≡ d
           → a ≡ (if not x then NoBlock else if b then AfterExit else if not d then NoEdge else Moved)
-          → refusing s c a ≡ (if not x then refusing s c NoBlock else if b then refusing s c AfterExit else if not (edge t (s .block) v) then refusing s c NoEdge else further)
+          → unmoved s c a ≡ (if not x then unmoved s c NoBlock else if b then unmoved s c AfterExit else if not (edge t (s .block) v) then unmoved s c NoEdge else further)
       go false p b d r e = rw e
       go true p true d r e = rw e
       go true p false false r e = rw (e, edge-is t (s .block) v (omega (arith, ltb-true v (blockCount t) p)), r)
@@ -216,7 +215,7 @@ in-step t sets S r v stands E = record {
 }
 
 module _ (t : Routine) (s : State) (c v : ℕ) (E : OnEdge t (s .block) v) where
-  pub step-over-limit : passesLimit t (next t s v) ≡ true → refusing s c OverLimit ≡ stepped t s c v
+  pub step-over-limit : passesLimit t (next t s v) ≡ true → unmoved s c OverLimit ≡ stepped t s c v
   unfolding stepped
   step-over-limit e = rw (lt-ltb v (blockCount t) (E .block), ne-eqb (s .block) (exit t) (E .on), E .there, e)
 

@@ -22,7 +22,7 @@ use Rattle.walk.specs.declared.Answer.the-variants.{Moved, NoBlock, Afte
 use Rattle.walk.specs.declared.Stepped.{Stepped}
 use Rattle.walk.specs.declared.WalkReply.{WalkReply}
 use Rattle.walk.specs.declared.WalkReply.the-variants.{Accepted, Unfinished}
-use Rattle.walk.specs.Step.{stateOf, Outcome, outcome, refusing, stepped, Walkable, Standing}
+use Rattle.walk.specs.Step.{stateOf, Outcome, outcome, unmoved, stepped, Walkable, Standing}
 use Rattle.walk.specs.Reply.{meaning, endOf}
 use Rattle.walk.proofs.Facts.{nesting}
 
@@ -50,7 +50,7 @@ step-decides t s c v i w passed = go (not (ltb v (blockCount t))) (eqb (s .block
 
     go : (a b d e : Bool)
         → (if a then refused 302 i else if b then refused 311 i else if d then refused 312 i else if e then refused 313 i else rest)
-        ≡ decided ((if a then refusing s c NoBlock else if b then refusing s c AfterExit else if d then refusing s c NoEdge else if e then refusing s c OverLimit else going t s c v) .answer) i rest
+        ≡ decided ((if a then unmoved s c NoBlock else if b then unmoved s c AfterExit else if d then unmoved s c NoEdge else if e then unmoved s c OverLimit else going t s c v) .answer) i rest
     go true b d e = refl
     go false true d e = refl
     go false false true e = refl
@@ -70,9 +70,9 @@ moves t s c v e =
     record { block = m .0; within = m .1; on = m .2 }
   where
     go : (a : Bool) → ltb v (blockCount t) ≡ a → (b d f : Bool) → passesLimit t (next t s v) ≡ f
-        → (if not a then refusing s c NoBlock else if b then refusing s c AfterExit else if not d then refusing s c NoEdge else if f then refusing s c OverLimit else going t s c v) .answer ≡ Moved
+        → (if not a then unmoved s c NoBlock else if b then unmoved s c AfterExit else if not d then unmoved s c NoEdge else if f then unmoved s c OverLimit else going t s c v) .answer ≡ Moved
         → (v < blockCount t) × (passesLimit t (next t s v) ≡ false)
-        × ((if not a then refusing s c NoBlock else if b then refusing s c AfterExit else if not d then refusing s c NoEdge else if f then refusing s c OverLimit else going t s c v) ≡ going t s c v)
+        × ((if not a then unmoved s c NoBlock else if b then unmoved s c AfterExit else if not d then unmoved s c NoEdge else if f then unmoved s c OverLimit else going t s c v) ≡ going t s c v)
     go true isBlock false true false within e = (ltb-true v (blockCount t) isBlock, within, refl)
     go false p b d f x e = absurd (let z : _≡_ {A = ℕ} 0 1 = cc in omega arith)
     go true p true d f x e = absurd (let z : _≡_ {A = ℕ} 0 1 = cc in omega arith)

@@ -12,7 +12,7 @@ use Rattle.wcet.specs.Rules.{structureRules}
 use Rattle.wcet.specs.Run.{State, next, passesLimit}
 use Rattle.wcet.specs.Claim.{AllHold}
 use Rattle.nesting.specs.Columns.{routine, Ranged}
-use Rattle.loopsets.specs.Sets.{SetsAround}
+use Rattle.loopsets.specs.Sets.{setsAround}
 use Rattle.counts.specs.Counts.{countIn}
 use Rattle.walk.specs.declared.Run.{Run}
 use Rattle.walk.specs.declared.Answer.{Answer}
@@ -33,17 +33,17 @@ abbrev pub outcome : Stepped → Outcome
 outcome s = record { state = stateOf (s .run); spent = s .run .cost; answer = s .answer }
 
 -- a refused step leaves the state as it was
-abbrev pub refusing : State → ℕ → Answer → Outcome
-refusing s c a = record { state = s; spent = c; answer = a }
+abbrev pub unmoved : State → ℕ → Answer → Outcome
+unmoved s c a = record { state = s; spent = c; answer = a }
 
 -- What block v makes of the state s, the run's cost being c: "at one index 302, 303, 311, 312, 313" (303 is asked of the first block only,
 -- which is no step).
 unfoldable pub stepped : Routine → State → ℕ → ℕ → Outcome
 stepped t s c v =
-    if not (ltb v (blockCount t)) then refusing s c NoBlock else
-    if eqb (s .block) (exit t) then refusing s c AfterExit else
-    if not (edge t (s .block) v) then refusing s c NoEdge else
-    if passesLimit t (next t s v) then refusing s c OverLimit else
+    if not (ltb v (blockCount t)) then unmoved s c NoBlock else
+    if eqb (s .block) (exit t) then unmoved s c AfterExit else
+    if not (edge t (s .block) v) then unmoved s c NoEdge else
+    if passesLimit t (next t s v) then unmoved s c OverLimit else
     record { state = next t s v; spent = c + cost t v; answer = Moved }
 
 -- ---- what a step is asked to do in turn
@@ -62,7 +62,7 @@ edgeAnswer n first second u v =
 pub record Walkable (t : Routine) (sets : List ℕ) : Type 0 where
   pub rules : AllHold (structureRules t)
   pub ranged : Ranged t
-  pub sets-around : SetsAround (t .parents) sets
+  pub sets-around : sets ≡ setsAround (t .parents)
 
 -- the run stands at a block, within the limits, and has room for the cost of the longest walk
 pub record Standing (t : Routine) (r : Run) : Type 0 where
@@ -78,8 +78,8 @@ pub record Unread : Type 0 where
   pub multipliers : List ℕ
 
 -- the routine of the columns that a walk reads, whatever the others are
-abbrev pub reading : (costs loops firsts seconds headers limits : List ℕ) → Unread → Routine
-reading costs loops firsts seconds headers limits x = routine costs loops firsts seconds (x .figures) (x .parents) headers limits (x .multipliers)
+abbrev pub walkColumns : (costs loops firsts seconds headers limits : List ℕ) → Unread → Routine
+walkColumns costs loops firsts seconds headers limits x = routine costs loops firsts seconds (x .figures) (x .parents) headers limits (x .multipliers)
 
 -- what a step requires: some such columns there are
 pub record Stands (t : Unread → Routine) (sets : List ℕ) (r : Run) : Type 0 where

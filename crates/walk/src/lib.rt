@@ -6,9 +6,10 @@ ghost use Prim.Native.Nat.{_<_};
 ghost use lib.Dec.{eqb};
 ghost use lib.ListN.{length, getD};
 ghost use Rattle.wcet.specs.Run.{start};
+ghost use Rattle.wcet.specs.Claim.{WalkChecked};
 ghost use Rattle.nesting.specs.Columns.{routine};
-ghost use Rattle.walk.specs.Step.{stateOf, edgeAnswer, reading, Stands, Steps};
-ghost use Rattle.walk.specs.Reply.{meaning, endOf, entryAnswer, Enters, Follows, WalkAnswered};
+ghost use Rattle.walk.specs.Step.{stateOf, edgeAnswer, walkColumns, Stands, Steps};
+ghost use Rattle.walk.specs.Reply.{meaning, endOf, entryAnswer, Enters, Follows};
 use counts::COUNT_WORDS;
 use counts::Counts;
 use limits::LONGEST_WALK;
@@ -126,8 +127,8 @@ impl Run {
         around: &Sets,
         v: u16,
     ) -> Stepped
-        requires { ⌜ Stands (reading (now cost) (now loops) (now first) (now second) (now header) (now limit)) (now around) self ⌝ }
-        ensures { λ r. ⌜ Steps (reading (now (cost .entry)) (now (loops .entry)) (now (first .entry)) (now (second .entry)) (now (header .entry)) (now (limit .entry))) (now (around .entry)) self v r ⌝ }
+        requires { ⌜ Stands (walkColumns (now cost) (now loops) (now first) (now second) (now header) (now limit)) (now around) self ⌝ }
+        ensures { λ r. ⌜ Steps (walkColumns (now (cost .entry)) (now (loops .entry)) (now (first .entry)) (now (second .entry)) (now (header .entry)) (now (limit .entry))) (now (around .entry)) self v r ⌝ }
     {
         let from = self.at as usize;
         let to = v as usize;
@@ -181,8 +182,8 @@ fn follow(
     around: &Sets,
     blocks: &[u16],
 ) -> WalkReply
-    requires { ⌜ Enters (reading (now cost) (now loops) (now first) (now second) (now header) (now limit)) (now around) (now blocks) ⌝ }
-    ensures { λ r. ⌜ Follows (reading (now (cost .entry)) (now (loops .entry)) (now (first .entry)) (now (second .entry)) (now (header .entry)) (now (limit .entry))) (now (around .entry)) (now (blocks .entry)) (meaning r) ⌝ }
+    requires { ⌜ Enters (walkColumns (now cost) (now loops) (now first) (now second) (now header) (now limit)) (now around) (now blocks) ⌝ }
+    ensures { λ r. ⌜ Follows (walkColumns (now (cost .entry)) (now (loops .entry)) (now (first .entry)) (now (second .entry)) (now (header .entry)) (now (limit .entry))) (now (around .entry)) (now (blocks .entry)) (meaning r) ⌝ }
 {
     let run = Run::start(cost[0]);
     let answer = Answer::Moved;
@@ -218,7 +219,7 @@ pub fn walk(
     multiplier: &[u64],
     blocks: &[u16],
 ) -> WalkReply
-    ensures { λ r. ⌜ WalkAnswered (routine (now (cost .entry)) (now (loops .entry)) (now (first .entry)) (now (second .entry)) (now (figure .entry)) (now (parent .entry)) (now (header .entry)) (now (limit .entry)) (now (multiplier .entry))) (now (blocks .entry)) (meaning r) ⌝ }
+    ensures { λ r. ⌜ WalkChecked (routine (now (cost .entry)) (now (loops .entry)) (now (first .entry)) (now (second .entry)) (now (figure .entry)) (now (parent .entry)) (now (header .entry)) (now (limit .entry)) (now (multiplier .entry))) (now (blocks .entry)) (meaning r) ⌝ }
 {
     let checked = nesting::check_structure(
         cost,

@@ -64,25 +64,25 @@ pub record Case : Type 0 where
   pub asked : Question
   pub reply : Answer
 
-abbrev pub says : Question → Answer → Case
-says q a = record { asked = q; reply = a }
+abbrev pub marked : Question → Answer → Case
+marked q a = record { asked = q; reply = a }
 
 unfoldable pub markedCases : List Case
 markedCases =
-    says (table A) (toTable (accepted (pos 30)))
-    ∷ says (table (routineA missing (pos 27) 1 4 8)) (toTable (refused 208 0))
-    ∷ says (table (routineA missing (pos 28) 1 4 7)) (toTable (refused 208 2))
-    ∷ says (table (routineA missing (pos 28) 1 65535 8)) (toTable (refused 208 0))
-    ∷ says (table (routineA missing (pos 28) 1 0 8)) (toTable (refused 202 1))
-    ∷ says (table (routineA missing (pos 28) 1 65536 8)) (toTable (refused 202 1))
-    ∷ says (table (routineA missing (pos 28) 0 4 8)) (toTable (refused 208 2))
-    ∷ says (table (routineA 2 (pos 28) 1 4 8)) (toTable (refused 207 0))
-    ∷ says (walk A (0 ∷ 1 ∷ 2 ∷ 1 ∷ 2 ∷ 1 ∷ 2 ∷ 1 ∷ 3 ∷ [])) (toWalk (accepted (record { total = 30; steps = 8 })))
-    ∷ says (walk A (0 ∷ 1 ∷ 2 ∷ 1 ∷ 2 ∷ 1 ∷ 2 ∷ 1 ∷ 2 ∷ 1 ∷ [])) (toWalk (refused 313 9))
-    ∷ says (walk A (0 ∷ 1 ∷ [])) (toWalk (refused 314 2))
-    ∷ says (table noEdges) (toTable (accepted (negℤ (pos 3))))
-    ∷ says (table (cycle (1 ∷ 1 ∷ 1 ∷ 1 ∷ []) (pos 3 ∷ pos 2 ∷ pos 1 ∷ pos 0 ∷ []))) (toTable (refused 208 2))
-    ∷ says (table (cycle (1 ∷ 0 ∷ 0 ∷ 1 ∷ []) (pos 1 ∷ pos 1 ∷ pos 1 ∷ pos 0 ∷ []))) (toTable (accepted (pos 2)))
+    marked (table A) (toTable (accepted (pos 30)))
+    ∷ marked (table (routineA missing (pos 27) 1 4 8)) (toTable (refused 208 0))
+    ∷ marked (table (routineA missing (pos 28) 1 4 7)) (toTable (refused 208 2))
+    ∷ marked (table (routineA missing (pos 28) 1 65535 8)) (toTable (refused 208 0))
+    ∷ marked (table (routineA missing (pos 28) 1 0 8)) (toTable (refused 202 1))
+    ∷ marked (table (routineA missing (pos 28) 1 65536 8)) (toTable (refused 202 1))
+    ∷ marked (table (routineA missing (pos 28) 0 4 8)) (toTable (refused 208 2))
+    ∷ marked (table (routineA 2 (pos 28) 1 4 8)) (toTable (refused 207 0))
+    ∷ marked (walk A (0 ∷ 1 ∷ 2 ∷ 1 ∷ 2 ∷ 1 ∷ 2 ∷ 1 ∷ 3 ∷ [])) (toWalk (accepted (record { total = 30; steps = 8 })))
+    ∷ marked (walk A (0 ∷ 1 ∷ 2 ∷ 1 ∷ 2 ∷ 1 ∷ 2 ∷ 1 ∷ 2 ∷ 1 ∷ [])) (toWalk (refused 313 9))
+    ∷ marked (walk A (0 ∷ 1 ∷ [])) (toWalk (refused 314 2))
+    ∷ marked (table noEdges) (toTable (accepted (negℤ (pos 3))))
+    ∷ marked (table (cycle (1 ∷ 1 ∷ 1 ∷ 1 ∷ []) (pos 3 ∷ pos 2 ∷ pos 1 ∷ pos 0 ∷ []))) (toTable (refused 208 2))
+    ∷ marked (table (cycle (1 ∷ 0 ∷ 0 ∷ 1 ∷ []) (pos 1 ∷ pos 1 ∷ pos 1 ∷ pos 0 ∷ []))) (toTable (accepted (pos 2)))
     ∷ []
 
 -- the one claim: the definitions give each marked case the reply that document 01 gives it

@@ -67,10 +67,15 @@ pub record FinishedRun (t : Routine) (w : List ℕ) : Type 0 where
   pub counted : countedRun t w ≡ true
   pub at-exit : getD w (length w - 1) 0 ≡ exit t
 
--- Demand 2: "A walk within the length limit, over tables that keep those ranges and rules, is accepted exactly when it is a finished
--- counted run, with its true cost", and its length less one for the step count
-abbrev pub WalksExactly : Routine → Type 0
-WalksExactly t = AllHold (structureRules t) → (w : List ℕ) → length w ≤ longestWalk → (r : Walked) → (walkReply t w ≡ accepted r) ↔ (FinishedRun t w × (walked t w ≡ r))
+-- Demand 2, of the reply r to the walk w over t: "A walk within the length limit, over tables that keep those ranges and rules, is accepted
+-- exactly when it is a finished counted run, with its true cost", and its length less one for the step count
+abbrev pub AcceptsExactly : Routine → List ℕ → Reply Walked → Type 0
+AcceptsExactly t w r = AllHold (structureRules t) → length w ≤ longestWalk → (x : Walked) → (r ≡ accepted x) ↔ (FinishedRun t w × (walked t w ≡ x))
+
+-- what the checker of a walk ensures of its reply
+pub record WalkChecked (t : Routine) (w : List ℕ) (r : Reply Walked) : Type 0 where
+  pub replied : r ≡ walkReply t w
+  pub accepts : AcceptsExactly t w r
 
 -- "It may be negative; then no finished counted run exists."
 abbrev pub NegativeBound : Routine → Type 0

@@ -1,4 +1,4 @@
-use Rattle.walk.specs.Step.{Walkable, Unread, reading}
+use Rattle.walk.specs.Step.{Walkable, Unread, walkColumns}
 use Rattle.walk.specs.declared.Entry.the-variants.{Entered}
 use Rattle.wcet.specs.Table.{Routine}
 use lib.ListN.{length}
@@ -15,7 +15,7 @@ abbrev unread : tie.Start → Unread
 unread s = record { figures = s .args .figure .now; parents = s .args .parent .now; multipliers = s .args .multiplier .now }
 
 abbrev table : tie.Start → Routine
-table s = let a = s .args in reading (a .cost .now) (a .loops .now) (a .first .now) (a .second .now) (a .header .now) (a .limit .now) (unread s)
+table s = let a = s .args in walkColumns (a .cost .now) (a .loops .now) (a .first .now) (a .second .now) (a .header .now) (a .limit .now) (unread s)
 
 entered : (c : tie.After-enum-told2) → c .before .before .first-block .result ≡ Entered
 entered c = search needs
