@@ -163,7 +163,7 @@ unfolding walkReply
 walk-finished t w x e =
     let h = all-append (structureRules t) (lengthRule w ∷ []) (passes (structureRules t ++ lengthRule w ∷ []) _ x e .0) in
     let few : length w ≤ longestWalk = length-kept w (h .1) in
-    let q : FinishedRun t w × (walked t w ≡ x) = walks-exactly t (h .0) w few x .0 e in
+    let q : FinishedRun t w × (walked t w ≡ x) = walks-exactly t w (h .0) few x .0 e in
     let total : runCost t w ≡ x .total = ap (λ (y : Walked). y .total) (q .1) in
     record { run = q .0; same = sym (q .1); most = omega (arith, run-most t (headed t (h .0) .ranged) w) }
 
