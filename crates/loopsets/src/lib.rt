@@ -78,7 +78,8 @@ pub fn set_at(sets: &Sets, l: usize) -> LoopSet
     requires { ⌜ l < mostLoops ⌝ }
     ensures { λ r. ⌜ r ≡ setAt (now (sets .entry)) l ⌝ }
 {
-    LoopSet { word: sets[l] }
+    let word = sets[l];
+    LoopSet { word }
 }
 
 // The loops around each loop of the parent column: loop 0 around itself, and around any other loop itself and the loops around its parent.
