@@ -157,8 +157,10 @@ fn bound_at_exit(cost: &[u32], figure: &[i64]) -> i64
     requires { ⌜ Priced (priceColumns (now cost) (now figure)) ⌝ }
     ensures { λ r. ⌜ r ≡ bound (priceColumns (now (cost .entry)) (now (figure .entry))) ⌝ }
 {
-    let exit = cost.len() - 1;
-    bound_of(cost[0], figure[0], figure[exit])
+    let last = cost.len() - 1;
+    let entry = figure[0];
+    let exit = figure[last];
+    bound_of(cost[0], entry, exit)
 }
 
 // 208 and the bound, of tables that keep 201 to 207.
