@@ -7,7 +7,7 @@ use lib.IntN.{ℤ}
 use Rattle.wcet.specs.Table.{Routine}
 use Rattle.wcet.specs.Rules.{Reply, accepted, refusedAt, check, inequalityRule, structureRules, tableRules, bound, tableReply}
 use Rattle.wcet.specs.Claim.{AllHold, Checked}
-use Rattle.wcet.proofs.Replies.{behind-all}
+use Rattle.wcet.proofs.Replies.{past-all}
 use Rattle.wcet.proofs.Bound.{checked}
 use Rattle.loopsets.specs.Sets.{setsAround}
 use Rattle.nesting.specs.Answers.{StructureChecked}
@@ -34,4 +34,4 @@ module _ (t : Routine) where
       checked t x
       (e
       ∙ ap (λ (o : Option ℕ). refusedAt 208 o (accepted (bound t))) (broken-places t (headed t h .ranged) sets S)
-      ∙ sym (behind-all (structureRules t) (inequalityRule t ∷ []) (accepted (bound t)) h))
+      ∙ sym (past-all (structureRules t) (inequalityRule t ∷ []) (accepted (bound t)) h))

@@ -1,4 +1,4 @@
--- The columns that 208 and the bound are about, and 208 as it is read off the loop sets: for functions that are no public entry.
+-- The columns that 208 and the bound read, and 208 as it is read off the loop sets: for functions that are no public entry.
 use Prim.Native.Nat.{ℕ, _^_, _≤_, _<_}
 use mathlib.Core.Path.{_≡_}
 use mathlib.Core.Bool.{Bool, not}
@@ -12,14 +12,14 @@ use Rattle.loopsets.specs.Sets.{member, setAt}
 use Rattle.nesting.specs.Columns.{routine, edgeColumns, Innermost}
 use Rattle.certificate.specs.Figures.{Figure}
 
--- what the inequality of an edge is read off, beside the sets; and the bound
+-- the columns that the inequality of an edge reads beside the sets, and those that the bound reads
 abbrev pub weightColumns : (costs loops : List ℕ) (figures : List ℤ) (headers limits multipliers : List ℕ) → Routine
 weightColumns costs loops figures headers limits multipliers = routine costs loops [] [] figures [] headers limits multipliers
 
 abbrev pub priceColumns : (costs : List ℕ) (figures : List ℤ) → Routine
 priceColumns costs figures = routine costs [] [] [] figures [] [] [] []
 
--- what 201 to 203 leave of them
+-- what 201 to 203 ensure of them
 pub record Weighed (t : Routine) : Type 0 where
   pub few-blocks : blockCount t ≤ mostBlocks
   pub loops : length (t .loops) ≡ blockCount t

@@ -226,5 +226,15 @@ pub fn check(
         return TableReply::Structure(fault);
     }
     let around = checked.around;
-    certify(&around, cost, loops, first, second, figure, header, limit, multiplier)
+    certify(
+        &around,
+        cost,
+        loops,
+        first,
+        second,
+        figure,
+        header,
+        limit,
+        multiplier,
+    )
 }

@@ -1,4 +1,5 @@
-// The visits to each loop's header in the present stay of a run, four counts of 16 bits to a word: read, and changed by a step.
+// The visits to each loop's header in the present stay of a run, four counts of 16 bits to a word: how they are read, and how a step changes
+// them.
 ghost use mathlib.Core.Path.{_≡_};
 ghost use mathlib.Core.Bool.{not, _&&_, _||_};
 ghost use Prim.Native.Nat.{ℕ, _<_, _≤_};
@@ -14,11 +15,11 @@ use loopsets::LoopSet;
 // The words that the counts take, four counts each.
 pub const COUNT_WORDS: usize = MOST_LOOPS / 4;
 
-// Loops 0 to 3 in the first, the lowest loop in the lowest bits.
+// Loops 0 to 3 are in the first word, the lowest loop in the lowest bits.
 pub type Counts = [u64; COUNT_WORDS];
 
-// Word k of the counts. Here and in `put_word` a loop over all the words, which the compiler unrolls, takes the place of `counts[k]`: so
-// it keeps each word by itself, and a state that is handed on by value is not copied.
+// Word k of the counts. Here and in `put_word` a loop over all the words takes the place of `counts[k]`. The compiler unrolls it and keeps
+// each word by itself, so a state that is handed on by value is not copied.
 fn word_at(counts: &Counts, k: usize) -> u64
     requires { ⌜ k < countWords ⌝ }
     ensures { λ r. ⌜ r ≡ getD (now (counts .entry)) k 0 ⌝ }

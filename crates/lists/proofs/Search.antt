@@ -70,15 +70,15 @@ none-found (suc k) p h = rw (none-found k p (λ i l. h i (omega arith)), h k (om
 pub record Lowest (k : ℕ) (p : ℕ → Bool) (i : ℕ) : Type 0 where
   pub below : i < k
   pub passes : p i ≡ true
-  pub first : (j : ℕ) → j < i → p j ≡ false
+  pub lower : (j : ℕ) → j < i → p j ≡ false
 
 pub found : (k : ℕ) (p : ℕ → Bool) (i : ℕ) → Lowest k p i → firstBelow k p ≡ some i
 unfolding firstBelow
 found zero p i h = absurd (omega (arith, h .below))
-found (suc k) p i h = go (ℕ-discrete i k) (λ l. found k p i (record { below = l; passes = h .passes; first = h .first }))
+found (suc k) p i h = go (ℕ-discrete i k) (λ l. found k p i (record { below = l; passes = h .passes; lower = h .lower }))
   where
     go : Dec (i ≡ k) → (i < k → firstBelow k p ≡ some i) → orElse (firstBelow k p) (if p k then some k else none) ≡ some i
-    go (yes q) rest = rw (none-found k p (λ j l. h .first j (omega arith)), ap p (sym q) ∙ h .passes) (ap some (sym q))
+    go (yes q) rest = rw (none-found k p (λ j l. h .lower j (omega arith)), ap p (sym q) ∙ h .passes) (ap some (sym q))
     go (no ne) rest = rw (rest (omega (arith, h .below)))
 
 pub found-lowest : (k : ℕ) (p : ℕ → Bool) (i : ℕ) → firstBelow k p ≡ some i → Lowest k p i
@@ -90,10 +90,10 @@ found-lowest (suc k) p i e = go (firstBelow k p) refl (p k) refl e (found-lowest
         → ((i : ℕ) → firstBelow k p ≡ some i → Lowest k p i) → Lowest (suc k) p i
     go (some j) o b q e rest =
         let r : Lowest k p i = rest i (o ∙ e) in
-        record { below = omega (arith, r .below); passes = r .passes; first = r .first }
+        record { below = omega (arith, r .below); passes = r .passes; lower = r .lower }
     go none o true q e rest =
         let k≡i : k ≡ i = cc in
-        record { below = omega arith; passes = ap p (sym k≡i) ∙ q; first = λ j l. not-found k p o j (omega arith) }
+        record { below = omega arith; passes = ap p (sym k≡i) ∙ q; lower = λ j l. not-found k p o j (omega arith) }
     go none o false q e rest = absurd (let z : _≡_ {A = ℕ} 0 1 = cc in omega arith)
 
 -- two tests that agree below k find the same

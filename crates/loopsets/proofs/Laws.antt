@@ -55,9 +55,9 @@ filled-next parents sets P l low high few F s fits e = record { size = length-se
     own : s .word ≡ word parents l
     own =
         set-is mostLoops (s .word) (around parents (length parents) l) fits (λ k b.
-            e k
-            ∙ ap (λ (x : Bool). eqb l k || x) (ap (λ (x : ℕ). has x k) parent-word ∙ has-set mostLoops (around parents (length parents) p) k b)
-            ∙ sym (around-parent parents (P .root) (P .below) l k (omega arith) high))
+        e k
+        ∙ ap (λ (x : Bool). eqb l k || x) (ap (λ (x : ℕ). has x k) parent-word ∙ has-set mostLoops (around parents (length parents) p) k b)
+        ∙ sym (around-parent parents (P .root) (P .below) l k (omega arith) high))
 
     at : (j : ℕ) → j < mostLoops → Dec (j ≡ l) → getD (set sets l (s .word)) j 0 ≡ (if ltb j (l + 1) then word parents j else 0)
     at j h (yes q) = rw (q, getD-set-same sets l (s .word) 0 (omega (arith, F .size)), lt-ltb l (l + 1) (omega arith)) own

@@ -9,7 +9,6 @@ ghost use lib.ListN.{length};
 ghost use Rattle.limits.specs.Limits.{mostLoops};
 ghost use Rattle.lists.specs.Search.{countBelow};
 ghost use Rattle.loopsets.specs.Sets.{member, setAt, LowestOf, Parents, setsAround};
-
 use limits::MOST_LOOPS;
 
 // A word for the set of each loop.

@@ -1,4 +1,4 @@
--- How the answers of the rules' functions make the reply: a place decides, none hands on. Assumes nothing.
+-- How the answers of the rules' functions make the reply: a place decides it, and none leaves it to the next rule. Assumes nothing.
 use mathlib.Core.Path.{_≡_, refl, sym, _∙_, ap}
 use mathlib.Core.Bool.{Bool, true, false, not, _||_}
 use mathlib.Core.List.{List, [], _∷_, _++_}
@@ -73,7 +73,7 @@ module _ (t : Routine) where
 
 pub sizes-decide : {A : Type 0} (t : Routine) (passed : Reply A) → sizesWrong t ≡ true → refused 201 0 ≡ check (structureRules t) passed
 unfolding structureRules
-sizes-decide t passed e = sym (decides _ _ passed 0 (record { below = omega arith; passes = e; first = λ j h. absurd (omega arith) }))
+sizes-decide t passed e = sym (decides _ _ passed 0 (record { below = omega arith; passes = e; lower = λ j h. absurd (omega arith) }))
 
 pub sizes-clear : {A : Type 0} (t : Routine) (passed : Reply A) → sizesWrong t ≡ false → check (drop 1 (structureRules t)) passed ≡ check (structureRules t) passed
 unfolding structureRules
@@ -85,15 +85,15 @@ pub broken-checked : (rs : List Rule) (parents : List ℕ) (r : Structured) (f :
     → refusal {A = Unit {0}} f ≡ check rs (accepted tt) → RulesChecked rs parents r
 broken-checked rs parents r f e q = record { replied = ap structureReply (e .0) ∙ q; sets = e .1 ∙ sym (ap (λ (a : Structure). setsBeside a parents) (e .0)) }
 
--- what the nesting's columns are refused or accepted with after 201 to 204, the routine is
+-- after 201 to 204, the answer for the nesting's columns is the answer for the routine
 pub nesting-checked : (t : Routine) (r : Structured) → NestingChecked (nestingColumns (t .costs) (t .loops) (t .firsts) (t .seconds) (t .parents) (t .headers)) r
     → check (drop 4 (structureRules t)) (accepted (tt {0})) ≡ check (structureRules t) (accepted tt) → StructureChecked t r
 unfolding structureRules tooDeep entryOrExitEdge pastHeader entersPastHeader someEdge inside
 nesting-checked t r N e = record { replied = N .replied ∙ e; sets = N .sets }
 
--- ---- for who goes on
+-- ---- for the checks that follow
 
--- what the structure check refuses, every list of rules refuses that begins with 201 to 207
+-- what the structure check refuses is refused by every list of rules that begins with 201 to 207
 pub refusal-stands : {A : Type 0} (t : Routine) (r : Structured) → StructureChecked t r → (f : StructureFault) → r .answer ≡ Broken f
     → (qs : List Rule) (passed : Reply A) → refusal f ≡ check (structureRules t ++ qs) passed
 refusal-stands t r C f e qs passed = go f (sym (ap structureReply e) ∙ C .replied)

@@ -1,4 +1,4 @@
--- What each rule leaves to the next: 201 fits the columns, 202 and 203 keep the ranges, 204 places the headers. Assumes nothing.
+-- What each rule ensures for the next: 201 the lengths of the columns, 202 and 203 the ranges, 204 the headers. Assumes nothing.
 use mathlib.Core.Path.{_≡_, refl, sym, _∙_}
 use mathlib.Core.Bool.{Bool, true, false, not, _&&_, _||_}
 use Prim.Native.Nat.{ℕ, zero, suc, _^_, _≤_, _<_}
@@ -51,7 +51,7 @@ module _ (t : Routine) where
         few-loops = m .1;
       }
 
-  -- of it, what the functions of 202 and 203 ask for
+  -- the part of it that the functions of 202 and 203 require
   pub loops-sized : Sized t → LoopsSized (loopColumns (t .costs) (t .parents) (t .headers) (t .limits) (t .multipliers))
   loops-sized S = record { headers = S .headers; limits = S .limits; multipliers = S .multipliers; some-loop = S .some-loop; few-loops = S .few-loops }
 
@@ -153,7 +153,7 @@ module _ (t : Routine) where
           go true e = loop l (ltb-true l (loopCount t) e) .parent-kept .1 z
           go false e = omega (arith, List·getD-eq-default (t .parents) 0 {n = l} (ltb-false l (loopCount t) e))
 
-  -- of it, what the functions of 204 to 208 ask for
+  -- the parts of it that the functions of 204 to 208 require
   pub headers-named : Ranged t → HeadersNamed (t .loops) (t .headers)
   headers-named R = record {
     few = omega (arith, R .sized .headers, R .sized .few-loops);
@@ -186,7 +186,7 @@ module _ (t : Routine) where
     own = H .own;
   }
 
-  -- all of them, for who goes on from tables that keep 201 to 207
+  -- all of them, of tables that keep 201 to 207
   pub headed : AllHold (structureRules t) → Headed t
   unfolding structureRules
   headed h = heads (keeps (fits (h .0 0 (omega arith))) (h .1 .0) (h .1 .1 .0)) (h .1 .1 .1 .0)

@@ -1,5 +1,5 @@
--- The routine of the nine columns that a caller lends, and for functions that are no public entry: the routine of some of its columns,
--- what one rule leaves to the next, and 205 and 207 as they are read off the loop sets.
+-- The routine of the nine columns that a caller lends. For functions that are no public entry: the routine of some of its columns, what each
+-- rule ensures for the next, and 205 and 207 as they are read off the loop sets.
 use Prim.Native.Nat.{ℕ, _^_, _≤_, _<_}
 use mathlib.Core.Path.{_≡_}
 use mathlib.Core.Bool.{Bool, not, _&&_, _||_}
@@ -28,8 +28,8 @@ routine costs loops firsts seconds figures parents headers limits multipliers = 
   multipliers = multipliers;
 }
 
--- The columns that a rule reads, the others left empty: of such a routine the rule says what it says of the whole one. Of the costs 202
--- and 206 read the number of blocks alone, of the parents 203 the number of loops.
+-- The columns that a rule reads; the others are empty. The rule says the same of this routine as of the whole one. 202 and 206 use the costs
+-- only for the number of blocks, and 203 uses the parents only for the number of loops.
 abbrev pub loopColumns : (costs parents headers limits multipliers : List ℕ) → Routine
 loopColumns costs parents headers limits multipliers = routine costs [] [] [] [] parents headers limits multipliers
 
@@ -52,7 +52,7 @@ blockSizesWrong t = outOfRange 2 mostBlocks (blockCount t) || not (blockColumnsE
 abbrev pub loopSizesWrong : Routine → Bool
 loopSizesWrong t = outOfRange 1 mostLoops (loopCount t) || not (loopColumnsEqual t)
 
--- what 201 leaves: columns that fit each other, and counts within their limits
+-- what 201 ensures: columns of equal length, and counts within their limits
 pub record BlocksSized (t : Routine) : Type 0 where
   pub loops : length (t .loops) ≡ blockCount t
   pub firsts : length (t .firsts) ≡ blockCount t
@@ -81,15 +81,15 @@ pub record Sized (t : Routine) : Type 0 where
   pub few-blocks : blockCount t ≤ mostBlocks
   pub few-loops : loopCount t ≤ mostLoops
 
--- a successor that is present, and of which the test p holds
+-- the successor is present and passes the test p
 abbrev pub ofEdge : ℕ → (ℕ → Bool) → Bool
 ofEdge v p = not (eqb v missing) && p v
 
--- a successor that is one of n blocks where it is present
+-- the successor, where it is present, is one of n blocks
 abbrev pub Names : ℕ → ℕ → Type 0
 Names n v = (v ≡ missing → ⊥) → v < n
 
--- what 202 and 203 leave: every value in its range
+-- what 202 and 203 ensure: every value is in its range
 pub record Ranged (t : Routine) : Type 0 where
   pub sized : Sized t
   pub parents : Parents (t .parents)
@@ -104,12 +104,12 @@ pub record Ranged (t : Routine) : Type 0 where
   pub figure-least : (u : ℕ) → u < blockCount t → negℤ (pos (2 ^ 60)) ≤ℤ figure t u
   pub figure-most : (u : ℕ) → u < blockCount t → figure t u ≤ℤ pos (2 ^ 60)
 
--- and what 204 leaves: the header of each loop has that loop for its innermost
+-- and what 204 ensures: the innermost loop of each header is its own
 pub record Headed (t : Routine) : Type 0 where
   pub ranged : Ranged t
   pub own : (l : ℕ) → l < loopCount t → loopOf t (header t l) ≡ l
 
--- of these, for who reads some of the columns: each header is a block
+-- of these, for functions that read only some of the columns: each header is a block
 pub record HeadersNamed (loops headers : List ℕ) : Type 0 where
   pub few : length headers ≤ mostLoops
   pub below : (l : ℕ) → l < length headers → getD headers l 0 < length loops
@@ -127,7 +127,7 @@ pub record Linked (n : ℕ) (firsts seconds : List ℕ) : Type 0 where
   pub first-names : (u : ℕ) → u < n → Names n (getD firsts u 0)
   pub second-names : (u : ℕ) → u < n → Names n (getD seconds u 0)
 
--- what 205 to 207 ask for
+-- what the checks of 205 to 207 require
 pub record Nestable (t : Routine) : Type 0 where
   pub some-block : 0 < blockCount t
   pub some-loop : 0 < loopCount t

@@ -1,5 +1,5 @@
-// Rules 201 to 207: whether two tables have the sizes, the ranges and the loop nesting that everything above leans on. One function for each
-// rule finds the lowest place that breaks it.
+// Rules 201 to 207: whether two tables have the sizes, the ranges and the loop nesting that the later checks rely on. For each rule a function
+// finds the lowest place that breaks it.
 ghost use mathlib.Core.Path.{_≡_};
 ghost use mathlib.Core.Bool.{not, _&&_, _||_};
 ghost use mathlib.Core.List.{[]};
@@ -102,7 +102,7 @@ fn loop_sizes_wrong(parent: &[u16], header: &[u16], limit: &[u32], multiplier: &
 
 // ---- 202
 
-// Whether loop 0 is something else than the whole routine, entered once.
+// Whether a value of loop 0 differs from that of the whole routine, entered once.
 fn root_wrong(parent: u16, header: u16, limit: u32, multiplier: u64) -> bool
     ensures { λ r. ⌜ r ≡ not (eqb parent 0 && eqb header 0 && eqb limit 1 && eqb multiplier 0) ⌝ }
 {

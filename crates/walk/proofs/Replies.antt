@@ -16,7 +16,7 @@ use Rattle.wcet.specs.Rules.{Reply, accepted, refused, check, outOfRange, struc
 use Rattle.wcet.specs.Run.{start}
 use Rattle.wcet.specs.Walk.{Walked, walked, lengthRule, walkFrom, walkBlocks, walkReply}
 use Rattle.wcet.specs.Claim.{AllHold, WalkChecked}
-use Rattle.wcet.proofs.Replies.{decides, hands-on, behind-all, passes}
+use Rattle.wcet.proofs.Replies.{decides, hands-on, past-all, passes}
 use Rattle.wcet.proofs.Walks.{walk-checked}
 use Rattle.nesting.specs.Answers.{refusal, StructureChecked}
 use Rattle.nesting.specs.declared.StructureFault.{StructureFault}
@@ -74,13 +74,13 @@ module _ (t : Routine) (w : List ℕ) (s : Structured) (checked : StructureCheck
     abbrev rest : Reply Walked
     rest = walkFrom t start 1 (drop 1 w) (accepted (walked t w))
 
-    behind : walkReply t w ≡ check (lengthRule w ∷ []) (walkBlocks t w (accepted (walked t w)))
+    tables-pass : walkReply t w ≡ check (lengthRule w ∷ []) (walkBlocks t w (accepted (walked t w)))
     unfolding walkReply
-    behind = behind-all (structureRules t) (lengthRule w ∷ []) (walkBlocks t w (accepted (walked t w))) rules
+    tables-pass = past-all (structureRules t) (lengthRule w ∷ []) (walkBlocks t w (accepted (walked t w))) rules
 
     opened : walkReply t w ≡ opens (entryAnswer (blockCount t) w) rest
     unfolding entryAnswer walkBlocks check
-    opened = behind ∙ go (outOfRange 1 longestWalk (length w)) refl
+    opened = tables-pass ∙ go (outOfRange 1 longestWalk (length w)) refl
       where
         first : (b d : Bool) → (if not b then refused 302 0 else if not d then refused 303 0 else rest) ≡ opens (if not b then entry.NoBlock else if not d then entry.NotEntry else entry.Entered) rest
         first true true = refl
@@ -89,7 +89,7 @@ module _ (t : Routine) (w : List ℕ) (s : Structured) (checked : StructureCheck
 
         go : (a : Bool) → outOfRange 1 longestWalk (length w) ≡ a → check (lengthRule w ∷ []) (walkBlocks t w (accepted (walked t w)))
             ≡ opens (if a then entry.Length else if not (ltb (getD w 0 0) (blockCount t)) then entry.NoBlock else if not (eqb (getD w 0 0) 0) then entry.NotEntry else entry.Entered) rest
-        go true e = decides (lengthRule w) [] (walkBlocks t w (accepted (walked t w))) 0 (record { below = omega arith; passes = e; first = λ j h. absurd (omega arith) })
+        go true e = decides (lengthRule w) [] (walkBlocks t w (accepted (walked t w))) 0 (record { below = omega arith; passes = e; lower = λ j h. absurd (omega arith) })
         go false e =
             hands-on (lengthRule w) [] (walkBlocks t w (accepted (walked t w))) (λ p h. e)
             ∙ ap (λ (x : List ℕ). walkBlocks t x (accepted (walked t w))) (drop-cons w 0 0 (in-length w e .0))

@@ -51,7 +51,7 @@ abbrev pub visitsTo : Routine → State → ℕ → ℕ
 visitsTo t s v = headerVisits (s .count (loopOf t v)) (eqb (header t (loopOf t v)) v) (inside t (s .block) (loopOf t v))
 
 module _ (t : Routine) (sets : List ℕ) (S : Walkable t sets) (u v : ℕ) (block : u < blockCount t) (there : edge t u v ≡ true) where
-  -- another loop is not entered, and its header not visited: a loop by 204, a number that is none by 206
+  -- no other loop has v as its header: for a loop by 204, for a number that is no loop by 206
   other-header : (l : ℕ) → (l ≡ loopOf t v → ⊥) → header t l ≡ v → ⊥
   other-header l ne e = go (ltb l (loopCount t)) refl
     where
@@ -111,7 +111,7 @@ module _ (t : Routine) (sets : List ℕ) (S : Walkable t sets) (u v : ℕ) (bloc
 -- ---- the limit
 
 module _ (t : Routine) (sets : List ℕ) (S : Walkable t sets) (s : State) (v : ℕ) (block : s .block < blockCount t) (there : edge t (s .block) v ≡ true) where
-  -- 313 is asked of the loop that the step ends in alone, and only where its header is visited
+  -- 313 asks only about the loop that the step ends in, and only where its header is visited
   pub limit-next : passesLimit t s ≡ false → passesLimit t (next t s v) ≡ ltb (limit t (loopOf t v)) (visitsTo t s v)
   unfolding next nextCount
   limit-next kept =
@@ -144,7 +144,7 @@ pub record OnEdge (t : Routine) (u v : ℕ) : Type 0 where
   pub on : u ≡ exit t → ⊥
   pub there : edge t u v ≡ true
 
--- the variant of an answer is another than `Moved`, in the code's numbers
+-- the answer's variant, as the code numbers it, is not `Moved`
 abbrev pub Refuses : ℕ → Type 0
 Refuses n = (n ≡ 1) ⊎ ((n ≡ 2) ⊎ ((n ≡ 3) ⊎ (n ≡ 4)))
 

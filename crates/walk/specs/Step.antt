@@ -36,8 +36,8 @@ outcome s = record { state = stateOf (s .run); spent = s .run .cost; answer = s 
 abbrev pub unmoved : State → ℕ → Answer → Outcome
 unmoved s c a = record { state = s; spent = c; answer = a }
 
--- What block v makes of the state s, the run's cost being c: "at one index 302, 303, 311, 312, 313" (303 is asked of the first block only,
--- which is no step).
+-- What block v makes of the state s, where the run's cost is c: "at one index 302, 303, 311, 312, 313" (303 is about the first
+-- block, which is no step).
 unfoldable pub stepped : Routine → State → ℕ → ℕ → Outcome
 stepped t s c v =
     if not (ltb v (blockCount t)) then unmoved s c NoBlock else
@@ -46,7 +46,7 @@ stepped t s c v =
     if passesLimit t (next t s v) then unmoved s c OverLimit else
     record { state = next t s v; spent = c + cost t v; answer = Moved }
 
--- ---- what a step is asked to do in turn
+-- ---- the first tests of a step
 
 -- 302, 311 and 312 of a step from u, with these two successors, to v, in a routine of n blocks
 unfoldable pub edgeAnswer : ℕ → ℕ → ℕ → ℕ → ℕ → Answer
@@ -58,7 +58,7 @@ edgeAnswer n first second u v =
 
 -- ---- what a step may rely on
 
--- the tables keep 201 to 207, with what 201 to 203 say of lengths and ranges by name, and `sets` has the loops around each loop
+-- the tables keep 201 to 207, with the lengths and ranges of 201 to 203 by name, and `sets` has the loops around each loop
 pub record Walkable (t : Routine) (sets : List ℕ) : Type 0 where
   pub rules : AllHold (structureRules t)
   pub ranged : Ranged t
@@ -81,7 +81,7 @@ pub record Unread : Type 0 where
 abbrev pub walkColumns : (costs loops firsts seconds headers limits : List ℕ) → Unread → Routine
 walkColumns costs loops firsts seconds headers limits x = routine costs loops firsts seconds (x .figures) (x .parents) headers limits (x .multipliers)
 
--- what a step requires: some such columns there are
+-- what a step requires: there are such columns
 pub record Stands (t : Unread → Routine) (sets : List ℕ) (r : Run) : Type 0 where
   pub unread : Unread
   pub walkable : Walkable (t unread) sets

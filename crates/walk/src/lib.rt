@@ -1,5 +1,5 @@
 // A walk (a trace of blocks) through a routine: accepted exactly where it is a finished counted run, with its cost. A step is a few word
-// operations: of the counts only those of the loops that are left, and of the loop that is stepped into, are touched.
+// operations: it touches only the counts of the loops that it leaves and of the loop that it ends in.
 ghost use mathlib.Core.Path.{_≡_};
 ghost use mathlib.Core.Bool.{not, _||_};
 ghost use Prim.Native.Nat.{_<_};
@@ -115,7 +115,7 @@ impl Run {
         WalkReply::Accepted { cost, steps }
     }
 
-    // One block more. What it promises holds whatever the columns are that it does not take.
+    // One block more. The contract holds for any columns that it does not take.
     fn step(
         mut self,
         cost: &[u32],

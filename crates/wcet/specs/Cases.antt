@@ -20,7 +20,7 @@ unfoldable pub answer : Question → Answer
 answer (table t) = toTable (tableReply t)
 answer (walk t w) = toWalk (walkReply t w)
 
--- Routine A, at these values of what the cases change: block 0's second successor and figure, block 2's loop, loop 1's limit and multiplier.
+-- Routine A, with the values that the cases change: block 0's second successor and figure, block 2's loop, loop 1's limit and multiplier.
 abbrev pub routineA : (second0 : ℕ) (figure0 : ℤ) (loop2 limit1 multiplier1 : ℕ) → Routine
 routineA second0 figure0 loop2 limit1 multiplier1 = record {
   costs = 2 ∷ 3 ∷ 5 ∷ 1 ∷ [];
@@ -37,7 +37,7 @@ routineA second0 figure0 loop2 limit1 multiplier1 = record {
 abbrev pub A : Routine
 A = routineA missing (pos 28) 1 4 8
 
--- blocks in loop 0 only, which is the one loop
+-- a routine whose only loop is loop 0
 abbrev pub oneLoop : (costs firsts seconds : List ℕ) (figures : List ℤ) → Routine
 oneLoop costs firsts seconds figures = record {
   costs = costs;

@@ -46,8 +46,8 @@ AllHold (r ∷ rs) = Holds r × AllHold rs
 pub record FirstBroken (rs : List Rule) (number place : ℕ) : Type 0 where
   pub before : List Rule
   pub rule : Rule
-  pub behind : List Rule
-  pub order : rs ≡ before ++ rule ∷ behind
+  pub later : List Rule
+  pub order : rs ≡ before ++ rule ∷ later
   pub earlier : AllHold before
   pub named : rule .number ≡ number
   pub there : place < rule .places

@@ -23,7 +23,7 @@ pub record Rule : Type 0 where
   pub places : ℕ
   pub broken : ℕ → Bool
 
--- the reply where a rule of this number is first broken at this place, or at none
+-- refused with this number where a place is given, and else the other reply
 abbrev pub refusedAt : {A : Type 0} → ℕ → Option ℕ → Reply A → Reply A
 refusedAt number (some place) otherwise = refused number place
 refusedAt number none otherwise = otherwise
@@ -118,7 +118,7 @@ edgeHolds t u v = inequality (isHeader t v) (inside t u (loopOf t v)) (cost t v)
 unfoldable pub inequalityBroken : Routine → ℕ → Bool
 inequalityBroken t u = someEdge t u (λ v. not (edgeHolds t u v))
 
--- 201 to 207: what a walk, too, asks of the tables
+-- 201 to 207, which the tables of a walk must keep too
 unfoldable pub structureRules : Routine → List Rule
 structureRules t =
     record { number = 201; places = 1; broken = λ _. sizesWrong t }

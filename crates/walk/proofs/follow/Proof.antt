@@ -51,7 +51,7 @@ module _ (c : tie.After-step Inv-loop μ-loop) (x : Unread) (S : Walkable (table
       let loop = c .before .before .before .before .loop in
       stop-at (table s x) (s .args .around .now) S (s .args .blocks .now) (loop .last .run) (loop .i) before-step (in-walk c) (c .step .result) step-is
 
--- the block that a step answers of
+-- the block that the step is about
 abbrev index : tie.After-step Inv-loop μ-loop → ℕ
 index c = c .before .before .before .before .loop .i
 
@@ -64,7 +64,7 @@ start-requires c κs = tt
 loop-holds : tie.Need-loop-holds Inv-loop μ-loop
 loop-holds c = λ x S.
     let s = c .before .before .before .before .before .before .before .before .before in
-    underway-first (table s x) (s .args .around .now) S (s .args .blocks .now) (c .start .result) (s .pre .some) (s .pre .first) (c .start .ensures .0) (c .start .ensures .1)
+    underway-first (table s x) (s .args .around .now) S (s .args .blocks .now) (c .start .result) (s .pre .some) (s .pre .entry) (c .start .ensures .0) (c .start .ensures .1)
 
 mul-step : tie.Need-mul-step Inv-loop μ-loop
 mul-step c = search needs

@@ -62,8 +62,8 @@ returns-4 c = search reply-not-entry
 follow-requires : tie.Need-follow-requires
 follow-requires c κs =
     let s = c .before .before .before .before .before .before .before .before .before .before .before .before .before .before .before .before .before in
-    let first = starts (length (s .args .cost .now)) (s .args .blocks .now) (sym (c .before .before .before .before .first-block .ensures) ∙ entered (c .before .before)) in
-    record { unread = unread s; walkable = walkable c; some = first .0; short = first .1; first = first .2 }
+    let entered-at = starts (length (s .args .cost .now)) (s .args .blocks .now) (sym (c .before .before .before .before .first-block .ensures) ∙ entered (c .before .before)) in
+    record { unread = unread s; walkable = walkable c; some = entered-at .0; short = entered-at .1; entry = entered-at .2 }
 
 returns-5 : tie.Need-returns-5
 returns-5 c = search (reply-follow, c .follow .ensures (unread (c .before .before .before .before .before .before .before .before .before .before .before .before .before .before .before .before .before .before)) (walkable (c .before)))
