@@ -70,7 +70,7 @@ sized-within {A} t m rs passed n p W rest e = go (sizesWrong t) refl
 
     go : (b : Bool) → sizesWrong t ≡ b → p ≤ m
     go true s =
-        let at-0 : _≡_ {A = Answer A} (refused 201 0) (refused n p) = sym (decides sizes rs passed 0 (record { below = omega arith; passes = s; first = λ j h. absurd (omega arith) })) ∙ e in
+        let at-0 : _≡_ {A = Answer A} (refused 201 0) (refused n p) = sym (decides sizes rs passed 0 (record { below = omega arith; passes = s; lower = λ j h. absurd (omega arith) })) ∙ e in
         let there : 0 ≡ p = cc in
         omega arith
     go false s = within m rs passed n p (W (fits t s)) rest (sym (hands-on sizes rs passed (λ q h. s)) ∙ e)
