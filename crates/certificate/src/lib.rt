@@ -10,13 +10,15 @@ ghost use Rattle.wcet.specs.Rules.{inequality, bound};
 ghost use Rattle.wcet.specs.Claim.{Checked};
 ghost use Rattle.nesting.specs.Columns.{routine, Names, Linked, ofEdge};
 ghost use Rattle.nesting.specs.Answers.{placeOf};
-ghost use Rattle.certificate.specs.Answers.{tableMeaning};
+ghost use Rattle.nesting.specs.declared.Structure.the-variants.{Sound};
+ghost use Rattle.certificate.specs.Answers.{tableMeaning, replyAfter};
 ghost use Rattle.certificate.specs.Figures.{Figure};
 ghost use Rattle.certificate.specs.Columns.{weightColumns, priceColumns, Weighed, Priced, brokenBySets, anyBrokenBySets, certifiedBySets};
 use loopsets::Sets;
 use nesting::Place;
 use nesting::Structure;
 use nesting::StructureFault;
+use nesting::Structured;
 
 // The bound, or the first broken rule: 201 to 207 as the structure check names them, or 208 at its source block.
 pub enum TableReply {
@@ -163,9 +165,9 @@ fn bound_at_exit(cost: &[u32], figure: &[i64]) -> i64
     bound_of(cost[0], entry, exit)
 }
 
-// 208 and the bound, of tables that keep 201 to 207.
+// The reply after the structure check: its refusal, or else 208 and the bound.
 fn certify(
-    around: &Sets,
+    checked: Structured,
     cost: &[u32],
     loops: &[u16],
     first: &[u16],
@@ -175,11 +177,16 @@ fn certify(
     limit: &[u32],
     multiplier: &[u64],
 ) -> TableReply
-    requires { ⌜ Weighed (weightColumns (now cost) (now loops) (now figure) (now header) (now limit) (now multiplier)) × Linked (length (now cost)) (now first) (now second) × Priced (priceColumns (now cost) (now figure)) ⌝ }
-    ensures { λ r. ⌜ tableMeaning r ≡ certifiedBySets (now (around .entry)) (now (first .entry)) (now (second .entry)) (weightColumns (now (cost .entry)) (now (loops .entry)) (now (figure .entry)) (now (header .entry)) (now (limit .entry)) (now (multiplier .entry))) ⌝ }
+    requires { ⌜ (checked .answer ≡ Sound → Weighed (weightColumns (now cost) (now loops) (now figure) (now header) (now limit) (now multiplier)) × Linked (length (now cost)) (now first) (now second) × Priced (priceColumns (now cost) (now figure))) ⌝ }
+    ensures { λ r. ⌜ tableMeaning r ≡ replyAfter (checked .answer) (certifiedBySets (checked .around) (now (first .entry)) (now (second .entry)) (weightColumns (now (cost .entry)) (now (loops .entry)) (now (figure .entry)) (now (header .entry)) (now (limit .entry)) (now (multiplier .entry)))) ⌝ }
 {
+    let answer = checked.answer;
+    if let Structure::Broken(fault) = answer {
+        return TableReply::Structure(fault);
+    }
+    let around = checked.around;
     let place = first_broken_inequality(
-        around,
+        &around,
         cost,
         loops,
         first,
@@ -221,13 +228,8 @@ pub fn check(
         limit,
         multiplier,
     );
-    let answer = checked.answer;
-    if let Structure::Broken(fault) = answer {
-        return TableReply::Structure(fault);
-    }
-    let around = checked.around;
     certify(
-        &around,
+        checked,
         cost,
         loops,
         first,
