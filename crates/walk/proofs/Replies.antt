@@ -82,10 +82,10 @@ module _ (t : Routine) (w : List ℕ) (s : Structured) (checked : StructureCheck
     unfolding entryAnswer walkBlocks check
     opened = tables-pass ∙ go (outOfRange 1 longestWalk (length w)) refl
       where
-        first : (b d : Bool) → (if not b then refused 302 0 else if not d then refused 303 0 else rest) ≡ opens (if not b then entry.NoBlock else if not d then entry.NotEntry else entry.Entered) rest
-        first true true = refl
-        first true false = refl
-        first false d = refl
+        entering : (b d : Bool) → (if not b then refused 302 0 else if not d then refused 303 0 else rest) ≡ opens (if not b then entry.NoBlock else if not d then entry.NotEntry else entry.Entered) rest
+        entering true true = refl
+        entering true false = refl
+        entering false d = refl
 
         go : (a : Bool) → outOfRange 1 longestWalk (length w) ≡ a → check (lengthRule w ∷ []) (walkBlocks t w (accepted (walked t w)))
             ≡ opens (if a then entry.Length else if not (ltb (getD w 0 0) (blockCount t)) then entry.NoBlock else if not (eqb (getD w 0 0) 0) then entry.NotEntry else entry.Entered) rest
@@ -93,7 +93,7 @@ module _ (t : Routine) (w : List ℕ) (s : Structured) (checked : StructureCheck
         go false e =
             hands-on (lengthRule w) [] (walkBlocks t w (accepted (walked t w))) (λ p h. e)
             ∙ ap (λ (x : List ℕ). walkBlocks t x (accepted (walked t w))) (drop-cons w 0 0 (in-length w e .0))
-            ∙ first (ltb (getD w 0 0) (blockCount t)) (eqb (getD w 0 0) 0)
+            ∙ entering (ltb (getD w 0 0) (blockCount t)) (eqb (getD w 0 0) 0)
 
     module _ (a : Entry) (found : a ≡ entryAnswer (blockCount t) w) where
       replies : (b : Entry) → a ≡ b → opens b rest ≡ walkReply t w

@@ -101,13 +101,13 @@ standing U h = record { at-block = U .at-block; within = U .within; room = omega
 module _ (t : Routine) (sets : List ℕ) (S : Walkable t sets) (w : List ℕ) where
   pub underway-first : (r : Run) → 0 < length w → getD w 0 0 ≡ 0 → stateOf r ≡ start → r .cost ≡ cost t 0 → Underway t w r 1
   unfolding start
-  underway-first r some first e c = record {
+  underway-first r some entry e c = record {
     some = omega arith;
     in-walk = some;
     at-block = omega (arith, S .ranged .sized .some-block, ap (λ (s : State). s .block) e);
     within = rw e (start-kept t (nesting t sets S));
     room = omega (arith, S .ranged .cost-most 0 (omega (arith, S .ranged .sized .some-block)));
-    spent = rw (c, ap (cost t) (sym first)) (sym (spent-next t w 0 some));
+    spent = rw (c, ap (cost t) (sym entry)) (sym (spent-next t w 0 some));
     same = rw e;
   }
 

@@ -6,7 +6,6 @@ use native.Mathlib.Omega.{arith}
 use lib.Dec.{eqb, ltb}
 use borrow.Author.Tests.{eqb-true, eqb-false, ltb-true, ltb-false, not-false, ne-eqb}
 use Rattle.limits.specs.Limits.{mostBlocks, mostLoops}
-use Rattle.lists.specs.Search.{anyBelow}
 use Rattle.lists.proofs.Tests.{or-false, and-true}
 use Rattle.lists.proofs.Search.{none-of}
 use Rattle.wcet.specs.Table.{Routine, blockCount, loopCount, exit, missing, cost, loopOf, first, second, parent, header, limit, multiplier, someEdge, edge, inside}
