@@ -150,7 +150,7 @@ fn field_end(text: &[u8], at: usize) -> Found
 }
 
 // The bytes that an ending takes.
-fn width_of(x: Ending) -> usize
+pub fn width_of(x: Ending) -> usize
     ensures { λ r. ⌜ r ≡ width x ⌝ }
 {
     match x {
