@@ -2,7 +2,7 @@
 use mathlib.Core.Path.{_≡_, refl, sym, _∙_, ap}
 use mathlib.Core.List.{List}
 use mathlib.Core.Bool.{Bool}
-use Prim.Native.Nat.{ℕ, _^_, _<_}
+use Prim.Native.Nat.{ℕ, _^_, _<_, min}
 use native.Mathlib.Omega.{arith}
 use mir.Syntax.{w64}
 use mir.Val.{SFits, toZ, ofZ}
@@ -24,12 +24,14 @@ use Rattle.walk.specs.Reply.{meaning}
 use Rattle.walk.specs.declared.WalkReply.{WalkReply}
 use Rattle.walk.specs.declared.WalkReply.the-variants as walk
 use Rattle.tables.specs.Columns.{BlockColumns, LoopColumns, shortestBlock, shortestLoop, BlocksRead, LoopsRead}
-use Rattle.rows.specs.declared.Shape.the-variants.{Blocks, Loops}
+use Rattle.tables.specs.Table.{blockTable, loopTable}
+use Rattle.tables.proofs.Whole.{blocks-short, loops-short}
+use Rattle.limits.specs.Limits.{mostBlocks, mostLoops}
 use Rattle.tables.specs.declared.ReadReply.{ReadReply}
 use Rattle.tables.specs.declared.ReadReply.the-variants.{Rows, Refused}
 use Rattle.rolkeyda.specs.declared.Reply.{Reply}
 use Rattle.rolkeyda.specs.Replies.{acceptance, refusing, ofTables, ofWalk, ofReading, PlaceFits, ValueFits, TablesReplied, WalkReplied}
-use Rattle.rolkeyda.proofs.Ranges.{Small, table-place, walk-place, Finished, walk-finished, layout-small}
+use Rattle.rolkeyda.proofs.Ranges.{Small, table-place, walk-place, Finished, walk-finished, reading-small}
 
 -- ---- 201 to 207
 
@@ -204,8 +206,8 @@ record-fits F n p e = rw e at (F .place)
 pub refused-told : {a : ReadReply} {r : Reply} (n p : ℕ) → a ≡ Refused n p → r ≡ refusing n p → r ≡ ofReading a
 refused-told n p e q = q ∙ ap ofReading (sym e)
 
-pub blocks-fit : (s : List ℕ) (header : Bool) {old new : BlockColumns} {a : ReadReply} → BlocksRead s header old a new → PlaceFits (ofReading a) × ValueFits (ofReading a)
-blocks-fit s header {old} B = let S = layout-small Blocks (shortestBlock old) header s (B .reply) in (S .place, S .value)
+pub blocks-fit : (s : List ℕ) (headerRow : Bool) {old new : BlockColumns} {a : ReadReply} → BlocksRead s headerRow old a new → PlaceFits (ofReading a) × ValueFits (ofReading a)
+blocks-fit s headerRow {old} B = let S = reading-small (blockTable (shortestBlock old) headerRow s) (blocks-short (min (shortestBlock old) mostBlocks) headerRow s) (omega arith) (B .reply) in (S .place, S .value)
 
-pub loops-fit : (s : List ℕ) (header : Bool) {old new : LoopColumns} {a : ReadReply} → LoopsRead s header old a new → PlaceFits (ofReading a) × ValueFits (ofReading a)
-loops-fit s header {old} B = let S = layout-small Loops (shortestLoop old) header s (B .reply) in (S .place, S .value)
+pub loops-fit : (s : List ℕ) (headerRow : Bool) {old new : LoopColumns} {a : ReadReply} → LoopsRead s headerRow old a new → PlaceFits (ofReading a) × ValueFits (ofReading a)
+loops-fit s headerRow {old} B = let S = reading-small (loopTable (shortestLoop old) headerRow s) (loops-short (min (shortestLoop old) mostLoops) headerRow s) (omega arith) (B .reply) in (S .place, S .value)

@@ -16,27 +16,18 @@ use Rattle.integers.proofs.Laws.{ints}
 use Rattle.wcet.specs.Table.{Routine, blockCount, exit, cost, edge}
 use Rattle.wcet.specs.Rules.{Reply as Answer, accepted, refused, Rule, refusedAt, check, sizesWrong, structureRules, tableRules, bound, tableReply}
 use Rattle.wcet.specs.Run.{State, start, next, passesLimit, runCost}
-use Rattle.limits.specs.Limits.{longestWalk}
+use Rattle.limits.specs.Limits.{mostBlocks, longestWalk}
 use Rattle.wcet.specs.Walk.{Walked, walked, lengthRule, walkFrom, walkBlocks, walkReply}
 use Rattle.wcet.specs.Claim.{AllHold, FinishedRun}
 use Rattle.wcet.proofs.Replies.{decides, hands-on, all-append, passes}
 use Rattle.wcet.proofs.Walks.{walks-exactly}
 use Rattle.nesting.specs.Columns.{Sized, Ranged}
 use Rattle.nesting.proofs.Stages.{fits, headed}
-use Rattle.csv.specs.Grammar.{Record, records}
-use Rattle.rows.specs.Row.{mostRows, rowOf}
 use Rattle.tables.specs.Table as table
-use Rattle.rows.specs.Judge.{inTurn, placed, fieldOf, judge}
-use Rattle.tables.specs.Table.{End, all, Reading, layoutOf, stopped, readingAfter, reading, tableOf}
+use Rattle.tables.specs.Table.{End, all, Reading}
 use Rattle.tables.specs.Columns.{replyBy, replyOf}
-use Rattle.rows.specs.declared.Shape.{Shape}
-use Rattle.rows.specs.declared.Shape.the-variants.{Blocks, Loops}
 use Rattle.tables.specs.declared.ReadReply.{ReadReply}
-use Rattle.rows.specs.declared.Row.{Row}
-use Rattle.rows.specs.declared.Row.the-variants.{Block, Loop, Bad}
-use Rattle.rows.specs.declared.Layout.{Layout}
-use Rattle.rows.specs.declared.Verdict.{Verdict}
-use Rattle.rows.specs.declared.Verdict.the-variants.{Taken, Fault}
+use Rattle.tables.proofs.Sizes.{Short}
 use Rattle.rolkeyda.specs.declared.Reply.{Reply}
 use Rattle.rolkeyda.specs.Replies.{ofReading, PlaceFits, ValueFits}
 
@@ -169,91 +160,13 @@ walk-finished t w x e =
 
 -- ---- readings
 
-turn-room : (room k n : ℕ) (v w : Row) → inTurn room k n v ≡ Taken w → k < room
-turn-room room k n v w e = go (eqb n k) (ltb k room) refl e
-  where
-    go : (a b : Bool) → ltb k room ≡ b → cond a (cond b (Taken v) (Fault 106)) (Fault 105) ≡ Taken w → k < room
-    go true true f e = ltb-true k room f
-    go true false f e = absurd (let z : _≡_ {A = ℕ} 0 1 = cc in omega arith)
-    go false b f e = absurd (let z : _≡_ {A = ℕ} 0 1 = cc in omega arith)
-
-placed-room : (room k : ℕ) (v w : Row) → placed room k v ≡ Taken w → k < room
-placed-room room k (Block n c l a b z) w e = turn-room room k n (Block n c l a b z) w e
-placed-room room k (Loop n p h l m) w e = turn-room room k n (Loop n p h l m) w e
-placed-room room k Bad w e = absurd (let z : _≡_ {A = ℕ} 0 1 = cc in omega arith)
-
-judge-room : (t : Layout) (k : ℕ) (x : Record) (w : Row) → judge t k x ≡ Taken w → k < t .room
-unfolding judge
-judge-room t k x w e = go (x .sound) (eqb (length (x .fields)) (t .columns)) e
-  where
-    go : (a b : Bool) → cond a (cond b (placed (t .room) k (rowOf (t .shape) (fieldOf x))) (Fault 103)) (Fault 102) ≡ Taken w → k < t .room
-    go true true e = placed-room (t .room) k (rowOf (t .shape) (fieldOf x)) w e
-    go true false e = absurd (let z : _≡_ {A = ℕ} 0 1 = cc in omega arith)
-    go false b e = absurd (let z : _≡_ {A = ℕ} 0 1 = cc in omega arith)
-
--- a reading from row k on: its rows have places, and it is refused at a record of at most `most`
-pub record Short (room most k : ℕ) (x : Reading) : Type 0 where
-  pub rows : k + length (x .rows) ≤ room
-  pub place : (n p : ℕ) → x .end ≡ table.refused n p → p ≤ most
-
-stopped-short : (room most k n p : ℕ) → k ≤ room → p ≤ most → Short room most k (stopped n p)
-stopped-short room most k n p h l = record { rows = omega arith; place = λ m q e. let there : p ≡ q = cc in omega arith }
-
-reading-short : (t : Layout) (first k : ℕ) (rs : List Record) → k ≤ t .room → Short (t .room) (first + t .room) k (reading t first k rs)
-unfolding reading
-reading-short t first k [] h = record { rows = omega arith; place = λ n p e. absurd (let z : _≡_ {A = ℕ} 0 1 = cc in omega arith) }
-reading-short t first k (r ∷ rs) h = go (judge t k r) refl (reading-short t first (suc k) rs)
-  where
-    go : (v : Verdict) → judge t k r ≡ v → (suc k ≤ t .room → Short (t .room) (first + t .room) (suc k) (reading t first (suc k) rs))
-        → Short (t .room) (first + t .room) k (readingAfter (reading t first (suc k) rs) (first + k) v)
-    go (Taken w) e later = let S = later (judge-room t k r w e) in record { rows = omega (arith, S .rows); place = S .place }
-    go (Fault n) e later = stopped-short (t .room) (first + t .room) k n (first + k) h (omega arith)
-
-pub table-short : (t : Layout) (header : Bool) (s : List ℕ) → Short (t .room) (2 + t .room) 0 (tableOf t header s)
-unfolding tableOf
-table-short t header s = long (leb (length s) 65536)
-  where
-    stop : (n p : ℕ) → p ≤ 2 → Short (t .room) (2 + t .room) 0 (stopped n p)
-    stop n p h = stopped-short (t .room) (2 + t .room) 0 n p (omega arith) (omega arith)
-
-    behind : (rs : List Record) → Short (t .room) (2 + t .room) 0 (table.headed t rs)
-    behind [] = stop 103 1 (omega arith)
-    behind (r ∷ rs) = form (r .sound) (eqb (length (r .fields)) (t .columns))
-      where
-        form : (a b : Bool) → Short (t .room) (2 + t .room) 0 (cond a (cond b (reading t 2 0 rs) (stopped 103 1)) (stopped 102 1))
-        form true true = reading-short t 2 0 rs (omega arith)
-        form true false = stop 103 1 (omega arith)
-        form false b = stop 102 1 (omega arith)
-
-    plain : Short (t .room) (2 + t .room) 0 (reading t 1 0 (records s))
-    plain = let S = reading-short t 1 0 (records s) (omega arith) in record { rows = S .rows; place = λ n p e. omega (arith, S .place n p e) }
-
-    head : (b : Bool) → Short (t .room) (2 + t .room) 0 (cond b (table.headed t (records s)) (reading t 1 0 (records s)))
-    head true = behind (records s)
-    head false = plain
-
-    long : (b : Bool) → Short (t .room) (2 + t .room) 0 (cond b (cond header (table.headed t (records s)) (reading t 1 0 (records s))) (stopped 101 0))
-    long true = head header
-    long false = stop 101 0 (omega arith)
-
 pub record Small (r : Reply) : Type 0 where
   pub place : PlaceFits r
   pub value : ValueFits r
 
-reading-small : (t : Layout) → t .room ≤ 1024 → (header : Bool) (s : List ℕ) → Small (ofReading (replyOf (tableOf t header s)))
-reading-small t few header s = go (tableOf t header s .end) refl
+pub reading-small : {A : Type 0} (x : Reading A) {room : ℕ} → Short room (2 + room) 0 x → room ≤ mostBlocks → {a : ReadReply} → a ≡ replyOf x → Small (ofReading a)
+reading-small x {room} S few e = rw e (go (x .end) refl)
   where
-    S : Short (t .room) (2 + t .room) 0 (tableOf t header s)
-    S = table-short t header s
-
-    go : (e : End) → tableOf t header s .end ≡ e → Small (ofReading (replyBy (length (tableOf t header s .rows)) e))
+    go : (y : End) → x .end ≡ y → Small (ofReading (replyBy (length (x .rows)) y))
     go all q = record { place = record { place = omega arith }; value = record { value = omega (ints, S .rows) } }
     go (table.refused n p) q = record { place = record { place = omega (arith, S .place n p q) }; value = record { value = omega ints } }
-
--- a reading of either table
-pub layout-small : (x : Shape) (places : ℕ) (header : Bool) (s : List ℕ) {a : ReadReply} → a ≡ replyOf (tableOf (layoutOf x places) header s) → Small (ofReading a)
-layout-small x places header s e = rw e (reading-small (layoutOf x places) (go x) header s)
-  where
-    go : (y : Shape) → min places (mostRows y) ≤ 1024
-    go Blocks = omega arith
-    go Loops = omega arith

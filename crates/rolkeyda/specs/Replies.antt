@@ -62,13 +62,13 @@ pub record WalkReplied (t : Routine) (w : List ℕ) (r : Reply) : Type 0 where
   pub accepts : AllHold (structureRules t) → length w ≤ longestWalk → (r .number ≡ 0) ↔ FinishedRun t w
   pub cost : r .number ≡ 0 → (r .value ≡ pos (runCost t w)) × (r .more ≡ length w - 1)
 
--- Demand 1 of the reply to a text: it is the answer of which the reader's promise holds, which there is one of.
-pub record BlocksReplied (s : List ℕ) (header : Bool) (old : BlockColumns) (r : Reply) (new : BlockColumns) : Type 0 where
+-- Demand 1 of the reply to a text: it is the one answer for which the reader's promise holds.
+pub record BlocksReplied (s : List ℕ) (headerRow : Bool) (old : BlockColumns) (r : Reply) (new : BlockColumns) : Type 0 where
   pub answer : ReadReply
   pub replied : r ≡ ofReading answer
-  pub read : BlocksRead s header old answer new
+  pub read : BlocksRead s headerRow old answer new
 
-pub record LoopsReplied (s : List ℕ) (header : Bool) (old : LoopColumns) (r : Reply) (new : LoopColumns) : Type 0 where
+pub record LoopsReplied (s : List ℕ) (headerRow : Bool) (old : LoopColumns) (r : Reply) (new : LoopColumns) : Type 0 where
   pub answer : ReadReply
   pub replied : r ≡ ofReading answer
-  pub read : LoopsRead s header old answer new
+  pub read : LoopsRead s headerRow old answer new

@@ -103,16 +103,16 @@ fn read_reply(answer: ReadReply) -> Reply
 #[no_mangle]
 pub extern "C" fn rolkeyda_read_blocks(
     text: &[u8],
-    header: bool,
+    header_row: bool,
     cost: &mut [u32],
     loops: &mut [u16],
     first: &mut [u16],
     second: &mut [u16],
     figure: &mut [i64],
 ) -> Reply
-    ensures { λ r. ⌜ BlocksReplied (now (text .entry)) header (blocks (now (cost .entry)) (now (loops .entry)) (now (first .entry)) (now (second .entry)) (now (figure .entry))) r (blocks (now (cost .exit)) (now (loops .exit)) (now (first .exit)) (now (second .exit)) (now (figure .exit))) ⌝ }
+    ensures { λ r. ⌜ BlocksReplied (now (text .entry)) «header_row» (blocks (now (cost .entry)) (now (loops .entry)) (now (first .entry)) (now (second .entry)) (now (figure .entry))) r (blocks (now (cost .exit)) (now (loops .exit)) (now (first .exit)) (now (second .exit)) (now (figure .exit))) ⌝ }
 {
-    let answer = tables::read_blocks(text, header, cost, loops, first, second, figure);
+    let answer = tables::read_blocks(text, header_row, cost, loops, first, second, figure);
     read_reply(answer)
 }
 
@@ -120,15 +120,15 @@ pub extern "C" fn rolkeyda_read_blocks(
 #[no_mangle]
 pub extern "C" fn rolkeyda_read_loops(
     text: &[u8],
-    header: bool,
+    header_row: bool,
     parent: &mut [u16],
-    head: &mut [u16],
+    header: &mut [u16],
     limit: &mut [u32],
     multiplier: &mut [u64],
 ) -> Reply
-    ensures { λ r. ⌜ LoopsReplied (now (text .entry)) header (loops (now (parent .entry)) (now (head .entry)) (now (limit .entry)) (now (multiplier .entry))) r (loops (now (parent .exit)) (now (head .exit)) (now (limit .exit)) (now (multiplier .exit))) ⌝ }
+    ensures { λ r. ⌜ LoopsReplied (now (text .entry)) «header_row» (loops (now (parent .entry)) (now (header .entry)) (now (limit .entry)) (now (multiplier .entry))) r (loops (now (parent .exit)) (now (header .exit)) (now (limit .exit)) (now (multiplier .exit))) ⌝ }
 {
-    let answer = tables::read_loops(text, header, parent, head, limit, multiplier);
+    let answer = tables::read_loops(text, header_row, parent, header, limit, multiplier);
     read_reply(answer)
 }
 

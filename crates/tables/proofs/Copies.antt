@@ -56,38 +56,6 @@ unfolding stores
 column-stored store column f h c k [] = refl
 column-stored store column f h c k (w ∷ ws) = column-stored store column f h (store c k w) (suc k) ws ∙ ap (λ (l : _). sets l (suc k) (map f ws)) (h c k w)
 
--- the rows of a table have places
-module _ {A : Type 0} (judge : ℕ → Record → Verdict A) (room : ℕ) (place : (k : ℕ) (r : Record) (w : A) → judge k r ≡ taken w → k < room) where
-  rows-fit : (start k : ℕ) (rs : List Record) → length (reading judge start k rs .rows) ≤ room - k
-  unfolding reading
-  rows-fit start k [] = omega arith
-  rows-fit start k (r ∷ rs) = go (judge k r) refl (rows-fit start (suc k) rs)
-    where
-      go : (v : Verdict A) → judge k r ≡ v → length (reading judge start (suc k) rs .rows) ≤ room - suc k → length (readingAfter (reading judge start (suc k) rs) (start + k) v .rows) ≤ room - k
-      go (taken w) e h = let x = place k r w e in omega (arith, x)
-      go (fault n) e h = omega arith
-
-  pub table-fit : (count : ℕ) (headerRow : Bool) (s : List ℕ) → length (tableOf count judge headerRow s .rows) ≤ room
-  unfolding tableOf
-  table-fit count headerRow s = long (leb (length s) mostTextBytes)
-    where
-      head : (rs : List Record) → length (headed count judge rs .rows) ≤ room
-      head [] = omega arith
-      head (r ∷ rs) = go (r .sound) (eqb (length (r .fields)) count)
-        where
-          go : (a b : Bool) → length (cond a (cond b (reading judge 2 0 rs) (stopped 103 1)) (stopped 102 1) .rows) ≤ room
-          go true true = let h = rows-fit 2 0 rs in omega (arith, h)
-          go true false = omega arith
-          go false b = omega arith
-
-      told : (b : Bool) → length (cond b (headed count judge (records s)) (reading judge 1 0 (records s)) .rows) ≤ room
-      told true = head (records s)
-      told false = let h = rows-fit 1 0 (records s) in omega (arith, h)
-
-      long : (b : Bool) → length (cond b (cond headerRow (headed count judge (records s)) (reading judge 1 0 (records s))) (stopped 101 0) .rows) ≤ room
-      long true = told headerRow
-      long false = omega arith
-
 -- What a pass over a text leaves in its columns.
 module _ {A C : Type 0} (store : C → ℕ → A → C) (none : C) (x : Reading A) {r : ReadReply} {columns : C} (q : leaving r columns ≡ gathered store none 0 x) where
   columns-are : columns ≡ stores store none 0 (x .rows)

@@ -1,6 +1,7 @@
 -- What the proofs of several functions use.
 pub mod Starts
 pub mod Passes
+pub mod Sizes
 pub mod Copies
 pub mod Whole
 pub mod Texts

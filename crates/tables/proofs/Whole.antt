@@ -3,7 +3,7 @@
 use mathlib.Core.Path.{_≡_, refl, sym, _∙_}
 use mathlib.Core.Bool.{Bool}
 use mathlib.Core.List.{List}
-use Prim.Native.Nat.{ℕ, _≤_, min}
+use Prim.Native.Nat.{ℕ, _+_, _≤_, min}
 use native.Mathlib.Omega.{arith}
 use lib.ListN.{length, take}
 use lib.IntN.{ℤ}
@@ -17,7 +17,15 @@ use Rattle.tables.specs.Table.{Reading, tableOf}
 use Rattle.tables.specs.Columns.{over, BlockColumns, shortestBlock, BlocksRead, LoopColumns, shortestLoop, LoopsRead}
 use Rattle.tables.specs.Place.{storeBlock, storeLoop, gathered, leaving, rowCount}
 use Rattle.tables.specs.declared.ReadReply.{ReadReply}
-use Rattle.tables.proofs.Copies.{table-fit, column-length, reply-is, count-fits, column-left}
+use Rattle.tables.proofs.Sizes.{Short, table-short}
+use Rattle.tables.proofs.Copies.{column-length, reply-is, count-fits, column-left}
+
+-- the rows of each table have places, and a refusal's record is near them
+pub blocks-short : (room : ℕ) (headerRow : Bool) (s : List ℕ) → Short room (2 + room) 0 (tableOf blockFields (judgeBlock room) headerRow s)
+blocks-short room = table-short (judgeBlock room) room (λ k r w e. block-taken room k r w e .1 .0) blockFields
+
+pub loops-short : (room : ℕ) (headerRow : Bool) (s : List ℕ) → Short room (2 + room) 0 (tableOf loopFields (judgeLoop room) headerRow s)
+loops-short room = table-short (judgeLoop room) room (λ k r w e. loop-taken room k r w e .1) loopFields
 
 -- columns that have a place for each row
 pub record BlockPlaces (room : ℕ) (c : BlockColumns) : Type 0 where
@@ -86,7 +94,7 @@ module _ (s : List ℕ) (headerRow : Bool) (old none : BlockColumns) {room : ℕ
 
   blocks-fit : length (block-table .rows) ≤ room
   unfolding block-table
-  blocks-fit = table-fit (judgeBlock room) room (λ k r w e. block-taken room k r w e .1 .0) blockFields headerRow s
+  blocks-fit = let S = blocks-short room headerRow s in omega (arith, S .rows)
 
   pub blocks-count : count ≤ room
   unfolding block-table
@@ -111,7 +119,7 @@ module _ (s : List ℕ) (headerRow : Bool) (old none : LoopColumns) {room : ℕ}
 
   loops-fit : length (loop-table .rows) ≤ room
   unfolding loop-table
-  loops-fit = table-fit (judgeLoop room) room (λ k r w e. loop-taken room k r w e .1) loopFields headerRow s
+  loops-fit = let S = loops-short room headerRow s in omega (arith, S .rows)
 
   pub loops-count : count ≤ room
   unfolding loop-table
