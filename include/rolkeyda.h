@@ -31,13 +31,14 @@ extern "C" {
 #define ROLKEYDA_LONGEST_WALK 1048576u
 
 /*
- * The stack that a call of each function needs, in bytes, with its arguments and some headroom. It holds for every input: tests/stack
- * measures the calls and runs them on stacks of these sizes.
+ * The stack that a call of each function needs, in bytes, with its arguments and some headroom. It includes what a dynamic linker takes at
+ * the first call to bind memcpy and memset. Measured, not proved: tests/stack runs the largest and the most deeply quoted inputs on stacks
+ * of these sizes.
  */
 #define ROLKEYDA_STACK_READ_BLOCKS 40960u
 #define ROLKEYDA_STACK_READ_LOOPS 40960u
-#define ROLKEYDA_STACK_CHECK 4096u
-#define ROLKEYDA_STACK_WALK 4096u
+#define ROLKEYDA_STACK_CHECK 8192u
+#define ROLKEYDA_STACK_WALK 8192u
 
 /*
  * The reply of every function (`Reply` in the crate).
