@@ -24,10 +24,15 @@ extern "C" {
 /* A missing successor. */
 #define ROLKEYDA_MISSING 65535u
 
-/* The most that a table, a text or a walk may have. Columns of the first two lengths hold any table. */
+/*
+ * The most that there may be: blocks and loops of a routine (columns of these lengths hold any table), loops around a header with loop 0
+ * and its own, bytes of a field as written, bytes of a text, blocks of a walk.
+ */
 #define ROLKEYDA_MOST_BLOCKS 1024u
 #define ROLKEYDA_MOST_LOOPS 64u
-#define ROLKEYDA_MOST_BYTES 65536u
+#define ROLKEYDA_MOST_DEPTH 16u
+#define ROLKEYDA_MOST_FIELD_BYTES 64u
+#define ROLKEYDA_MOST_TEXT_BYTES 65536u
 #define ROLKEYDA_LONGEST_WALK 1048576u
 
 /*

@@ -19,7 +19,8 @@
 
 #define BLOCKS ROLKEYDA_MOST_BLOCKS
 #define LOOPS ROLKEYDA_MOST_LOOPS
-#define BYTES ROLKEYDA_MOST_BYTES
+#define BYTES ROLKEYDA_MOST_TEXT_BYTES
+#define FIELD ROLKEYDA_MOST_FIELD_BYTES
 #define LENGTH ROLKEYDA_LONGEST_WALK
 
 /* The most that a reader may take, and the least headroom: a frame may reserve more than these inputs use. */
@@ -247,12 +248,12 @@ static void rows(unsigned count, const char *rest)
     }
 }
 
-/* A record of quoted fields, each as long as a field may be: 64 bytes with the two quote marks. Inside, one byte is repeated. */
+/* A record of quoted fields, each as long as a field may be with its two quote marks. Inside, one byte is repeated. */
 static void quoted_record(int fields, char byte)
 {
     for (int i = 0; i < fields; i++) {
         add(i == 0 ? "\"" : ",\"");
-        add_bytes(byte, 62);
+        add_bytes(byte, FIELD - 2);
         add("\"");
     }
     add("\r\n");
@@ -266,7 +267,7 @@ static void longest_text(unsigned count, int fields, const char *wide)
     size_t left = BYTES - text_length - (size_t)fields - 1;
     text_length = 0;
     for (int i = 0; i < fields; i++) {
-        size_t part = left < 64 ? left : 64;
+        size_t part = left < FIELD ? left : FIELD;
         left -= part;
         add_bytes('h', part);
         add(i + 1 < fields ? "," : "\r\n");
@@ -313,14 +314,15 @@ static void uniform_texts(int which)
 static void refused_texts(int which, unsigned most, int fields, const char *plain, const char *quoted)
 {
     start(true);
-    while (text_length + 6 * 65 + 1 <= BYTES)
+    while (text_length + 6 * (FIELD + 1) + 1 <= BYTES)
         quoted_record(fields, '1');
     refused(which, "numbers of 62 digits in quotes", 104, 2);
     start(false);
     rows(most, plain);
     for (int i = 1; i < fields; i++)
         add(",");
-    add("\"0123456789012345678901234567890123456789012345678901234567890123456789");
+    add("\"");
+    add_bytes('0', FIELD);
     refused(which, "too long a quoted field after all rows", 102, most + 1);
     start(false);
     rows(most, plain);
