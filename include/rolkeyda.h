@@ -1,9 +1,9 @@
 /*
- * Rolkeyda: the importer and the final checker of a worst-case execution time (WCET) analysis, proved.
+ * Rolkeyda: the importer and the final checker of a worst-case execution time (WCET) analysis, proved. For C11 and C++11.
  *
- * Every function takes any input, looks it over itself and returns a Reply by value; none keeps a pointer, allocates or fails otherwise.
- * A column is a pointer to its first value and then its length, a count of values (of bytes for a text). Columns that a function writes
- * must not overlap each other or the text. A column of length 0 may have any pointer that is not NULL.
+ * Every function takes any input, checks it and returns a rolkeyda_reply by value. No function allocates, keeps a pointer or fails in
+ * another way. A column is a pointer to its first value and then its length, a count of values (of bytes for a text). Columns that a
+ * function writes must not overlap each other or the text. A column of length 0 may have any pointer that is not NULL.
  *
  * Build the library with `rt staticlib rolkeyda`.
  */
@@ -15,24 +15,42 @@
 #include <stdint.h>
 
 #ifdef __cplusplus
+#define ROLKEYDA_ASSERT static_assert
 extern "C" {
+#else
+#define ROLKEYDA_ASSERT _Static_assert
 #endif
 
-/* A successor that a block has not. */
+/* A missing successor. */
 #define ROLKEYDA_MISSING 65535u
 
-/* The most that a table or a walk may have, and so the columns that hold any table. */
+/*
+ * The most that there may be: blocks and loops of a routine (columns of these lengths hold any table), loops around a header with loop 0
+ * and its own, bytes of a field as written, bytes of a text, blocks of a walk.
+ */
 #define ROLKEYDA_MOST_BLOCKS 1024u
 #define ROLKEYDA_MOST_LOOPS 64u
-#define ROLKEYDA_MOST_BYTES 65536u
+#define ROLKEYDA_MOST_DEPTH 16u
+#define ROLKEYDA_MOST_FIELD_BYTES 64u
+#define ROLKEYDA_MOST_TEXT_BYTES 65536u
 #define ROLKEYDA_LONGEST_WALK 1048576u
+
+/*
+ * The stack that a call of each function needs, in bytes, with its arguments and some headroom. It includes what a dynamic linker takes at
+ * the first call to bind memcpy and memset. Measured, not proved: tests/stack runs the largest and the most deeply quoted inputs on stacks
+ * of these sizes.
+ */
+#define ROLKEYDA_STACK_READ_BLOCKS 40960u
+#define ROLKEYDA_STACK_READ_LOOPS 40960u
+#define ROLKEYDA_STACK_CHECK 8192u
+#define ROLKEYDA_STACK_WALK 8192u
 
 /*
  * The reply of every function (`Reply` in the crate).
  *
  * number   0: accepted. Else the number of the first rule that is broken:
- *          101 to 106 of a text, 201 to 208 of a pair of tables, 301 to 303 and 311 to 314 of a walk.
- * place    where: the record of a text (the first is 1), the block or loop of a table, the index of a walk. 0 when accepted.
+ *          101 to 106 for a text, 201 to 208 for a pair of tables, 301 to 303 and 311 to 314 for a walk.
+ * place    where: the record of a text (the first is 1), the block or loop of a table, the index in a walk. 0 when accepted.
  * value    when accepted: the count of rows, the bound, or the cost. Else 0.
  * more     when a walk is accepted: its steps, the length less one. Else 0.
  */
@@ -43,32 +61,42 @@ typedef struct rolkeyda_reply {
     uint64_t more;
 } rolkeyda_reply;
 
+/* The layout that the library is compiled for. */
+ROLKEYDA_ASSERT(sizeof(rolkeyda_reply) == 24, "a reply has 24 bytes");
+ROLKEYDA_ASSERT(offsetof(rolkeyda_reply, number) == 0, "number is at 0");
+ROLKEYDA_ASSERT(offsetof(rolkeyda_reply, place) == 4, "place is at 4");
+ROLKEYDA_ASSERT(offsetof(rolkeyda_reply, value) == 8, "value is at 8");
+ROLKEYDA_ASSERT(offsetof(rolkeyda_reply, more) == 16, "more is at 16");
+#undef ROLKEYDA_ASSERT
+
 /*
- * Reads a block table (number, cost, loop, first successor, second successor, figure; RFC 4180) into five columns. `header` says whether
- * record 1 is a header. Accepted: the first `value` places of each column hold the rows and later places keep their contents. Refused: no
- * column is changed. 106 where the shortest column has no place for a row. A reader takes some 96 KiB of the stack.
+ * Reads a block table (number, cost, loop, first successor, second successor, figure; RFC 4180) into five columns. `header_row` says
+ * whether record 1 is a header. Accepted: the first `value` places of each column hold the rows, and later places keep their contents.
+ * Refused: no column is changed. 106 where the shortest column has no place for a row. Stack: ROLKEYDA_STACK_READ_BLOCKS.
  */
 rolkeyda_reply rolkeyda_read_blocks(
     const uint8_t *text, size_t text_length,
-    bool header,
+    bool header_row,
     uint32_t *cost, size_t cost_length,
     uint16_t *loops, size_t loops_length,
     uint16_t *first, size_t first_length,
     uint16_t *second, size_t second_length,
     int64_t *figure, size_t figure_length);
 
-/* Reads a loop table (number, parent, header, limit, multiplier) into four columns, by the same rules. */
+/*
+ * Reads a loop table (number, parent, header, limit, multiplier) into four columns, by the same rules. Stack: ROLKEYDA_STACK_READ_LOOPS.
+ */
 rolkeyda_reply rolkeyda_read_loops(
     const uint8_t *text, size_t text_length,
-    bool header,
+    bool header_row,
     uint16_t *parent, size_t parent_length,
-    uint16_t *head, size_t head_length,
+    uint16_t *header, size_t header_length,
     uint32_t *limit, size_t limit_length,
     uint64_t *multiplier, size_t multiplier_length);
 
 /*
  * Checks a pair of tables. Accepted: `value` is the bound, and no counted run from block 0 to the last block costs more, whoever proposed
- * the figures and the multipliers. A negative bound: no such run exists.
+ * the figures and the multipliers. A negative bound: no such run exists. Stack: ROLKEYDA_STACK_CHECK.
  */
 rolkeyda_reply rolkeyda_check(
     const uint32_t *cost, size_t cost_length,
@@ -82,8 +110,8 @@ rolkeyda_reply rolkeyda_check(
     const uint64_t *multiplier, size_t multiplier_length);
 
 /*
- * Checks a walk, a list of block numbers, over tables that keep 201 to 207 (208 is not asked). Accepted: the walk is a finished counted
- * run, `value` is its cost and `more` its steps.
+ * Checks a walk, a list of block numbers, over tables that keep rules 201 to 207 (rule 208 is not checked). Accepted: the walk is a finished
+ * counted run, `value` is its cost and `more` its steps. Stack: ROLKEYDA_STACK_WALK.
  */
 rolkeyda_reply rolkeyda_walk(
     const uint32_t *cost, size_t cost_length,

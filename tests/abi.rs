@@ -12,15 +12,15 @@ pub struct Reply {
 #[link(name = "rolkeyda", kind = "static")]
 extern "C" {
     fn rolkeyda_read_blocks(
-        text: *const u8, text_length: usize, header: bool,
+        text: *const u8, text_length: usize, header_row: bool,
         cost: *mut u32, cost_length: usize, inner: *mut u16, inner_length: usize,
         first: *mut u16, first_length: usize, second: *mut u16, second_length: usize,
         figure: *mut i64, figure_length: usize,
     ) -> Reply;
 
     fn rolkeyda_read_loops(
-        text: *const u8, text_length: usize, header: bool,
-        parent: *mut u16, parent_length: usize, head: *mut u16, head_length: usize,
+        text: *const u8, text_length: usize, header_row: bool,
+        parent: *mut u16, parent_length: usize, header: *mut u16, header_length: usize,
         limit: *mut u32, limit_length: usize, multiplier: *mut u64, multiplier_length: usize,
     ) -> Reply;
 
@@ -28,7 +28,7 @@ extern "C" {
         cost: *const u32, cost_length: usize, inner: *const u16, inner_length: usize,
         first: *const u16, first_length: usize, second: *const u16, second_length: usize,
         figure: *const i64, figure_length: usize,
-        parent: *const u16, parent_length: usize, head: *const u16, head_length: usize,
+        parent: *const u16, parent_length: usize, header: *const u16, header_length: usize,
         limit: *const u32, limit_length: usize, multiplier: *const u64, multiplier_length: usize,
     ) -> Reply;
 
@@ -36,7 +36,7 @@ extern "C" {
         cost: *const u32, cost_length: usize, inner: *const u16, inner_length: usize,
         first: *const u16, first_length: usize, second: *const u16, second_length: usize,
         figure: *const i64, figure_length: usize,
-        parent: *const u16, parent_length: usize, head: *const u16, head_length: usize,
+        parent: *const u16, parent_length: usize, header: *const u16, header_length: usize,
         limit: *const u32, limit_length: usize, multiplier: *const u64, multiplier_length: usize,
         blocks: *const u16, blocks_length: usize,
     ) -> Reply;
@@ -57,12 +57,12 @@ pub struct Columns<'a> {
 }
 
 pub fn read_blocks(
-    text: &[u8], header: bool,
+    text: &[u8], header_row: bool,
     cost: &mut [u32], inner: &mut [u16], first: &mut [u16], second: &mut [u16], figure: &mut [i64],
 ) -> Reply {
     unsafe {
         rolkeyda_read_blocks(
-            text.as_ptr(), text.len(), header,
+            text.as_ptr(), text.len(), header_row,
             cost.as_mut_ptr(), cost.len(), inner.as_mut_ptr(), inner.len(),
             first.as_mut_ptr(), first.len(), second.as_mut_ptr(), second.len(),
             figure.as_mut_ptr(), figure.len(),
@@ -71,13 +71,13 @@ pub fn read_blocks(
 }
 
 pub fn read_loops(
-    text: &[u8], header: bool,
-    parent: &mut [u16], head: &mut [u16], limit: &mut [u32], multiplier: &mut [u64],
+    text: &[u8], header_row: bool,
+    parent: &mut [u16], header: &mut [u16], limit: &mut [u32], multiplier: &mut [u64],
 ) -> Reply {
     unsafe {
         rolkeyda_read_loops(
-            text.as_ptr(), text.len(), header,
-            parent.as_mut_ptr(), parent.len(), head.as_mut_ptr(), head.len(),
+            text.as_ptr(), text.len(), header_row,
+            parent.as_mut_ptr(), parent.len(), header.as_mut_ptr(), header.len(),
             limit.as_mut_ptr(), limit.len(), multiplier.as_mut_ptr(), multiplier.len(),
         )
     }

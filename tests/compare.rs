@@ -68,10 +68,10 @@ impl Bench {
         let first: Vec<u16> = (0..c).map(|_| random.next() as u16).collect();
         let second: Vec<u16> = (0..d).map(|_| random.next() as u16).collect();
         let figure: Vec<i64> = (0..e).map(|_| random.next() as i64).collect();
-        let wanted = reference::read_blocks(&case.text, case.header, a.min(b).min(c).min(d).min(e));
+        let wanted = reference::read_blocks(&case.text, case.header_row, a.min(b).min(c).min(d).min(e));
         let given = abi::read_blocks(
             text.lend(&case.text, random),
-            case.header,
+            case.header_row,
             columns[0].lend(&cost, random),
             columns[1].lend(&inner, random),
             columns[2].lend(&first, random),
@@ -95,10 +95,10 @@ impl Bench {
         let header: Vec<u16> = (0..b).map(|_| random.next() as u16).collect();
         let limit: Vec<u32> = (0..c).map(|_| random.next() as u32).collect();
         let multiplier: Vec<u64> = (0..d).map(|_| random.next()).collect();
-        let wanted = reference::read_loops(&case.text, case.header, a.min(b).min(c).min(d));
+        let wanted = reference::read_loops(&case.text, case.header_row, a.min(b).min(c).min(d));
         let given = abi::read_loops(
             text.lend(&case.text, random),
-            case.header,
+            case.header_row,
             columns[5].lend(&parent, random),
             columns[6].lend(&header, random),
             columns[7].lend(&limit, random),

@@ -72,7 +72,7 @@ impl Tally {
 
 fn show_case(case: &Case) -> String {
     let text: String = case.text.iter().flat_map(|byte| std::ascii::escape_default(*byte)).map(char::from).collect();
-    format!("  {:?}, header {}, lengths {:?}, text \"{text}\"", case.table, case.header, case.lengths)
+    format!("  {:?}, header row {}, lengths {:?}, text \"{text}\"", case.table, case.header_row, case.lengths)
 }
 
 fn show_tables(tables: &Tables) -> String {

@@ -30,8 +30,8 @@ impl Tester<'_> {
     }
 
     /// Reads a text into columns of the given length.
-    fn read(&mut self, name: &str, table: Table, header: bool, text: &[u8], length: usize, wanted: Want) {
-        let case = Case { table, text: text.to_vec(), header, lengths: [length; 5] };
+    fn read(&mut self, name: &str, table: Table, header_row: bool, text: &[u8], length: usize, wanted: Want) {
+        let case = Case { table, text: text.to_vec(), header_row, lengths: [length; 5] };
         let outcome = self.bench.read(&case);
         self.expect(name, wanted, outcome);
     }
@@ -291,7 +291,7 @@ fn sizes(t: &mut Tester) {
         ] {
             t.read(&format!("{table:?}: {name} with no place at all"), table, false, text.as_bytes(), 0, Refused(number, 1));
         }
-        let case = |lengths| Case { table, text: format!("0,{rest}\r\n1,{rest}\r\n2,{rest}").into_bytes(), header: false, lengths };
+        let case = |lengths| Case { table, text: format!("0,{rest}\r\n1,{rest}\r\n2,{rest}").into_bytes(), header_row: false, lengths };
         for short in 0..rest.matches(',').count() + 1 {
             for (length, place) in [(0, 1), (1, 2), (2, 3)] {
                 let mut lengths = [5; 5];

@@ -136,11 +136,11 @@ fn value(written: &[u8], width: &Width) -> Option<i128> {
 }
 
 /// The rows of a text. `most` is the paper's limit, `places` the length of the shortest lent column.
-fn rows(text: &[u8], header: bool, widths: &[Width], most: usize, places: usize) -> Result<Vec<Vec<i128>>, Refusal> {
+fn rows(text: &[u8], header_row: bool, widths: &[Width], most: usize, places: usize) -> Result<Vec<Vec<i128>>, Refusal> {
     if text.len() > 65_536 {
         return refuse(101, 0);
     }
-    if header && text.is_empty() {
+    if header_row && text.is_empty() {
         return refuse(103, 1);
     }
     let mut rows = Vec::new();
@@ -155,7 +155,7 @@ fn rows(text: &[u8], header: bool, widths: &[Width], most: usize, places: usize)
         if fields.len() != widths.len() {
             return refuse(103, place);
         }
-        if header && place == 1 {
+        if header_row && place == 1 {
             continue;
         }
         let mut row = Vec::new();
@@ -181,10 +181,10 @@ const WIDE: Width = Width::Number(0, (1 << 32) - 1);
 const WIDEST: Width = Width::Number(0, (1 << 64) - 1);
 const SIGNED: Width = Width::Number(-(1 << 63), (1 << 63) - 1);
 
-pub fn read_blocks(text: &[u8], header: bool, places: usize) -> Result<Blocks, Refusal> {
+pub fn read_blocks(text: &[u8], header_row: bool, places: usize) -> Result<Blocks, Refusal> {
     let widths = [SMALL, WIDE, SMALL, Width::Successor, Width::Successor, SIGNED];
     let mut blocks = Blocks::default();
-    for row in rows(text, header, &widths, 1024, places)? {
+    for row in rows(text, header_row, &widths, 1024, places)? {
         blocks.cost.push(row[1] as u32);
         blocks.inner.push(row[2] as u16);
         blocks.first.push(row[3] as u16);
@@ -194,10 +194,10 @@ pub fn read_blocks(text: &[u8], header: bool, places: usize) -> Result<Blocks, R
     Ok(blocks)
 }
 
-pub fn read_loops(text: &[u8], header: bool, places: usize) -> Result<Loops, Refusal> {
+pub fn read_loops(text: &[u8], header_row: bool, places: usize) -> Result<Loops, Refusal> {
     let widths = [SMALL, SMALL, SMALL, WIDE, WIDEST];
     let mut loops = Loops::default();
-    for row in rows(text, header, &widths, 64, places)? {
+    for row in rows(text, header_row, &widths, 64, places)? {
         loops.parent.push(row[1] as u16);
         loops.header.push(row[2] as u16);
         loops.limit.push(row[3] as u32);

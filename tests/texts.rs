@@ -13,7 +13,7 @@ pub enum Table {
 pub struct Case {
     pub table: Table,
     pub text: Vec<u8>,
-    pub header: bool,
+    pub header_row: bool,
     pub lengths: [usize; 5],
 }
 
@@ -166,10 +166,10 @@ fn join(records: &[Vec<Vec<u8>>], ends: &[Vec<u8>]) -> Vec<u8> {
 }
 
 /// Good records of `count` rows, under a header or not.
-fn records(random: &mut Random, table: Table, header: bool, count: usize) -> Vec<Vec<Vec<u8>>> {
+fn records(random: &mut Random, table: Table, header_row: bool, count: usize) -> Vec<Vec<Vec<u8>>> {
     let kinds = table.kinds();
     let mut records = Vec::new();
-    if header {
+    if header_row {
         records.push(kinds.iter().map(|_| heading(random)).collect());
     }
     for row in 0..count {
@@ -184,7 +184,7 @@ fn records(random: &mut Random, table: Table, header: bool, count: usize) -> Vec
 }
 
 /// One change to a field or to the order and number of records.
-fn damage_records(random: &mut Random, table: Table, header: bool, records: &mut Vec<Vec<Vec<u8>>>) {
+fn damage_records(random: &mut Random, table: Table, header_row: bool, records: &mut Vec<Vec<Vec<u8>>>) {
     let kinds = table.kinds();
     if records.is_empty() {
         records.push(vec![Vec::new(); random.below(8)]);
@@ -198,7 +198,7 @@ fn damage_records(random: &mut Random, table: Table, header: bool, records: &mut
             fields[field] = bad(random, kinds[field.min(kinds.len() - 1)]);
         }
         5 | 6 if !fields.is_empty() => {
-            let row = (at - usize::from(header && at > 0)) as i64;
+            let row = (at - usize::from(header_row && at > 0)) as i64;
             let other = [row - 1, row + 1, 0, row + 256, row + 65_536, 65_535, 65_536, row * 10, 1023, 1024];
             fields[0] = random.pick(&other).to_string().into_bytes();
         }
@@ -291,7 +291,7 @@ fn near_limit(random: &mut Random, table: Table) -> Case {
     if random.once_in(4) {
         damage_bytes(random, &mut text);
     }
-    Case { table, text, header: !random.once_in(8), lengths: [table.most() + random.below(3); 5] }
+    Case { table, text, header_row: !random.once_in(8), lengths: [table.most() + random.below(3); 5] }
 }
 
 /// A case for a table's reader.
@@ -305,13 +305,13 @@ pub fn case(random: &mut Random, table: Table) -> Case {
         12..=80 => random.range(5, 40),
         _ => random.below(6),
     };
-    let header = random.once_in(2);
-    let mut records = records(random, table, header, count);
+    let header_row = random.once_in(2);
+    let mut records = records(random, table, header_row, count);
     let lengths = lengths(random, count);
     let kind = random.below(10);
     if (4..8).contains(&kind) {
         for _ in 0..random.pick(&[1, 1, 1, 2, 3]) {
-            damage_records(random, table, header, &mut records);
+            damage_records(random, table, header_row, &mut records);
         }
     }
     let mut ends = vec![b"\r\n".to_vec(); records.len()];
@@ -331,8 +331,8 @@ pub fn case(random: &mut Random, table: Table) -> Case {
         }
     }
     // the setting may be wrong for the text
-    let header = if random.once_in(12) { !header } else { header };
-    Case { table, text, header, lengths }
+    let header_row = if random.once_in(12) { !header_row } else { header_row };
+    Case { table, text, header_row, lengths }
 }
 
 /// A short text of the bytes that matter, without a plan.
@@ -350,5 +350,5 @@ pub fn noise(random: &mut Random, table: Table) -> Case {
         let count = random.range(58, 67);
         text.splice(at..at, vec![random.pick(b"1\",a"); count]);
     }
-    Case { table, text, header: random.once_in(2), lengths: [random.below(3); 5] }
+    Case { table, text, header_row: random.once_in(2), lengths: [random.below(3); 5] }
 }

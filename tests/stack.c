@@ -1,0 +1,483 @@
+/*
+ * The stack of every function of the C library. Each call is measured on a painted stack: the deepest byte that it changed. Then it runs
+ * again on a stack of the size that rolkeyda.h states, with a guard page below: going over ends in a fault. The stacks are mapped here and
+ * entered by swapcontext, so that nothing but the call stands on them.
+ *
+ * The first call in a process may take more than the next: there the dynamic linker binds memcpy and memset, on the caller's stack. So every
+ * call runs in a process of its own, and nothing here calls these two before. The last line is 'N passed, M failed'.
+ */
+#define _GNU_SOURCE
+#include "rolkeyda.h"
+
+#include <inttypes.h>
+#include <stdio.h>
+#include <stdlib.h>
+#include <sys/mman.h>
+#include <sys/wait.h>
+#include <ucontext.h>
+#include <unistd.h>
+
+#define BLOCKS ROLKEYDA_MOST_BLOCKS
+#define LOOPS ROLKEYDA_MOST_LOOPS
+#define BYTES ROLKEYDA_MOST_TEXT_BYTES
+#define FIELD ROLKEYDA_MOST_FIELD_BYTES
+#define LENGTH ROLKEYDA_LONGEST_WALK
+
+/* The most that a reader may take, and the least headroom: a frame may reserve more than these inputs use. */
+#define MOST_READER 40960u
+#define HEADROOM 512u
+/* The stack of a measurement, its paint, and the guard below every stack. */
+#define LARGE (1u << 20)
+#define PAINT 0xa5
+#define GUARD 65536u
+
+_Static_assert(ROLKEYDA_STACK_READ_BLOCKS <= MOST_READER, "a reader takes at most 40 KiB");
+_Static_assert(ROLKEYDA_STACK_READ_LOOPS <= MOST_READER, "a reader takes at most 40 KiB");
+
+/* The input, one place more than is allowed in each part, and the reply. */
+static char text[BYTES + 1];
+static size_t text_length;
+static bool header_row;
+static uint32_t cost[BLOCKS + 1], limit[LOOPS + 1];
+static uint16_t loops[BLOCKS + 1], first[BLOCKS + 1], second[BLOCKS + 1], parent[LOOPS + 1], header[LOOPS + 1];
+static int64_t figure[BLOCKS + 1];
+static uint64_t multiplier[LOOPS + 1];
+static size_t n, m;
+static uint16_t list[LENGTH + 1];
+static size_t list_length;
+static rolkeyda_reply reply;
+
+static void read_blocks(void)
+{
+    reply = rolkeyda_read_blocks((const uint8_t *)text, text_length, header_row, cost, n, loops, n, first, n, second, n, figure, n);
+}
+
+static void read_loops(void)
+{
+    reply = rolkeyda_read_loops((const uint8_t *)text, text_length, header_row, parent, m, header, m, limit, m, multiplier, m);
+}
+
+static void check(void)
+{
+    reply = rolkeyda_check(cost, n, loops, n, first, n, second, n, figure, n, parent, m, header, m, limit, m, multiplier, m);
+}
+
+static void walk(void)
+{
+    reply = rolkeyda_walk(cost, n, loops, n, first, n, second, n, figure, n, parent, m, header, m, limit, m, multiplier, m, list, list_length);
+}
+
+struct function {
+    const char *name;
+    void (*call)(void);
+    size_t stated;
+    size_t first;
+    size_t again;
+};
+
+static struct function functions[] = {
+    {"rolkeyda_read_blocks", read_blocks, ROLKEYDA_STACK_READ_BLOCKS, 0, 0},
+    {"rolkeyda_read_loops", read_loops, ROLKEYDA_STACK_READ_LOOPS, 0, 0},
+    {"rolkeyda_check", check, ROLKEYDA_STACK_CHECK, 0, 0},
+    {"rolkeyda_walk", walk, ROLKEYDA_STACK_WALK, 0, 0},
+};
+enum { READ_BLOCKS, READ_LOOPS, CHECK, WALK };
+
+/* What a process of a call hands back: the reply, and the stack of a first call and of the next. */
+static struct outcome {
+    rolkeyda_reply reply;
+    size_t first, again;
+} *outcome;
+
+static unsigned passed, failed;
+
+static void stop(const char *what)
+{
+    perror(what);
+    printf("%u passed, %u failed\n", passed, failed + 1);
+    exit(1);
+}
+
+/* A stack of `size` bytes, right above its guard. */
+static unsigned char *make_stack(size_t size)
+{
+    unsigned char *low = mmap(NULL, GUARD + size, PROT_READ | PROT_WRITE, MAP_PRIVATE | MAP_ANONYMOUS, -1, 0);
+    if (low == MAP_FAILED || mprotect(low, GUARD, PROT_NONE) != 0)
+        stop("a stack");
+    return low + GUARD;
+}
+
+/* Calls a function on the stack of `size` bytes at `stack`. */
+static void call_on(unsigned char *stack, size_t size, void (*call)(void))
+{
+    static ucontext_t here, there;
+    if (getcontext(&there) != 0)
+        stop("getcontext");
+    there.uc_stack.ss_sp = stack;
+    there.uc_stack.ss_size = size;
+    there.uc_link = &here;
+    makecontext(&there, call, 0);
+    if (swapcontext(&here, &there) != 0)
+        stop("swapcontext");
+}
+
+static void paint(void *memory, size_t size)
+{
+    for (size_t i = 0; i < size; i++)
+        ((unsigned char *)memory)[i] = PAINT;
+}
+
+/* The bytes of stack that a call uses. */
+static size_t used_by(void (*call)(void))
+{
+    static unsigned char *stack;
+    if (stack == NULL)
+        stack = make_stack(LARGE);
+    paint(stack, LARGE);
+    call_on(stack, LARGE, call);
+    size_t untouched = 0;
+    while (untouched < LARGE && stack[untouched] == PAINT)
+        untouched++;
+    return LARGE - untouched;
+}
+
+static void measure(const struct function *function)
+{
+    outcome->first = used_by(function->call);
+    outcome->again = used_by(function->call);
+}
+
+static void run_on_stated(const struct function *function)
+{
+    call_on(make_stack(function->stated), function->stated, function->call);
+}
+
+/* Whether a function, run by `how` in a process of its own, ends and gives the wanted reply. */
+static bool replies(void (*how)(const struct function *), const struct function *function, rolkeyda_reply wanted)
+{
+    paint(outcome, sizeof *outcome);
+    paint(&reply, sizeof reply);
+    fflush(stdout);
+    pid_t child = fork();
+    if (child < 0)
+        stop("fork");
+    if (child == 0) {
+        how(function);
+        outcome->reply = reply;
+        _exit(0);
+    }
+    int status;
+    if (waitpid(child, &status, 0) != child)
+        stop("waitpid");
+    rolkeyda_reply got = outcome->reply;
+    return WIFEXITED(status) && WEXITSTATUS(status) == 0 && got.number == wanted.number && got.place == wanted.place
+        && got.value == wanted.value && got.more == wanted.more;
+}
+
+/* Tries the input with a function: its reply, the measured stack and a run on the stated one. */
+static void try(int which, const char *name, rolkeyda_reply wanted)
+{
+    struct function *function = &functions[which];
+    if (!replies(measure, function, wanted)) {
+        failed++;
+        printf("FAILED %s, %s: the reply is %" PRIu32 " %" PRIu32 " %" PRId64 " %" PRIu64 "\n", function->name, name,
+            outcome->reply.number, outcome->reply.place, outcome->reply.value, outcome->reply.more);
+        return;
+    }
+    size_t first = outcome->first, again = outcome->again;
+    if (first > function->first)
+        function->first = first;
+    if (again > function->again)
+        function->again = again;
+    if (first + HEADROOM > function->stated || again + HEADROOM > function->stated) {
+        failed++;
+        printf("FAILED %s, %s: %zu bytes of stack (%zu at the first call) and %u of headroom, where %zu are stated\n", function->name, name,
+            again, first, HEADROOM, function->stated);
+    } else if (!replies(run_on_stated, function, wanted)) {
+        failed++;
+        printf("FAILED %s, %s: a fault or another reply on a stack of %zu bytes\n", function->name, name, function->stated);
+    } else {
+        passed++;
+    }
+}
+
+static void accepted(int which, const char *name, int64_t value, uint64_t more)
+{
+    try(which, name, (rolkeyda_reply){0, 0, value, more});
+}
+
+static void refused(int which, const char *name, uint32_t number, uint32_t place)
+{
+    try(which, name, (rolkeyda_reply){number, place, 0, 0});
+}
+
+/* Starts an empty text. */
+static void start(bool with_header_row)
+{
+    header_row = with_header_row;
+    text_length = 0;
+    n = BLOCKS;
+    m = LOOPS;
+}
+
+static void add(const char *part)
+{
+    for (size_t i = 0; part[i] != '\0' && text_length < sizeof text; i++)
+        text[text_length++] = part[i];
+}
+
+static void add_bytes(char byte, size_t count)
+{
+    for (size_t i = 0; i < count; i++)
+        text[text_length++] = byte;
+}
+
+static void fill(char byte, size_t length)
+{
+    text_length = 0;
+    add_bytes(byte, length);
+}
+
+/* `count` rows, numbered from 0, each with the same fields after its number. */
+static void rows(unsigned count, const char *rest)
+{
+    char row[256];
+    for (unsigned i = 0; i < count; i++) {
+        snprintf(row, sizeof row, "%u,%s\r\n", i, rest);
+        add(row);
+    }
+}
+
+/* A record of quoted fields, each as long as a field may be with its two quote marks. Inside, one byte is repeated. */
+static void quoted_record(int fields, char byte)
+{
+    for (int i = 0; i < fields; i++) {
+        add(i == 0 ? "\"" : ",\"");
+        add_bytes(byte, FIELD - 2);
+        add("\"");
+    }
+    add("\r\n");
+}
+
+/* `count` of the widest rows, below a header of that many bytes that the text has its greatest length. */
+static void longest_text(unsigned count, int fields, const char *wide)
+{
+    start(true);
+    rows(count, wide);
+    size_t left = BYTES - text_length - (size_t)fields - 1;
+    text_length = 0;
+    for (int i = 0; i < fields; i++) {
+        size_t part = left < FIELD ? left : FIELD;
+        left -= part;
+        add_bytes('h', part);
+        add(i + 1 < fields ? "," : "\r\n");
+    }
+    rows(count, wide);
+}
+
+/* The accepted texts of a table: its longest fields, all its rows, one row. */
+static void accepted_texts(int which, unsigned most, int fields, const char *plain, const char *quoted)
+{
+    start(true);
+    quoted_record(fields, '"');
+    rows(most, quoted);
+    accepted(which, "all rows quoted, below a header of quote marks", most, 0);
+    start(true);
+    quoted_record(fields, 'x');
+    rows(most, plain);
+    accepted(which, "all rows, below a header of 64 bytes in each field", most, 0);
+    start(false);
+    rows(1, plain);
+    accepted(which, "one row", 1, 0);
+}
+
+/* A text of one byte, and the same with a quote mark in front. */
+static void uniform_texts(int which)
+{
+    start(false);
+    fill('0', BYTES + 1);
+    refused(which, "a text of 65,537 bytes", 101, 0);
+    fill('"', BYTES);
+    refused(which, "65,536 quote marks", 102, 1);
+    fill('\n', BYTES);
+    refused(which, "65,536 line feeds", 102, 1);
+    fill(',', BYTES);
+    refused(which, "65,536 commas", 103, 1);
+    fill('x', BYTES);
+    text[0] = '"';
+    refused(which, "a quote that is never closed", 102, 1);
+    header_row = true;
+    refused(which, "a quote that is never closed, in the header", 102, 1);
+}
+
+/* Refusals in the last field or after the last row. */
+static void refused_texts(int which, unsigned most, int fields, const char *plain, const char *quoted)
+{
+    start(true);
+    while (text_length + 6 * (FIELD + 1) + 1 <= BYTES)
+        quoted_record(fields, '1');
+    refused(which, "numbers of 62 digits in quotes", 104, 2);
+    start(false);
+    rows(most, plain);
+    for (int i = 1; i < fields; i++)
+        add(",");
+    add("\"");
+    add_bytes('0', FIELD);
+    refused(which, "too long a quoted field after all rows", 102, most + 1);
+    start(false);
+    rows(most, plain);
+    add("x");
+    refused(which, "one field after all rows", 103, most + 1);
+    start(false);
+    rows(most, quoted);
+    quoted_record(fields, '"');
+    refused(which, "quote marks for numbers after all rows", 104, most + 1);
+    start(false);
+    rows(most, quoted);
+    rows(1, quoted);
+    refused(which, "row 0 after all rows", 105, most + 1);
+    start(false);
+    rows(most + 1, quoted);
+    refused(which, "one row more", 106, most + 1);
+    start(false);
+    rows(most, plain);
+    n = m = most - 1;
+    refused(which, "one place less", 106, most);
+}
+
+static void texts(int which, unsigned most, int fields, const char *plain, const char *quoted)
+{
+    accepted_texts(which, most, fields, plain, quoted);
+    uniform_texts(which);
+    refused_texts(which, most, fields, plain, quoted);
+}
+
+static void readers(void)
+{
+    texts(READ_BLOCKS, BLOCKS, 6, "1,0,,,5", "\"1000000\",\"63\",\"1023\",\"\",\"-4\"");
+    longest_text(1008, 6, "\"4294967295\",\"65535\",\"65534\",\"65534\",\"-9223372036854775808\"");
+    accepted(READ_BLOCKS, "65,536 bytes", 1008, 0);
+    texts(READ_LOOPS, LOOPS, 5, "0,0,1,0", "\"65535\",\"65535\",\"4294967295\",\"18446744073709551615\"");
+}
+
+/*
+ * The largest tables: 1,024 blocks of cost 1, one after another. Block l is the header of loop l, and the loops are nested 16 deep.
+ */
+static void largest_tables(void)
+{
+    n = BLOCKS;
+    m = LOOPS;
+    for (size_t u = 0; u < n; u++) {
+        cost[u] = 1;
+        loops[u] = u < m ? (uint16_t)u : 0;
+        first[u] = u + 1 < n ? (uint16_t)(u + 1) : ROLKEYDA_MISSING;
+        second[u] = ROLKEYDA_MISSING;
+        figure[u] = (int64_t)(n - 1 - u);
+    }
+    for (size_t l = 0; l < m; l++) {
+        parent[l] = l % 15 == 1 || l == 0 ? 0 : (uint16_t)(l - 1);
+        header[l] = (uint16_t)l;
+        limit[l] = l == 0 ? 1 : 65535;
+        multiplier[l] = 0;
+    }
+}
+
+static void checks(void)
+{
+    largest_tables();
+    accepted(CHECK, "the largest tables", BLOCKS, 0);
+    n = BLOCKS + 1;
+    refused(CHECK, "one block more", 201, 0);
+    largest_tables();
+    limit[LOOPS - 1] = 0;
+    refused(CHECK, "a limit of 0 in the last loop", 202, LOOPS - 1);
+    largest_tables();
+    cost[BLOCKS - 1] = 1000001;
+    refused(CHECK, "too large a cost in the last block", 203, BLOCKS - 1);
+    largest_tables();
+    header[LOOPS - 1] = BLOCKS - 1;
+    refused(CHECK, "the last header outside its loop", 204, LOOPS - 1);
+    largest_tables();
+    for (uint16_t l = LOOPS - 16; l < LOOPS; l++)
+        parent[l] = l == LOOPS - 16 ? 0 : l - 1;
+    refused(CHECK, "17 deep in the last loop", 205, LOOPS - 1);
+    largest_tables();
+    second[BLOCKS - 1] = 1;
+    refused(CHECK, "an edge from the exit", 206, BLOCKS - 1);
+    largest_tables();
+    second[BLOCKS - 2] = 15;
+    refused(CHECK, "an edge past 14 headers", 207, BLOCKS - 2);
+    largest_tables();
+    figure[BLOCKS - 2] = 0;
+    refused(CHECK, "too small a figure in the last block but one", 208, BLOCKS - 2);
+}
+
+/*
+ * A walk of `length` blocks from entry to exit over the largest tables, with edges from block 2 to itself and from block 3 back to block 1:
+ * rounds of 1, 2 (again and again) and 3, then 4 and so on.
+ */
+static void long_walk(size_t length)
+{
+    size_t rest = length - (BLOCKS - 4), stay = 0, last = 0;
+    largest_tables();
+    second[2] = 2;
+    second[3] = 1;
+    list[0] = 0;
+    for (size_t i = 1; i < rest; i++) {
+        bool enough = stay == 60000 || i + 1 == rest;
+        list[i] = last == 0 || last == 3 ? 1 : last == 1 ? 2 : enough ? 3 : 2;
+        stay = list[i] == 2 ? stay + 1 : 0;
+        last = list[i];
+    }
+    for (size_t i = rest; i < length; i++)
+        list[i] = (uint16_t)(4 + i - rest);
+    list_length = length;
+}
+
+static void walks(void)
+{
+    long_walk(LENGTH);
+    accepted(WALK, "1,048,576 blocks", LENGTH, LENGTH - 1);
+    list_length = LENGTH - 1;
+    refused(WALK, "the exit left out", 314, LENGTH - 1);
+    list_length = LENGTH + 1;
+    refused(WALK, "1,048,577 blocks", 301, 0);
+    list_length = 0;
+    refused(WALK, "no block", 301, 0);
+    long_walk(LENGTH);
+    list[LENGTH - 1] = ROLKEYDA_MISSING;
+    refused(WALK, "no such block at the end", 302, LENGTH - 1);
+    list[LENGTH - 1] = 0;
+    refused(WALK, "no such edge at the end", 312, LENGTH - 1);
+    list[0] = 1;
+    refused(WALK, "a start at block 1", 303, 0);
+    long_walk(LENGTH - 1);
+    list[LENGTH - 1] = 0;
+    list_length = LENGTH;
+    refused(WALK, "a block after the exit", 311, LENGTH - 1);
+    for (size_t i = 2; i < LENGTH; i++)
+        list[i] = 2;
+    refused(WALK, "65,536 visits in one stay", 313, 65537);
+    limit[LOOPS - 1] = 0;
+    refused(WALK, "a limit of 0 in the last loop", 202, LOOPS - 1);
+    largest_tables();
+    second[BLOCKS - 2] = 15;
+    refused(WALK, "an edge past 14 headers", 207, BLOCKS - 2);
+}
+
+int main(void)
+{
+    outcome = mmap(NULL, sizeof *outcome, PROT_READ | PROT_WRITE, MAP_SHARED | MAP_ANONYMOUS, -1, 0);
+    if (outcome == MAP_FAILED)
+        stop("an outcome");
+    readers();
+    checks();
+    walks();
+    for (size_t i = 0; i < sizeof functions / sizeof functions[0]; i++) {
+        const struct function *function = &functions[i];
+        printf("%-20s %6zu bytes of stack measured, %6zu at the first call, %6zu stated\n", function->name, function->again, function->first,
+            function->stated);
+    }
+    printf("%u passed, %u failed\n", passed, failed);
+    return failed == 0 ? 0 : 1;
+}
