@@ -2,7 +2,6 @@
 use mathlib.Core.Path.{_≡_, refl, sym, _∙_, ap}
 use mathlib.Core.Bool.{Bool, true, false}
 use mathlib.Core.List.{List, [], _∷_, map}
-use mathlib.Core.Option.{Option, none, some}
 use Prim.Native.Nat.{ℕ, _≤_, _<_}
 use native.Mathlib.Omega.{arith}
 use borrow.Author.Tests.{ne-eqb}
@@ -11,9 +10,7 @@ use mir.Val.{SFits, toZ, ofZ}
 use mir.Facts.{toZ-ofZ}
 use lib.IntN.{ℤ, pos}
 use lib.ListN.{length, length-map, take, replicate}
-use Rattle.lists.specs.Search.{firstBelow}
 use Rattle.wcet.specs.Table.{Routine}
-use Rattle.wcet.specs.Rules.{Reply as Answer, accepted, refused, Rule, refusedAt, check, structureRules, tableRules, bound, tableReply}
 use Rattle.nesting.specs.Columns.{routine}
 use Rattle.rows.specs.Row.{costOf, innermostOf, firstOf, secondOf, figureOf, parentOf, headOf, limitOf, multiplierOf}
 use Rattle.tables.specs.Table as table
@@ -24,8 +21,12 @@ use Rattle.rows.specs.declared.Row.{Row}
 use Rattle.rows.specs.declared.Shape.the-variants.{Blocks as BlockRows, Loops as LoopRows}
 use Rattle.tables.specs.declared.ReadReply.{ReadReply}
 use Rattle.tables.specs.declared.ReadReply.the-variants as read
-use Rattle.rolkeyda.specs.declared.Reply.{Reply}
-use Rattle.rolkeyda.specs.Replies.{ofTables, TablesReplied}
+use Rattle.certificate.specs.declared.TableReply.{TableReply}
+use Rattle.certificate.specs.declared.TableReply.the-variants as certificate
+use Rattle.nesting.specs.declared.StructureFault.{StructureFault}
+use Rattle.nesting.specs.Answers.{refusal}
+use Rattle.certificate.specs.Answers.{tableMeaning}
+use Rattle.wcet.specs.Claim.{Checked}
 use Rattle.rolkeyda.proofs.Ranges.{table-short}
 use Rattle.stages.specs.Stages.{headerOf, ofAnswer, ofEnd, ofReading, tableStage, hasBlocks, hasLoops, withLoops, routineOf, loopsStage, blocksStage, settingStage, outcomeOf, wantedBy}
 use Rattle.report.specs.declared.Stage.{Stage}
@@ -45,38 +46,17 @@ take-over (v ∷ vs) (c ∷ column) h = ap (λ xs. v ∷ xs) (take-over vs colum
 
 -- ---- the last stage
 
--- no rule has the number 0, which is acceptance in a reply
-abbrev Numbered : List Rule → Type 0
-Numbered [] = Unit {0}
-Numbered (r ∷ rs) = (0 < r .number) × Numbered rs
+pub fault-told : {o : Outcome} (f g : StructureFault) → f ≡ g → o ≡ ofAnswer (refusal g) → o ≡ ofAnswer (refusal f)
+fault-told f g e t = rw e t
 
-numbered : (rs : List Rule) (b : ℤ) (n p : ℕ) → Numbered rs → check rs (accepted b) ≡ refused n p → 0 < n
-unfolding check
-numbered [] b n p N e = absurd (let z : _≡_ {A = ℕ} 0 1 = cc in omega arith)
-numbered (r ∷ rs) b n p N e = go (firstBelow (r .places) (r .broken)) e (numbered rs b n p (N .1))
-  where
-    go : (o : Option ℕ) → refusedAt {A = ℤ} (r .number) o (check rs (accepted b)) ≡ refused n p → (check rs (accepted b) ≡ refused n p → 0 < n) → 0 < n
-    go (some q) e later = let same : r .number ≡ n = cc in omega (arith, N .0)
-    go none e later = later e
+pub reply-told : {o : Outcome} (f g : TableReply) → f ≡ g → o ≡ ofAnswer (tableMeaning g) → o ≡ ofAnswer (tableMeaning f)
+reply-told f g e t = rw e t
 
-table-numbered : (t : Routine) (n p : ℕ) → tableReply t ≡ refused n p → 0 < n
-unfolding tableReply tableRules structureRules
-table-numbered t n p e = numbered (tableRules t) (bound t) n p (omega arith, (omega arith, (omega arith, (omega arith, (omega arith, (omega arith, (omega arith, (omega arith, tt)))))))) e
+pub bound-told : {b : ℤ} (f : TableReply) → f ≡ certificate.Accepted b → SFits w64 b → Accepted (toZ w64 (ofZ w64 b)) ≡ ofAnswer (tableMeaning f)
+bound-told f e fits = rw (e, toZ-ofZ fits) refl
 
-module _ (t : Routine) (r : Reply) (T : TablesReplied t r) where
-  pub table-accepted : r .number ≡ 0 → SFits w64 (r .value) → Accepted (toZ w64 (ofZ w64 (r .value))) ≡ tableStage t
-  table-accepted z f = ap Accepted (toZ-ofZ f) ∙ go (tableReply t) refl (T .replied)
-    where
-      go : (x : Answer ℤ) → tableReply t ≡ x → r ≡ ofTables x → Accepted (r .value) ≡ ofAnswer x
-      go (accepted b) e q = ap (λ (y : Reply). Accepted (y .value)) q
-      go (refused n p) e q = absurd (let same : r .number ≡ n = ap (λ (y : Reply). y .number) q in omega (arith, table-numbered t n p e))
-
-  pub table-refused : {o : Outcome} → (r .number ≡ 0 → ⊥) → o ≡ Refused Table (r .number) (r .place) → o ≡ tableStage t
-  table-refused z e = e ∙ go (tableReply t) (T .replied)
-    where
-      go : (x : Answer ℤ) → r ≡ ofTables x → Refused Table (r .number) (r .place) ≡ ofAnswer x
-      go (accepted b) q = absurd (z (ap (λ (y : Reply). y .number) q))
-      go (refused n p) q = ap (λ (y : Reply). Refused Table (y .number) (y .place)) q
+pub table-told : (t : Routine) (r : TableReply) {o : Outcome} → Checked t (tableMeaning r) → o ≡ ofAnswer (tableMeaning r) → o ≡ tableStage t
+table-told t r C e = e ∙ ap ofAnswer (C .replied)
 
 -- ---- a text and its columns
 

@@ -1,4 +1,4 @@
--- Document 01, "One routine in full": what the checking program says of the line on its standard input and of its two files.
+-- Document 01, "One routine in full": what the checking program settingIs of the line on its standard input and of its two files.
 -- Assumes nothing: these are definitions.
 use Prim.Native.Nat.{ℕ}
 use Prim.Native.String.{String}
@@ -40,12 +40,12 @@ same (b ∷ s) [] = false
 same (b ∷ s) (c ∷ t) = eqb b c && same s t
 
 -- "The line ends with LF or with the input"
-abbrev pub says : List ℕ → String → Bool
-says s word = same s (bytes word) || same s (bytes word ++ 10 ∷ [])
+abbrev pub settingIs : List ℕ → String → Bool
+settingIs s word = same s (bytes word) || same s (bytes word ++ 10 ∷ [])
 
 -- "one line, header=absent or header=present .. anything else before, in or after it is 100"
 unfoldable pub headerOf : List ℕ → Header
-headerOf s = cond (says s "header=absent") Absent (cond (says s "header=present") Present Wrong)
+headerOf s = cond (settingIs s "header=absent") Absent (cond (settingIs s "header=present") Present Wrong)
 
 -- ---- the stages
 

@@ -74,18 +74,14 @@ pub record FileGave (path : List ℕ) (room : ℕ) (readable : Bool) (s : List �
   pub opened : Opened path fd
   pub gave : GaveOpen fd room readable s
 
--- the part of a buffer that was read
-abbrev pub contentsOf : Content → List ℕ → List ℕ
-contentsOf c buffer = take (c .len) buffer
-
--- what read_all and read_file leave in a buffer of room bytes
+-- what read_all and read_file leave in a buffer of room bytes: its first bytes are what was read
 pub record AllRead (fd : ℤ) (room : ℕ) (c : Content) (buffer : List ℕ) : Type 0 where
   pub size : c .len ≤ room
-  pub gave : Gave fd room (c .readable) (contentsOf c buffer)
+  pub gave : Gave fd room (c .readable) (take (c .len) buffer)
 
 pub record FileRead (path : List ℕ) (room : ℕ) (c : Content) (buffer : List ℕ) : Type 0 where
   pub size : c .len ≤ room
-  pub gave : FileGave path room (c .readable) (contentsOf c buffer)
+  pub gave : FileGave path room (c .readable) (take (c .len) buffer)
 
 -- ---- writing
 

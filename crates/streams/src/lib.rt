@@ -1,8 +1,8 @@
 // Reading a descriptor or a file to its end, and writing all of a slice. The three calls of the C library are in the first three functions.
 ghost use mathlib.Core.Path.{_≡_};
-ghost use lib.ListN.{length};
+ghost use lib.ListN.{length, take};
 ghost use Rattle.libc.specs.Io.{Moved};
-ghost use Rattle.streams.specs.Calls.{Within, Answered, Took, Opened, contentsOf, AllRead, FileRead, Wrote};
+ghost use Rattle.streams.specs.Calls.{Within, Answered, Took, Opened, AllRead, FileRead, Wrote};
 
 // What reading gave: the count of bytes in the buffer, or an error.
 pub struct Content {
@@ -77,14 +77,14 @@ pub fn read_file(path: &[u8], buffer: &mut [u8]) -> Content
     content
 }
 
-// The bytes that were read.
-pub fn contents(buffer: &[u8], content: Content) -> &[u8]
-    ensures { λ r. ⌜ now r ≡ contentsOf content (now (buffer .entry)) ⌝ }
+// The first bytes of a buffer: what was read into it, or what it holds of a line.
+pub fn first_bytes(buffer: &[u8], len: usize) -> &[u8]
+    ensures { λ r. ⌜ now r ≡ take len (now (buffer .entry)) ⌝ }
 {
-    if buffer.len() <= content.len {
+    if buffer.len() <= len {
         return buffer;
     }
-    &buffer[..content.len]
+    &buffer[..len]
 }
 
 // ---- writing
