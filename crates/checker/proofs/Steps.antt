@@ -1,0 +1,112 @@
+-- The steps of the program: a file that is not wanted, one that cannot be read, one that is read. Assumes nothing.
+use mathlib.Core.Path.{_≡_, refl, sym, _∙_, ap}
+use mathlib.Core.Bool.{Bool, true, false}
+use mathlib.Core.List.{List, [], _∷_, _++_}
+use mathlib.Core.Logic.{_⊎_, inl, inr}
+use Prim.Native.Nat.{ℕ}
+use native.Mathlib.Omega.{arith}
+use denote.Enum.Declared.{tagOf}
+use lib.IntN.{ℤ, pos}
+use lib.ListN.{take}
+use Rattle.streams.specs.Calls.{Gave, FileGave, FileRead, AllRead, Wrote}
+use Rattle.streams.specs.declared.Content.{Content}
+use Rattle.report.specs.Line.{bytes, lineOf, textOf, Ready}
+use Rattle.report.specs.declared.Outcome.{Outcome}
+use Rattle.report.specs.declared.Line.{Line}
+use Rattle.stages.specs.Stages.{headerOf, blocksStage, settingStage, outcomeOf, wantedBy}
+use Rattle.stages.specs.declared.Header.{Header}
+use Rattle.stages.specs.declared.Header.the-variants.{Absent, Present, Wrong}
+use Rattle.stages.specs.declared.Files.the-variants.{Neither, Blocks as OnlyBlocks, Both}
+use Rattle.stages.specs.declared.Wanted.{Wanted}
+use Rattle.stages.specs.declared.Wanted.the-variants.{Nothing, Blocks as BlockFile, Loops as LoopFile}
+use Rattle.stages.proofs.Whole.{in-turn}
+use Rattle.stages.proofs.Wanted.{the-type}
+use Rattle.checker.specs.Program.{settingRoom, textRoom, isBlocks, isLoops, wantsBlocks, wantsLoops, Came, filesOf, LoopsJudged, FilesJudged, InputJudged, failure, Complained, Ran}
+
+-- ---- which file is wanted
+
+not-loops : (w : Wanted) → (tagOf the-type w ≡ 0) ⊎ (tagOf the-type w ≡ 1) → isLoops w ≡ false
+not-loops Nothing h = refl
+not-loops BlockFile h = refl
+not-loops LoopFile (inl e) = absurd (omega arith)
+not-loops LoopFile (inr e) = absurd (omega arith)
+
+not-blocks : (w : Wanted) → (tagOf the-type w ≡ 0) ⊎ (tagOf the-type w ≡ 2) → isBlocks w ≡ false
+not-blocks Nothing h = refl
+not-blocks BlockFile (inl e) = absurd (omega arith)
+not-blocks BlockFile (inr e) = absurd (omega arith)
+not-blocks LoopFile h = refl
+
+-- with no file, the loops are not wanted
+no-loops-yet : (setting blocks : List ℕ) → wantsLoops (outcomeOf setting Neither blocks []) ≡ false
+unfolding outcomeOf blocksStage
+no-loops-yet setting blocks = go (headerOf setting)
+  where
+    go : (h : Header) → wantsLoops (settingStage h Neither blocks []) ≡ false
+    go Absent = refl
+    go Present = refl
+    go Wrong = refl
+
+unwanted : (path : List ℕ) {wanted : Bool} → wanted ≡ false → Came path wanted false []
+unwanted path e = rw e (refl, refl)
+
+wanted : (path : List ℕ) {wanted readable : Bool} {s : List ℕ} → wanted ≡ true → FileGave path textRoom readable s → Came path wanted readable s
+wanted path e F = rw e F
+
+-- ---- the loops file
+
+module _ (setting blocks : List ℕ) {o : Outcome} (e : o ≡ outcomeOf setting OnlyBlocks blocks []) {w : Wanted} (v : w ≡ wantedBy o) where
+  same-want : isLoops w ≡ wantsLoops (outcomeOf setting OnlyBlocks blocks [])
+  same-want = ap isLoops (v ∙ ap wantedBy e)
+
+  pub loops-unwanted : (tagOf the-type w ≡ 0) ⊎ (tagOf the-type w ≡ 1) → LoopsJudged setting blocks o
+  loops-unwanted h = record { readable = false; loops = []; came = unwanted (bytes "loops.csv") (sym same-want ∙ not-loops w h); outcome = e }
+
+  module _ (f : w ≡ LoopFile) (c : Content) (text : List ℕ) (F : FileRead (bytes "loops.csv") textRoom c text) where
+    came : (readable : Bool) → c .readable ≡ readable → Came (bytes "loops.csv") (wantsLoops (outcomeOf setting OnlyBlocks blocks [])) readable (take (c .len) text)
+    came readable r = wanted (bytes "loops.csv") (sym same-want ∙ ap isLoops f) (rw r at (F .gave))
+
+    pub loops-unread : c .readable ≡ false → LoopsJudged setting blocks o
+    loops-unread r = record { readable = false; loops = take (c .len) text; came = came false r; outcome = e ∙ sym (in-turn setting blocks (take (c .len) text) .no-loops) }
+
+    pub loops-read : {p : Outcome} {loops : List ℕ} → c .readable ≡ true → loops ≡ take (c .len) text → p ≡ outcomeOf setting Both blocks loops → LoopsJudged setting blocks p
+    loops-read {p} r l q = record { readable = true; loops = take (c .len) text; came = came true r; outcome = rw l at q }
+
+-- ---- the blocks file
+
+module _ (setting : List ℕ) {o : Outcome} (e : o ≡ outcomeOf setting Neither [] []) {w : Wanted} (v : w ≡ wantedBy o) where
+  same-file : isBlocks w ≡ wantsBlocks (outcomeOf setting Neither [] [])
+  same-file = ap isBlocks (v ∙ ap wantedBy e)
+
+  pub blocks-unwanted : (tagOf the-type w ≡ 0) ⊎ (tagOf the-type w ≡ 2) → FilesJudged setting o
+  blocks-unwanted h = record { has-blocks = false; blocks = []; has-loops = false; loops = []; blocks-came = unwanted (bytes "blocks.csv") (sym same-file ∙ not-blocks w h); loops-came = unwanted (bytes "loops.csv") (no-loops-yet setting []); outcome = e }
+
+  module _ (f : w ≡ BlockFile) (c : Content) (text : List ℕ) (F : FileRead (bytes "blocks.csv") textRoom c text) where
+    blocks-came : (readable : Bool) → c .readable ≡ readable → Came (bytes "blocks.csv") (wantsBlocks (outcomeOf setting Neither [] [])) readable (take (c .len) text)
+    blocks-came readable r = wanted (bytes "blocks.csv") (sym same-file ∙ ap isBlocks f) (rw r at (F .gave))
+
+    pub blocks-unread : c .readable ≡ false → FilesJudged setting o
+    blocks-unread r = record { has-blocks = false; blocks = take (c .len) text; has-loops = false; loops = []; blocks-came = blocks-came false r; loops-came = unwanted (bytes "loops.csv") (no-loops-yet setting (take (c .len) text)); outcome = e ∙ sym (in-turn setting (take (c .len) text) [] .no-blocks) }
+
+    pub blocks-read : {p : Outcome} {blocks : List ℕ} → c .readable ≡ true → blocks ≡ take (c .len) text → LoopsJudged setting blocks p → FilesJudged setting p
+    blocks-read {p} r l L =
+        let J : LoopsJudged setting (take (c .len) text) p = rw l at L in
+        record { has-blocks = true; blocks = take (c .len) text; has-loops = J .readable; loops = J .loops; blocks-came = blocks-came true r; loops-came = J .came; outcome = J .outcome }
+
+-- ---- the whole
+
+pub input-judged : (c : Content) (line : List ℕ) {setting : List ℕ} {o : Outcome} → AllRead (pos 0) settingRoom c line → setting ≡ take (c .len) line → FilesJudged setting o → InputJudged o
+input-judged c line {setting} A e F = record { readable = c .readable; setting = setting; said = rw e (A .gave); files = F }
+
+pub line-printed : (l : Line) {s : List ℕ} {r : Bool} → s ≡ textOf l → Wrote (pos 1) s r → Wrote (pos 1) (textOf l) r
+line-printed l e W = rw e at W
+
+module _ {o : Outcome} (J : InputJudged o) (l : Line) (R : Ready (lineOf o) l) where
+  printed : {r : Bool} → Wrote (pos 1) (textOf l) r → Wrote (pos 1) (lineOf o) r
+  printed W = rw (R .text) at W
+
+  pub ran : {r : Bool} → Wrote (pos 1) (textOf l) r → r ≡ true → Ran r
+  ran W t = record { outcome = o; judged = J; printed = printed W; complained = λ f. absurd (let z : _≡_ {A = ℕ} 0 1 = cc in omega arith) }
+
+  pub ran-badly : {r q : Bool} → Wrote (pos 1) (textOf l) r → Wrote (pos 2) failure q → Ran r
+  ran-badly {r} {q} W C = record { outcome = o; judged = J; printed = printed W; complained = λ f. record { written = q; printed = C } }
