@@ -2,7 +2,7 @@
 ghost use Rattle.checker.specs.Program.{LoopsJudged, FilesJudged, InputJudged, Ran};
 ghost use lib.IntN.{pos};
 ghost use Rattle.report.specs.Line.{textOf};
-ghost use Rattle.streams.specs.Calls.{Wrote};
+ghost use Rattle.streams.specs.Calls.{Written};
 use libc::STDERR_FILENO;
 use libc::STDIN_FILENO;
 use libc::STDOUT_FILENO;
@@ -29,7 +29,7 @@ fn with_loops(setting: &[u8], blocks: &[u8]) -> Outcome
     if !content.readable {
         return outcome;
     }
-    let loops = streams::first_bytes(&text, content.len);
+    let loops = streams::prefix(&text, content.len);
     stages::outcome_of(setting, Files::Both, blocks, loops)
 }
 
@@ -46,7 +46,7 @@ fn with_files(setting: &[u8]) -> Outcome
     if !content.readable {
         return outcome;
     }
-    with_loops(setting, streams::first_bytes(&text, content.len))
+    with_loops(setting, streams::prefix(&text, content.len))
 }
 
 fn judged() -> Outcome
@@ -54,15 +54,15 @@ fn judged() -> Outcome
 {
     let mut line = [0u8; SETTING_ROOM];
     let content = streams::read_all(STDIN_FILENO, &mut line);
-    with_files(streams::first_bytes(&line, content.len))
+    with_files(streams::prefix(&line, content.len))
 }
 
 fn print(line: Line) -> bool
-    ensures { λ r. ⌜ Wrote (pos 1) (textOf line) r ⌝ }
+    ensures { λ r. ⌜ Written (pos 1) (textOf line) r ⌝ }
 {
     let bytes = line.bytes;
     let len = line.len;
-    streams::write_all(STDOUT_FILENO, streams::first_bytes(&bytes, len))
+    streams::write_all(STDOUT_FILENO, streams::prefix(&bytes, len))
 }
 
 // Prints the line, or says on standard error that it cannot. Returns whether the line is written.

@@ -15,7 +15,7 @@ use mir.Facts.{toZ-ofZ}
 use borrow.Rule.Slice.PartMut.{putMid, take-put, postOf}
 use Rattle.libc.specs.Io.{Moved}
 use Rattle.streams.specs.declared.Content.{Content}
-use Rattle.streams.specs.Calls.{Call, Within, Answered, Took, Opened, After, Reads, countOf, bytesOf, Gave, AllRead, FileRead, Writes, Wrote}
+use Rattle.streams.specs.Calls.{Call, Within, Answered, Took, Opened, After, ReadCalls, countOf, bytesOf, Gave, AllRead, FileRead, WriteCalls, Written}
 
 -- ---- an answer
 
@@ -50,7 +50,7 @@ bytes-one call = append-nil (take (countOf (call .answer)) (call .lent))
 pub record ReadSoFar (fd : ℤ) (room : ℕ) (buffer : List ℕ) (len : ℕ) : Type 0 where
   calls : List Call
   bytes : take len buffer ≡ bytesOf calls
-  follow : (later : List Call) (readable : Bool) → Reads fd (room - len) later readable → Reads fd room (calls ++ later) readable
+  follow : (later : List Call) (readable : Bool) → ReadCalls fd (room - len) later readable → ReadCalls fd room (calls ++ later) readable
 
 pub read-none : (fd : ℤ) (buffer : List ℕ) → ReadSoFar fd (length buffer) buffer 0
 unfolding bytesOf
@@ -65,7 +65,7 @@ free buffer len = omega (arith, length-take (length buffer - len) (drop len buff
 
 module _ (fd : ℤ) (room : ℕ) (buffer : List ℕ) (len : ℕ) (S : ReadSoFar fd room buffer len) where
   pub read-full : room ≤ len → len ≤ room → AllRead fd room (record { readable = true; len = len }) buffer
-  unfolding Reads
+  unfolding ReadCalls
   read-full h l = record { size = l; gave = record { calls = S .calls ++ []; made = S .follow [] true (omega arith, refl); text = S .bytes ∙ ap bytesOf (sym (append-nil (S .calls))) } }
 
   module _ (k : ℕ) (z : ℤ) (lent : List ℕ) (l : len ≤ length buffer) (h : len < room) (A : Answered fd (room - len) (record { answer = z; lent = lent })) where
@@ -76,7 +76,7 @@ module _ (fd : ℤ) (room : ℕ) (buffer : List ℕ) (len : ℕ) (S : ReadSoFar 
     after = putMid len k buffer lent
 
     pub read-failed : ltZ z (pos 0) ≡ true → AllRead fd room (record { readable = false; len = 0 }) after
-    unfolding Reads
+    unfolding ReadCalls
     read-failed t = go z refl A t
       where
         go : (y : ℤ) → z ≡ y → Answered fd (room - len) (record { answer = y; lent = lent }) → ltZ y (pos 0) ≡ true → AllRead fd room (record { readable = false; len = 0 }) after
@@ -84,7 +84,7 @@ module _ (fd : ℤ) (room : ℕ) (buffer : List ℕ) (len : ℕ) (S : ReadSoFar 
         go (negsuc j) e B q = record { size = omega arith; gave = record { calls = S .calls ++ record { answer = negsuc j; lent = lent } ∷ []; made = S .follow (record { answer = negsuc j; lent = lent } ∷ []) false (omega arith, B, (refl, refl)); text = refl } }
 
     pub read-ended : z ≡ pos 0 → AllRead fd room (record { readable = true; len = len }) after
-    unfolding Reads bytesOf
+    unfolding ReadCalls bytesOf
     read-ended e = record {
       size = omega arith;
       gave = record {
@@ -95,7 +95,7 @@ module _ (fd : ℤ) (room : ℕ) (buffer : List ℕ) (len : ℕ) (S : ReadSoFar 
     }
 
     pub read-more : (G : Got (room - len) z) → length lent ≡ room - len → ReadSoFar fd room after (len + G .count)
-    unfolding Reads
+    unfolding ReadCalls
     read-more G w = record {
       calls = S .calls ++ call ∷ [];
       bytes = longer ∙ sym (bytes-both (S .calls) (call ∷ []));
@@ -109,10 +109,10 @@ module _ (fd : ℤ) (room : ℕ) (buffer : List ℕ) (len : ℕ) (S : ReadSoFar 
             take-add len (G .count) after
             ∙ rw (front, rest, S .bytes, bytes-one call, G .is, take-append-le (G .count) lent (postOf len k buffer) (omega (arith, G .most, w))) refl
 
-        turn : (later : List Call) (readable : Bool) → Reads fd (room - (len + G .count)) later readable → Reads fd (room - len) (call ∷ later) readable
+        turn : (later : List Call) (readable : Bool) → ReadCalls fd (room - (len + G .count)) later readable → ReadCalls fd (room - len) (call ∷ later) readable
         turn later readable R = (omega arith, A, go (G .count) (G .is) (G .some) R)
           where
-            go : (j : ℕ) → z ≡ pos j → 0 < j → Reads fd (room - (len + j)) later readable → After z (λ (b : Bool). (later ≡ []) × (readable ≡ b)) (λ (i : ℕ). Reads fd (room - len - i) later readable)
+            go : (j : ℕ) → z ≡ pos j → 0 < j → ReadCalls fd (room - (len + j)) later readable → After z (λ (b : Bool). (later ≡ []) × (readable ≡ b)) (λ (i : ℕ). ReadCalls fd (room - len - i) later readable)
             go zero e s Q = absurd (omega arith)
             go (suc j) e s Q = let less : room - (len + suc j) ≡ room - len - suc j = omega arith in rw e (rw less at Q)
 
@@ -127,43 +127,43 @@ file-read path room c buffer (negsuc k) O t A = absurd (let z : _≡_ {A = ℕ} 
 
 -- ---- writing
 
-pub record WroteSoFar (fd : ℤ) (s : List ℕ) (done : ℕ) : Type 0 where
+pub record WrittenSoFar (fd : ℤ) (s : List ℕ) (done : ℕ) : Type 0 where
   answers : List ℤ
-  follow : (later : List ℤ) (written : Bool) → Writes fd (drop done s) later written → Writes fd s (answers ++ later) written
+  follow : (later : List ℤ) (written : Bool) → WriteCalls fd (drop done s) later written → WriteCalls fd s (answers ++ later) written
 
-pub wrote-none : (fd : ℤ) (s : List ℕ) → WroteSoFar fd s 0
+pub wrote-none : (fd : ℤ) (s : List ℕ) → WrittenSoFar fd s 0
 wrote-none fd s = record { answers = []; follow = λ later written W. W }
 
 -- what is left of the bytes
 pub left : (s : List ℕ) (done : ℕ) → take (length s - done) (drop done s) ≡ drop done s
 left s done = take-all (length s - done) (drop done s) (omega (arith, length-drop done s))
 
-module _ (fd : ℤ) (s : List ℕ) (done : ℕ) (S : WroteSoFar fd s done) where
-  pub wrote-all : length s ≤ done → Wrote fd s true
-  unfolding Writes
+module _ (fd : ℤ) (s : List ℕ) (done : ℕ) (S : WrittenSoFar fd s done) where
+  pub wrote-all : length s ≤ done → Written fd s true
+  unfolding WriteCalls
   wrote-all h = record { answers = S .answers ++ []; made = S .follow [] true (drop-of-length-le s h, refl) }
 
   module _ (z : ℤ) (h : done < length s) (T : Took fd (drop done s) z) where
-    pub wrote-failed : leZ z (pos 0) ≡ true → Wrote fd s false
-    unfolding Writes
+    pub wrote-failed : leZ z (pos 0) ≡ true → Written fd s false
+    unfolding WriteCalls
     wrote-failed t = record { answers = S .answers ++ z ∷ []; made = S .follow (z ∷ []) false (turn z T t) }
       where
-        turn : (y : ℤ) → Took fd (drop done s) y → leZ y (pos 0) ≡ true → Writes fd (drop done s) (y ∷ []) false
+        turn : (y : ℤ) → Took fd (drop done s) y → leZ y (pos 0) ≡ true → WriteCalls fd (drop done s) (y ∷ []) false
         turn (negsuc j) U q = (omega (arith, length-drop done s), U, (refl, refl))
         turn (pos zero) U q = (omega (arith, length-drop done s), U, (refl, refl))
         turn (pos (suc j)) U q = absurd (omega (arith, leb-true (suc j) 0 q))
 
-    pub wrote-more : (G : Got (length s - done) z) → WroteSoFar fd s (done + G .count)
-    unfolding Writes
+    pub wrote-more : (G : Got (length s - done) z) → WrittenSoFar fd s (done + G .count)
+    unfolding WriteCalls
     wrote-more G = record {
       answers = S .answers ++ z ∷ [];
       follow = λ later written W. rw (append-assoc (S .answers) (z ∷ []) later) (S .follow (z ∷ later) written (turn later written W));
     }
       where
-        turn : (later : List ℤ) (written : Bool) → Writes fd (drop (done + G .count) s) later written → Writes fd (drop done s) (z ∷ later) written
+        turn : (later : List ℤ) (written : Bool) → WriteCalls fd (drop (done + G .count) s) later written → WriteCalls fd (drop done s) (z ∷ later) written
         turn later written W = (omega (arith, length-drop done s), T, go (G .count) (G .is) (G .some) W)
           where
-            go : (j : ℕ) → z ≡ pos j → 0 < j → Writes fd (drop (done + j) s) later written → After z (λ (b : Bool). (later ≡ []) × (written ≡ false)) (λ (i : ℕ). Writes fd (drop i (drop done s)) later written)
+            go : (j : ℕ) → z ≡ pos j → 0 < j → WriteCalls fd (drop (done + j) s) later written → After z (λ (b : Bool). (later ≡ []) × (written ≡ false)) (λ (i : ℕ). WriteCalls fd (drop i (drop done s)) later written)
             go zero e g Q = absurd (omega arith)
             go (suc j) e g Q = rw (e, drop-drop (suc j) done s) Q
 

@@ -45,9 +45,9 @@ After (pos (suc k)) over more = more (suc k)
 -- ---- reading
 
 -- calls of read until the buffer is full, the input ends or a call fails. Each is lent the rest of the buffer.
-unfoldable pub Reads : (fd : ℤ) → (room : ℕ) → List Call → (readable : Bool) → Type 0
-Reads fd room [] readable = (room ≡ 0) × (readable ≡ true)
-Reads fd room (call ∷ calls) readable = (0 < room) × Answered fd room call × After (call .answer) (λ (b : Bool). (calls ≡ []) × (readable ≡ b)) (λ (k : ℕ). Reads fd (room - k) calls readable)
+unfoldable pub ReadCalls : (fd : ℤ) → (room : ℕ) → List Call → (readable : Bool) → Type 0
+ReadCalls fd room [] readable = (room ≡ 0) × (readable ≡ true)
+ReadCalls fd room (call ∷ calls) readable = (0 < room) × Answered fd room call × After (call .answer) (λ (b : Bool). (calls ≡ []) × (readable ≡ b)) (λ (k : ℕ). ReadCalls fd (room - k) calls readable)
 
 -- the bytes that came, those of each call after those of the call before it
 abbrev pub countOf : ℤ → ℕ
@@ -61,7 +61,7 @@ bytesOf (call ∷ calls) = take (countOf (call .answer)) (call .lent) ++ bytesOf
 -- s is what reading fd into room bytes gave. After an error nothing that came before it counts.
 pub record Gave (fd : ℤ) (room : ℕ) (readable : Bool) (s : List ℕ) : Type 0 where
   pub calls : List Call
-  pub made : Reads fd room calls readable
+  pub made : ReadCalls fd room calls readable
   pub text : s ≡ cond readable (bytesOf calls) []
 
 -- the same of a file. One that cannot be opened cannot be read.
@@ -86,11 +86,11 @@ pub record FileRead (path : List ℕ) (room : ℕ) (c : Content) (buffer : List 
 -- ---- writing
 
 -- calls of write until all bytes are taken, or until one fails or takes none. Each is lent the bytes that are left.
-unfoldable pub Writes : (fd : ℤ) → List ℕ → List ℤ → (written : Bool) → Type 0
-Writes fd s [] written = (s ≡ []) × (written ≡ true)
-Writes fd s (z ∷ zs) written = (0 < length s) × Took fd s z × After z (λ (b : Bool). (zs ≡ []) × (written ≡ false)) (λ (k : ℕ). Writes fd (drop k s) zs written)
+unfoldable pub WriteCalls : (fd : ℤ) → List ℕ → List ℤ → (written : Bool) → Type 0
+WriteCalls fd s [] written = (s ≡ []) × (written ≡ true)
+WriteCalls fd s (z ∷ zs) written = (0 < length s) × Took fd s z × After z (λ (b : Bool). (zs ≡ []) × (written ≡ false)) (λ (k : ℕ). WriteCalls fd (drop k s) zs written)
 
 -- the bytes s went to fd, all of them where `written` is true
-pub record Wrote (fd : ℤ) (s : List ℕ) (written : Bool) : Type 0 where
+pub record Written (fd : ℤ) (s : List ℕ) (written : Bool) : Type 0 where
   pub answers : List ℤ
-  pub made : Writes fd s answers written
+  pub made : WriteCalls fd s answers written

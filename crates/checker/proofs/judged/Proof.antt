@@ -11,17 +11,17 @@ slice-aggregate-read-all c = search needs
 read-all-requires : tie.Need-read-all-requires
 read-all-requires c κs = search needs
 
-slice-aggregate-first-bytes : tie.Need-slice-aggregate-first-bytes
-slice-aggregate-first-bytes c = search needs
+slice-aggregate-prefix : tie.Need-slice-aggregate-prefix
+slice-aggregate-prefix c = search needs
 
-first-bytes-requires : tie.Need-first-bytes-requires
-first-bytes-requires c κs = search needs
+prefix-requires : tie.Need-prefix-requires
+prefix-requires c κs = search needs
 
 with-files-requires : tie.Need-with-files-requires
 with-files-requires c κs = search needs
 
 returns : tie.Need-returns
-returns c = input-judged (c .before .before .before .before .read-all .result) _ (c .before .before .before .before .read-all .ensures) (c .before .first-bytes .ensures) (c .with-files .ensures)
+returns c = input-judged (c .before .before .before .before .read-all .result) _ (c .before .before .before .before .read-all .ensures) (c .before .prefix .ensures) (c .with-files .ensures)
 
 pub judged-spec : {M : Type 1} → statement M
 judged-spec =
@@ -29,7 +29,7 @@ judged-spec =
     (tie.spec
     slice-aggregate-read-all
     read-all-requires
-    slice-aggregate-first-bytes
-    first-bytes-requires
+    slice-aggregate-prefix
+    prefix-requires
     with-files-requires
     returns)

@@ -40,11 +40,11 @@ returns-2 c =
     let o = t .before .before .before in
     blocks-unread _ (o .outcome-of .ensures) (t .before .before .wanted-by .ensures) (search needs) (r .read-file .result) _ (r .read-file .ensures) (not-true _ (c .if1 .taken))
 
-slice-aggregate-first-bytes : tie.Need-slice-aggregate-first-bytes
-slice-aggregate-first-bytes c = search needs
+slice-aggregate-prefix : tie.Need-slice-aggregate-prefix
+slice-aggregate-prefix c = search needs
 
-first-bytes-requires : tie.Need-first-bytes-requires
-first-bytes-requires c κs = search needs
+prefix-requires : tie.Need-prefix-requires
+prefix-requires c κs = search needs
 
 with-loops-requires : tie.Need-with-loops-requires
 with-loops-requires c κs = search needs
@@ -55,7 +55,7 @@ returns-3 c =
     let r = e .before .before .before in
     let t = r .before .before .before in
     let o = t .before .before .before in
-    blocks-read _ (o .outcome-of .ensures) (t .before .before .wanted-by .ensures) (search needs) (r .read-file .result) _ (r .read-file .ensures) (not-false _ (e .if1 .left)) (c .before .first-bytes .ensures) (c .with-loops .ensures)
+    blocks-read _ (o .outcome-of .ensures) (t .before .before .wanted-by .ensures) (search needs) (r .read-file .result) _ (r .read-file .ensures) (not-false _ (e .if1 .left)) (c .before .prefix .ensures) (c .with-loops .ensures)
 
 pub with-files-spec : {M : Type 1} → statement M
 with-files-spec =
@@ -71,7 +71,7 @@ with-files-spec =
     slice-aggregate-read-file-2
     read-file-requires
     returns-2
-    slice-aggregate-first-bytes
-    first-bytes-requires
+    slice-aggregate-prefix
+    prefix-requires
     with-loops-requires
     returns-3)

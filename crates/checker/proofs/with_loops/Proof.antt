@@ -37,11 +37,11 @@ returns-2 c =
     let o = t .before .before .before in
     loops-unread _ _ (o .outcome-of .ensures) (t .before .before .wanted-by .ensures) (search needs) (r .read-file .result) _ (r .read-file .ensures) (not-true _ (c .if1 .taken))
 
-slice-aggregate-first-bytes : tie.Need-slice-aggregate-first-bytes
-slice-aggregate-first-bytes c = search needs
+slice-aggregate-prefix : tie.Need-slice-aggregate-prefix
+slice-aggregate-prefix c = search needs
 
-first-bytes-requires : tie.Need-first-bytes-requires
-first-bytes-requires c κs = search needs
+prefix-requires : tie.Need-prefix-requires
+prefix-requires c κs = search needs
 
 outcome-of-requires-2 : tie.Need-outcome-of-requires-2
 outcome-of-requires-2 c κs = search needs
@@ -52,7 +52,7 @@ returns-3 c =
     let r = e .before .before .before in
     let t = r .before .before .before in
     let o = t .before .before .before in
-    loops-read _ _ (o .outcome-of .ensures) (t .before .before .wanted-by .ensures) (search needs) (r .read-file .result) _ (r .read-file .ensures) (not-false _ (e .if1 .left)) (c .before .first-bytes .ensures) (c .outcome-of2 .ensures)
+    loops-read _ _ (o .outcome-of .ensures) (t .before .before .wanted-by .ensures) (search needs) (r .read-file .result) _ (r .read-file .ensures) (not-false _ (e .if1 .left)) (c .before .prefix .ensures) (c .outcome-of2 .ensures)
 
 pub with-loops-spec : {M : Type 1} → statement M
 with-loops-spec =
@@ -67,7 +67,7 @@ with-loops-spec =
     slice-aggregate-read-file-2
     read-file-requires
     returns-2
-    slice-aggregate-first-bytes
-    first-bytes-requires
+    slice-aggregate-prefix
+    prefix-requires
     outcome-of-requires-2
     returns-3)

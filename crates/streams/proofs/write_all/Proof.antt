@@ -1,4 +1,4 @@
-use Rattle.streams.proofs.Laws.{Got, put, left, WroteSoFar, wrote-none, wrote-all, wrote-failed, wrote-more}
+use Rattle.streams.proofs.Laws.{Got, put, left, WrittenSoFar, wrote-none, wrote-all, wrote-failed, wrote-more}
 use mir.Val.{SFits, toZ, ofZ}
 use mir.Syntax.{w32, w64}
 use native.Mathlib.Omega.{arith}
@@ -14,7 +14,7 @@ use Rattle.streams.proofs.write_all.Reads as reads
 use Rattle.streams.proofs.write_all.Lts as lts
 
 abbrev Inv-loop : tie.InvT-loop
-Inv-loop fd bytes done₀ done = (done ≤ length bytes) × WroteSoFar (toZ w32 fd) bytes done
+Inv-loop fd bytes done₀ done = (done ≤ length bytes) × WrittenSoFar (toZ w32 fd) bytes done
 
 abbrev μ-loop : tie.MeasureT-loop
 μ-loop fd bytes done₀ done = length bytes - done
