@@ -21,7 +21,7 @@ use Rattle.stages.specs.declared.Wanted.{Wanted}
 use Rattle.stages.specs.declared.Wanted.the-variants.{Nothing, Blocks as BlockFile, Loops as LoopFile}
 use Rattle.stages.proofs.Whole.{in-turn}
 use Rattle.stages.proofs.Wanted.{the-type}
-use Rattle.checker.specs.Program.{settingRoom, textRoom, isBlocks, isLoops, wantsBlocks, wantsLoops, Came, filesOf, LoopsJudged, FilesJudged, InputJudged, failure, Complained, Ran}
+use Rattle.checker.specs.Program.{settingRoom, textRoom, isBlocks, isLoops, wantsLoops, Came, filesOf, LoopsJudged, FilesJudged, InputJudged, failure, Complained, Ran}
 
 -- ---- which file is wanted
 
@@ -37,61 +37,78 @@ not-blocks BlockFile (inl e) = absurd (omega arith)
 not-blocks BlockFile (inr e) = absurd (omega arith)
 not-blocks LoopFile h = refl
 
--- with no file, the loops are not wanted
-no-loops-yet : (setting blocks : List ℕ) → wantsLoops (outcomeOf setting Neither blocks []) ≡ false
+-- where the blocks could not be read, the loops file is not wanted
+no-loops-yet : (setting blocks : List ℕ) → Came (bytes "loops.csv") (wantsLoops (outcomeOf setting Neither blocks [])) false []
 unfolding outcomeOf blocksStage
 no-loops-yet setting blocks = go (headerOf setting)
   where
-    go : (h : Header) → wantsLoops (settingStage h Neither blocks []) ≡ false
-    go Absent = refl
-    go Present = refl
-    go Wrong = refl
+    go : (h : Header) → Came (bytes "loops.csv") (wantsLoops (settingStage h Neither blocks [])) false []
+    go Absent = (refl, refl)
+    go Present = (refl, refl)
+    go Wrong = (refl, refl)
 
-unwanted : (path : List ℕ) {wanted : Bool} → wanted ≡ false → Came path wanted false []
-unwanted path e = rw e (refl, refl)
+-- An outcome p without the file, and what it waits for: w. `is` tells whether that is the file at `path`.
+module _ (is : Wanted → Bool) (path : List ℕ) {o p : Outcome} (e : o ≡ p) {w : Wanted} (v : w ≡ wantedBy o) where
+  same-want : is w ≡ is (wantedBy p)
+  same-want = ap is (v ∙ ap wantedBy e)
 
-wanted : (path : List ℕ) {wanted readable : Bool} {s : List ℕ} → wanted ≡ true → FileGave path textRoom readable s → Came path wanted readable s
-wanted path e F = rw e F
+  unopened : is w ≡ false → Came path (is (wantedBy p)) false []
+  unopened f = rw (sym same-want ∙ f) (refl, refl)
+
+  opened : is w ≡ true → (c : Content) (text : List ℕ) → FileRead path textRoom c text → (readable : Bool) → c .readable ≡ readable → Came path (is (wantedBy p)) readable (take (c .len) text)
+  opened f c text F readable r = rw (sym same-want ∙ f) (rw r at (F .gave))
 
 -- ---- the loops file
 
 module _ (setting blocks : List ℕ) {o : Outcome} (e : o ≡ outcomeOf setting OnlyBlocks blocks []) {w : Wanted} (v : w ≡ wantedBy o) where
-  same-want : isLoops w ≡ wantsLoops (outcomeOf setting OnlyBlocks blocks [])
-  same-want = ap isLoops (v ∙ ap wantedBy e)
-
   pub loops-unwanted : (tagOf the-type w ≡ 0) ⊎ (tagOf the-type w ≡ 1) → LoopsJudged setting blocks o
-  loops-unwanted h = record { readable = false; loops = []; came = unwanted (bytes "loops.csv") (sym same-want ∙ not-loops w h); outcome = e }
+  loops-unwanted h = record { readable = false; loops = []; came = unopened isLoops (bytes "loops.csv") e v (not-loops w h); outcome = e }
 
   module _ (f : w ≡ LoopFile) (c : Content) (text : List ℕ) (F : FileRead (bytes "loops.csv") textRoom c text) where
-    came : (readable : Bool) → c .readable ≡ readable → Came (bytes "loops.csv") (wantsLoops (outcomeOf setting OnlyBlocks blocks [])) readable (take (c .len) text)
-    came readable r = wanted (bytes "loops.csv") (sym same-want ∙ ap isLoops f) (rw r at (F .gave))
-
     pub loops-unread : c .readable ≡ false → LoopsJudged setting blocks o
-    loops-unread r = record { readable = false; loops = take (c .len) text; came = came false r; outcome = e ∙ sym (in-turn setting blocks (take (c .len) text) .no-loops) }
+    loops-unread r = record { readable = false; loops = take (c .len) text; came = opened isLoops (bytes "loops.csv") e v (ap isLoops f) c text F false r; outcome = e ∙ sym (in-turn setting blocks (take (c .len) text) .no-loops) }
 
-    pub loops-read : {p : Outcome} {loops : List ℕ} → c .readable ≡ true → loops ≡ take (c .len) text → p ≡ outcomeOf setting Both blocks loops → LoopsJudged setting blocks p
-    loops-read {p} r l q = record { readable = true; loops = take (c .len) text; came = came true r; outcome = rw l at q }
+    pub loops-read : {q : Outcome} {loops : List ℕ} → c .readable ≡ true → loops ≡ take (c .len) text → q ≡ outcomeOf setting Both blocks loops → LoopsJudged setting blocks q
+    loops-read r l t = record { readable = true; loops = take (c .len) text; came = opened isLoops (bytes "loops.csv") e v (ap isLoops f) c text F true r; outcome = rw l at t }
 
 -- ---- the blocks file
 
 module _ (setting : List ℕ) {o : Outcome} (e : o ≡ outcomeOf setting Neither [] []) {w : Wanted} (v : w ≡ wantedBy o) where
-  same-file : isBlocks w ≡ wantsBlocks (outcomeOf setting Neither [] [])
-  same-file = ap isBlocks (v ∙ ap wantedBy e)
-
   pub blocks-unwanted : (tagOf the-type w ≡ 0) ⊎ (tagOf the-type w ≡ 2) → FilesJudged setting o
-  blocks-unwanted h = record { has-blocks = false; blocks = []; has-loops = false; loops = []; blocks-came = unwanted (bytes "blocks.csv") (sym same-file ∙ not-blocks w h); loops-came = unwanted (bytes "loops.csv") (no-loops-yet setting []); outcome = e }
+  blocks-unwanted h = record {
+    has-blocks = false;
+    blocks = [];
+    has-loops = false;
+    loops = [];
+    blocks-came = unopened isBlocks (bytes "blocks.csv") e v (not-blocks w h);
+    loops-came = no-loops-yet setting [];
+    outcome = e;
+  }
 
   module _ (f : w ≡ BlockFile) (c : Content) (text : List ℕ) (F : FileRead (bytes "blocks.csv") textRoom c text) where
-    blocks-came : (readable : Bool) → c .readable ≡ readable → Came (bytes "blocks.csv") (wantsBlocks (outcomeOf setting Neither [] [])) readable (take (c .len) text)
-    blocks-came readable r = wanted (bytes "blocks.csv") (sym same-file ∙ ap isBlocks f) (rw r at (F .gave))
-
     pub blocks-unread : c .readable ≡ false → FilesJudged setting o
-    blocks-unread r = record { has-blocks = false; blocks = take (c .len) text; has-loops = false; loops = []; blocks-came = blocks-came false r; loops-came = unwanted (bytes "loops.csv") (no-loops-yet setting (take (c .len) text)); outcome = e ∙ sym (in-turn setting (take (c .len) text) [] .no-blocks) }
+    blocks-unread r = record {
+      has-blocks = false;
+      blocks = take (c .len) text;
+      has-loops = false;
+      loops = [];
+      blocks-came = opened isBlocks (bytes "blocks.csv") e v (ap isBlocks f) c text F false r;
+      loops-came = no-loops-yet setting (take (c .len) text);
+      outcome = e ∙ sym (in-turn setting (take (c .len) text) [] .no-blocks);
+    }
 
-    pub blocks-read : {p : Outcome} {blocks : List ℕ} → c .readable ≡ true → blocks ≡ take (c .len) text → LoopsJudged setting blocks p → FilesJudged setting p
-    blocks-read {p} r l L =
-        let J : LoopsJudged setting (take (c .len) text) p = rw l at L in
-        record { has-blocks = true; blocks = take (c .len) text; has-loops = J .readable; loops = J .loops; blocks-came = blocks-came true r; loops-came = J .came; outcome = J .outcome }
+    pub blocks-read : {q : Outcome} {blocks : List ℕ} → c .readable ≡ true → blocks ≡ take (c .len) text → LoopsJudged setting blocks q → FilesJudged setting q
+    blocks-read {q} r l L =
+        let J : LoopsJudged setting (take (c .len) text) q = rw l at L in
+        record {
+          has-blocks = true;
+          blocks = take (c .len) text;
+          has-loops = J .readable;
+          loops = J .loops;
+          blocks-came = opened isBlocks (bytes "blocks.csv") e v (ap isBlocks f) c text F true r;
+          loops-came = J .came;
+          outcome = J .outcome;
+        }
 
 -- ---- the whole
 

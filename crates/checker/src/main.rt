@@ -14,6 +14,7 @@ use stages::Wanted;
 
 // One byte more than the longest good setting, and than the longest good text: that byte tells that there is more.
 const SETTING_ROOM: usize = 16;
+
 const TEXT_ROOM: usize = MOST_TEXT_BYTES + 1;
 
 // After good blocks. The loops file is opened only where it decides the outcome.

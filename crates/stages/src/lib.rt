@@ -169,7 +169,14 @@ fn loops_stage(
     let mut header = [0u16; MOST_LOOPS];
     let mut limit = [0u32; MOST_LOOPS];
     let mut mult = [0u64; MOST_LOOPS];
-    let read = tables::read_loops(loops, header_row, &mut parent, &mut header, &mut limit, &mut mult);
+    let read = tables::read_loops(
+        loops,
+        header_row,
+        &mut parent,
+        &mut header,
+        &mut limit,
+        &mut mult,
+    );
     match read {
         ReadReply::Refused { number, record } => refused(Stage::Loops, number, record),
         ReadReply::Rows(m) => table_stage(certificate::check(

@@ -22,7 +22,7 @@ write-all-requires : tie.Need-write-all-requires
 write-all-requires c κs = search needs
 
 returns : tie.Need-returns
-returns c = 
+returns c =
     let p = c .before .before .before in
     ran-badly (p .before .before .judged .ensures) _ (p .before .line-of .ensures) (p .print .ensures) (c .write-all .ensures)
 

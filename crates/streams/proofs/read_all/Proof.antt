@@ -58,7 +58,7 @@ same-length : tie.Need-same-length Inv-loop μ-loop
 same-length c = search needs
 
 returns : tie.Need-returns Inv-loop μ-loop
-returns c = 
+returns c =
     let a = c .before .before .before in
     let l = a .before .before .before .loop in
     rw (toZ-ofZ (start a .fits .fd)) at (read-failed _ _ (l .buffer) (l .len) (l .inv .2) (length (l .buffer) - l .len) (a .read-some .result) (a .read-some .last .1 .0) (l .inv .0) (omega (arith, l .inv .1)) (answered a) (rw (toZ-ofZ (fits a)) at (c .if1 .taken)))
@@ -67,7 +67,7 @@ same-length-2 : tie.Need-same-length-2 Inv-loop μ-loop
 same-length-2 c = search needs
 
 returns-2 : tie.Need-returns-2 Inv-loop μ-loop
-returns-2 c = 
+returns-2 c =
     let a = c .before .before .before .before in
     let l = a .before .before .before .loop in
     rw (toZ-ofZ (start a .fits .fd)) at (read-ended _ _ (l .buffer) (l .len) (l .inv .2) (length (l .buffer) - l .len) (a .read-some .result) (a .read-some .last .1 .0) (l .inv .0) (omega (arith, l .inv .1)) (answered a) (is-zero (a .read-some .result) (fits a) (c .if2 .taken)))
@@ -82,7 +82,7 @@ loop-less : tie.Need-loop-less Inv-loop μ-loop
 loop-less c = let G = found c in rw (G .bits) (omega (arith, G .some, G .most, kept c))
 
 loop-again : tie.Need-loop-again Inv-loop μ-loop
-loop-again c = 
+loop-again c =
     let a = c .before .before .before .before in
     let l = a .before .before .before .loop in
     let G = found c in

@@ -48,7 +48,7 @@ write-some-requires : tie.Need-write-some-requires Inv-loop μ-loop
 write-some-requires c κs = search needs
 
 returns : tie.Need-returns Inv-loop μ-loop
-returns c = 
+returns c =
     let a = c .before in
     let l = a .before .before .before .loop in
     rw (toZ-ofZ (start a .fits .fd)) at (wrote-failed _ _ (l .done) (l .inv .1) (a .write-some .result) (omega arith) (took a) (rw (toZ-ofZ (fits a)) at (c .if1 .taken)))
@@ -63,7 +63,7 @@ loop-less : tie.Need-loop-less Inv-loop μ-loop
 loop-less c = let G = found c in rw (G .bits) (omega (arith, G .some, G .most))
 
 loop-again : tie.Need-loop-again Inv-loop μ-loop
-loop-again c = 
+loop-again c =
     let a = c .before in
     let l = a .before .before .before .loop in
     let G = found c in
