@@ -1,3 +1,3 @@
 -- What the proofs of several functions use.
 pub mod Rows
-pub mod QuickRows
+pub mod Taken

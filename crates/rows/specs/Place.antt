@@ -1,36 +1,104 @@
 -- What the functions answer at a position of the text, by the definitions of Judge.
-use Prim.Native.Nat.{ℕ, _+_}
+use Prim.Native.Nat.{ℕ, _+_, _-_, _^_, _≤_, _<_}
 use mathlib.Core.Path.{_≡_}
 use mathlib.Core.Bool.{true}
 use mathlib.Core.List.{List}
-use lib.ListN.{length, drop}
-use Rattle.csv.specs.Grammar.{Record, recordOf}
-use Rattle.numbers.specs.Number.{unsigned}
+use lib.ListN.{length, take, drop}
+use lib.IntN.{ℤ}
+use mir.Syntax.{w64}
+use mir.Val.{SFits}
+use Rattle.csv.specs.Grammar.{Record, comma, ends, field, width, recordOf}
+use Rattle.csv.specs.declared.Ending.{Ending}
 use Rattle.numbers.specs.declared.Value.{Value}
-use Rattle.rows.specs.Row.{orMissing, rowOf}
-use Rattle.rows.specs.Judge.{fieldOf, judge}
-use Rattle.rows.specs.declared.Shape.the-variants.{Blocks}
-use Rattle.rows.specs.declared.Layout.{Layout}
-use Rattle.rows.specs.declared.Row.{Row}
-use Rattle.rows.specs.declared.Quick.{Quick}
-use Rattle.rows.specs.declared.Quick.the-variants.{Block as QuickBlock, Other}
-use Rattle.rows.specs.declared.Step.{Step}
+use Rattle.numbers.specs.declared.Value.the-variants.{Number}
+use Rattle.numbers.specs.declared.SignedValue.{SignedValue}
+use Rattle.numbers.specs.declared.SignedValue.the-variants.{Number as Signed}
+use Rattle.cells.specs.Cell.{unsigned, signed}
+use Rattle.rows.specs.Row.{Verdict, taken, fault, blockFields, blockCells}
+use Rattle.rows.specs.Judge.{fieldOf, judgeBlock, judgeLoop}
+use Rattle.rows.specs.declared.BlockCells.{BlockCells}
+use Rattle.rows.specs.declared.BlockRow.{BlockRow}
+use Rattle.rows.specs.declared.BlockVerdict.{BlockVerdict}
+use Rattle.rows.specs.declared.BlockVerdict.the-variants.{Taken, Fault}
+use Rattle.rows.specs.declared.BlockStep.{BlockStep}
+use Rattle.rows.specs.declared.LoopCells.{LoopCells}
+use Rattle.rows.specs.declared.LoopRow.{LoopRow}
+use Rattle.rows.specs.declared.LoopVerdict.{LoopVerdict}
+use Rattle.rows.specs.declared.LoopVerdict.the-variants.{Taken as TakenLoop, Fault as LoopFault}
+use Rattle.rows.specs.declared.LoopStep.{LoopStep}
+use Rattle.rows.specs.declared.CommaCell.{CommaCell}
+use Rattle.rows.specs.declared.CommaCell.the-variants.{Field, Other}
+use Rattle.rows.specs.declared.LastCell.{LastCell}
+use Rattle.rows.specs.declared.LastCell.the-variants.{Field as Last, Other as NoLast}
+use Rattle.rows.specs.declared.ShortBlock.{ShortBlock}
+use Rattle.rows.specs.declared.ShortBlock.the-variants.{Cells, Other as NoCells}
 
--- the verdict on the record r that starts at p, where row k is due, and the place behind it
-abbrev pub stepOf : Layout → ℕ → ℕ → Record → Step
-stepOf t k p r = record { verdict = judge t k r; next = p + r .bytes }
+-- a verdict as an answer of each table
+abbrev pub blockVerdict : Verdict BlockRow → BlockVerdict
+blockVerdict (taken w) = Taken w
+blockVerdict (fault n) = Fault n
 
--- what a successor's field says, with 65,535 for a missing one
-abbrev pub successor : List ℕ → Value
-successor w = orMissing (unsigned 65534 w)
+abbrev pub loopVerdict : Verdict LoopRow → LoopVerdict
+loopVerdict (taken w) = TakenLoop w
+loopVerdict (fault n) = LoopFault n
 
--- what is known of a block that was read in one scan
-pub record BlockAt (s : List ℕ) (at : ℕ) (w : Row) (next : ℕ) : Type 0 where
+-- the verdict on the record r that starts at p, where row k is due, and where the next record starts
+abbrev pub blockStep : ℕ → ℕ → ℕ → Record → BlockStep
+blockStep room k p r = record { verdict = blockVerdict (judgeBlock room k r); next = p + r .bytes }
+
+abbrev pub loopStep : ℕ → ℕ → ℕ → Record → LoopStep
+loopStep room k p r = record { verdict = loopVerdict (judgeLoop room k r); next = p + r .bytes }
+
+-- numbers that fit the columns of their fields
+abbrev pub AtMost : ℕ → Value → Type 0
+AtMost greatest v = (n : ℕ) → v ≡ Number n → n ≤ greatest
+
+abbrev pub SignedFits : SignedValue → Type 0
+SignedFits v = (z : ℤ) → v ≡ Signed z → SFits w64 z
+
+pub record BlockFits (x : BlockCells) : Type 0 where
+  pub number : AtMost 65535 (x .number)
+  pub cost : AtMost (2 ^ 32 - 1) (x .cost)
+  pub innermost : AtMost 65535 (x .innermost)
+  pub first : AtMost 65534 (x .first)
+  pub second : AtMost 65534 (x .second)
+  pub figure : SignedFits (x .figure)
+
+pub record LoopFits (x : LoopCells) : Type 0 where
+  pub number : AtMost 65535 (x .number)
+  pub parent : AtMost 65535 (x .parent)
+  pub header : AtMost 65535 (x .header)
+  pub limit : AtMost (2 ^ 32 - 1) (x .limit)
+
+-- what is known of a field that one scan found and read: it ends at e, where its comma stands
+pub record CommaField (s : List ℕ) (at e greatest : ℕ) (v : Value) : Type 0 where
+  pub from : at ≤ e
+  pub inside : e < length s
+  pub field : field (drop at s) ≡ comma (e - at)
+  pub value : v ≡ unsigned greatest (take (e - at) (drop at s))
+
+abbrev pub CommaAt : List ℕ → ℕ → ℕ → CommaCell → Type 0
+CommaAt s at greatest (Field v e) = CommaField s at e greatest v
+CommaAt s at greatest Other = Unit {0}
+
+pub record LastField (s : List ℕ) (at next : ℕ) (v : SignedValue) : Type 0 where
+  pub ending : Ending
+  pub size : ℕ
+  pub field : field (drop at s) ≡ ends ending size
+  pub value : v ≡ signed (take size (drop at s))
+  pub after : next ≡ at + size + width ending
+
+abbrev pub LastAt : List ℕ → ℕ → LastCell → Type 0
+LastAt s at (Last v next) = LastField s at next v
+LastAt s at NoLast = Unit {0}
+
+-- what is known of a block whose fields are found so
+pub record BlockAt (s : List ℕ) (at : ℕ) (x : BlockCells) (next : ℕ) : Type 0 where
   pub sound : recordOf (drop at s) .sound ≡ true
-  pub count : length (recordOf (drop at s) .fields) ≡ 6
-  pub says : w ≡ rowOf Blocks (fieldOf (recordOf (drop at s)))
-  pub behind : next ≡ at + recordOf (drop at s) .bytes
+  pub count : length (recordOf (drop at s) .fields) ≡ blockFields
+  pub cells : x ≡ blockCells (fieldOf (recordOf (drop at s)))
+  pub after : next ≡ at + recordOf (drop at s) .bytes
 
-abbrev pub QuickAt : List ℕ → ℕ → Quick → Type 0
-QuickAt s at (QuickBlock w next) = BlockAt s at w next
-QuickAt s at Other = Unit {0}
+abbrev pub ShortAt : List ℕ → ℕ → ShortBlock → Type 0
+ShortAt s at (Cells x next) = BlockAt s at x next
+ShortAt s at NoCells = Unit {0}

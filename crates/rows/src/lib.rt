@@ -1,299 +1,314 @@
-// What one record of a table says where a row is due: the row, or the number of its lowest fault.
+// What one record says where a row of a table is due: the row, or the number of its lowest fault.
 ghost use mathlib.Core.Path.{_≡_};
 ghost use lib.ListN.{drop};
 ghost use Rattle.csv.specs.Grammar.{recordOf};
-ghost use Rattle.csv.specs.Place.{fieldAt, CellAt};
-ghost use Rattle.numbers.specs.Number.{unsigned, signed};
-ghost use Rattle.rows.specs.Row.{orMissing, rowOf};
-ghost use Rattle.rows.specs.Judge.{inTurn, placed};
-ghost use Rattle.rows.specs.Place.{successor, QuickAt, stepOf};
-use csv::Cell;
-use csv::LastCell;
+ghost use Rattle.csv.specs.Place.{fieldAt};
+ghost use Rattle.cells.specs.Cell.{unsigned, signed};
+ghost use Rattle.rows.specs.Row.{orMissing, turnOf, blockCells, blockRow, loopCells, loopRow};
+ghost use Rattle.rows.specs.Place.{blockVerdict, blockStep, loopVerdict, loopStep, BlockFits, LoopFits, CommaAt, LastAt, ShortAt};
 use numbers::SignedValue;
 use numbers::Value;
 
-// Which table.
-pub enum Shape {
-    Blocks,
-    Loops,
+// Fields of a record in each table.
+pub const BLOCK_FIELDS: usize = 6;
+
+pub const LOOP_FIELDS: usize = 5;
+
+// What the six fields of a block say. `innermost` is the innermost loop around it.
+pub struct BlockCells {
+    pub number: Value,
+    pub cost: Value,
+    pub innermost: Value,
+    pub first: Value,
+    pub second: Value,
+    pub figure: SignedValue,
 }
 
-// What a reader goes by: the shape of its rows, the count of their fields, and how many rows have a place.
-pub struct Layout {
-    pub shape: Shape,
-    pub columns: usize,
-    pub room: usize,
+// A row of the block table. A missing successor is 65,535.
+pub struct BlockRow {
+    pub number: u16,
+    pub cost: u32,
+    pub innermost: u16,
+    pub first: u16,
+    pub second: u16,
+    pub figure: i64,
 }
 
-// What the fields of a record say. `innermost` is the innermost loop around a block. Bad: some field is no number of its width.
-pub enum Row {
-    Block {
-        number: u16,
-        cost: u32,
-        innermost: u16,
-        first: u16,
-        second: u16,
-        figure: i64,
-    },
-    Loop {
-        number: u16,
-        parent: u16,
-        head: u16,
-        limit: u32,
-        multiplier: u64,
-    },
-    Bad,
-}
-
-// What a record says where a row is due: the row, or the number of its lowest fault.
-pub enum Verdict {
-    Taken(Row),
+// What a record says where a block is due: its row, or the number of its lowest fault.
+pub enum BlockVerdict {
+    Taken(BlockRow),
     Fault(u32),
 }
 
-// A block whose fields are plain numbers, and the place behind its record. Other: anything else, or nothing known of it.
-pub enum Quick {
-    Block(Row, usize),
+// The verdict on a record, and where the next record starts.
+pub struct BlockStep {
+    pub verdict: BlockVerdict,
+    pub next: usize,
+}
+
+// A field that one scan finds and reads: what it says, and where its comma stands. Other: the record needs the long way.
+pub enum CommaCell {
+    Field(Value, usize),
     Other,
 }
 
-// A verdict, and the place behind its record.
-pub struct Step {
-    pub verdict: Verdict,
+// The last field of a record, found so: what it says, and where the next record starts.
+pub enum LastCell {
+    Field(SignedValue, usize),
+    Other,
+}
+
+// The cells of a block, found so, and where the next record starts. Other: the record needs the long way.
+pub enum ShortBlock {
+    Cells(BlockCells, usize),
+    Other,
+}
+
+// What the five fields of a loop say.
+pub struct LoopCells {
+    pub number: Value,
+    pub parent: Value,
+    pub header: Value,
+    pub limit: Value,
+    pub multiplier: Value,
+}
+
+// A row of the loop table.
+pub struct LoopRow {
+    pub number: u16,
+    pub parent: u16,
+    pub header: u16,
+    pub limit: u32,
+    pub multiplier: u64,
+}
+
+// What a record says where a loop is due.
+pub enum LoopVerdict {
+    Taken(LoopRow),
+    Fault(u32),
+}
+
+// The verdict on a record, and where the next record starts.
+pub struct LoopStep {
+    pub verdict: LoopVerdict,
     pub next: usize,
 }
+
+// Whether a row is due and has a place, or the number of its fault.
+pub enum Turn {
+    Due,
+    Fault(u32),
+}
+
+// ---- one field
 
 // What field i of a record says, by width. The bounds are those that `csv::scan_record` noted.
 fn u16_in(text: &[u8], starts: &[usize; 8], ends: &[usize; 8], i: usize) -> Value
     ensures { λ r. ⌜ r ≡ unsigned 65535 (fieldAt (now (text .entry)) (now (starts .entry)) (now (ends .entry)) i) ⌝ }
 {
-    numbers::u16_of(csv::find_field(text, starts, ends, i))
+    cells::u16_of(csv::find_field(text, starts, ends, i))
 }
 
 fn u32_in(text: &[u8], starts: &[usize; 8], ends: &[usize; 8], i: usize) -> Value
     ensures { λ r. ⌜ r ≡ unsigned 4294967295 (fieldAt (now (text .entry)) (now (starts .entry)) (now (ends .entry)) i) ⌝ }
 {
-    numbers::u32_of(csv::find_field(text, starts, ends, i))
+    cells::u32_of(csv::find_field(text, starts, ends, i))
 }
 
 fn u64_in(text: &[u8], starts: &[usize; 8], ends: &[usize; 8], i: usize) -> Value
     ensures { λ r. ⌜ r ≡ unsigned 18446744073709551615 (fieldAt (now (text .entry)) (now (starts .entry)) (now (ends .entry)) i) ⌝ }
 {
-    numbers::u64_of(csv::find_field(text, starts, ends, i))
+    cells::u64_of(csv::find_field(text, starts, ends, i))
 }
 
 fn i64_in(text: &[u8], starts: &[usize; 8], ends: &[usize; 8], i: usize) -> SignedValue
     ensures { λ r. ⌜ r ≡ signed (fieldAt (now (text .entry)) (now (starts .entry)) (now (ends .entry)) i) ⌝ }
 {
-    numbers::i64_of(csv::find_field(text, starts, ends, i))
+    cells::i64_of(csv::find_field(text, starts, ends, i))
 }
 
-// A successor that is missing is 65,535.
 fn successor_in(text: &[u8], starts: &[usize; 8], ends: &[usize; 8], i: usize) -> Value
-    ensures { λ r. ⌜ r ≡ orMissing (unsigned 65534 (fieldAt (now (text .entry)) (now (starts .entry)) (now (ends .entry)) i)) ⌝ }
+    ensures { λ r. ⌜ r ≡ unsigned 65534 (fieldAt (now (text .entry)) (now (starts .entry)) (now (ends .entry)) i) ⌝ }
 {
-    match numbers::successor_of(csv::find_field(text, starts, ends, i)) {
-        Value::Number(n) => Value::Number(n),
-        Value::Missing => Value::Number(65535),
-        Value::Bad => Value::Bad,
-    }
+    cells::successor_of(csv::find_field(text, starts, ends, i))
 }
 
-// The six fields of a block.
-fn block_row(text: &[u8], starts: &[usize; 8], ends: &[usize; 8]) -> Row
-    ensures { λ r. ⌜ r ≡ rowOf Shape.Blocks (fieldAt (now (text .entry)) (now (starts .entry)) (now (ends .entry))) ⌝ }
+// A missing successor is 65,535.
+fn or_missing(value: Value) -> Value
+    ensures { λ r. ⌜ r ≡ orMissing value ⌝ }
 {
-    let Value::Number(number) = u16_in(text, starts, ends, 0) else {
-        return Row::Bad;
+    let Value::Missing = value else {
+        return value;
     };
-    let Value::Number(cost) = u32_in(text, starts, ends, 1) else {
-        return Row::Bad;
-    };
-    let Value::Number(innermost) = u16_in(text, starts, ends, 2) else {
-        return Row::Bad;
-    };
-    let Value::Number(first) = successor_in(text, starts, ends, 3) else {
-        return Row::Bad;
-    };
-    let Value::Number(second) = successor_in(text, starts, ends, 4) else {
-        return Row::Bad;
-    };
-    let SignedValue::Number(figure) = i64_in(text, starts, ends, 5) else {
-        return Row::Bad;
-    };
-    Row::Block {
-        number: number as u16,
-        cost: cost as u32,
-        innermost: innermost as u16,
-        first: first as u16,
-        second: second as u16,
-        figure,
-    }
+    Value::Number(65535)
 }
 
-// The five fields of a loop.
-fn loop_row(text: &[u8], starts: &[usize; 8], ends: &[usize; 8]) -> Row
-    ensures { λ r. ⌜ r ≡ rowOf Shape.Loops (fieldAt (now (text .entry)) (now (starts .entry)) (now (ends .entry))) ⌝ }
-{
-    let Value::Number(number) = u16_in(text, starts, ends, 0) else {
-        return Row::Bad;
-    };
-    let Value::Number(parent) = u16_in(text, starts, ends, 1) else {
-        return Row::Bad;
-    };
-    let Value::Number(head) = u16_in(text, starts, ends, 2) else {
-        return Row::Bad;
-    };
-    let Value::Number(limit) = u32_in(text, starts, ends, 3) else {
-        return Row::Bad;
-    };
-    let Value::Number(multiplier) = u64_in(text, starts, ends, 4) else {
-        return Row::Bad;
-    };
-    Row::Loop {
-        number: number as u16,
-        parent: parent as u16,
-        head: head as u16,
-        limit: limit as u32,
-        multiplier,
-    }
-}
+// ---- the row
 
-// The fields of a record, by the table's shape.
-fn row_of(text: &[u8], shape: Shape, starts: &[usize; 8], ends: &[usize; 8]) -> Row
-    ensures { λ r. ⌜ r ≡ rowOf shape (fieldAt (now (text .entry)) (now (starts .entry)) (now (ends .entry))) ⌝ }
+// Row `number` where row k is due.
+fn turn_of(number: u64, k: usize, room: usize) -> Turn
+    ensures { λ r. ⌜ r ≡ turnOf room k number ⌝ }
 {
-    match shape {
-        Shape::Blocks => block_row(text, starts, ends),
-        Shape::Loops => loop_row(text, starts, ends),
-    }
-}
-
-// A row with this number where row k is due.
-fn in_turn(row: Row, number: u16, k: usize, room: usize) -> Verdict
-    ensures { λ r. ⌜ r ≡ inTurn room k number row ⌝ }
-{
-    if number as usize != k {
-        return Verdict::Fault(105);
+    if number != k as u64 {
+        return Turn::Fault(105);
     }
     if k >= room {
-        return Verdict::Fault(106);
+        return Turn::Fault(106);
     }
-    Verdict::Taken(row)
+    Turn::Due
 }
 
-// A row where row k is due.
-fn place_row(row: Row, k: usize, room: usize) -> Verdict
-    ensures { λ r. ⌜ r ≡ placed room k row ⌝ }
+// The block that the cells say, where row k is due.
+fn block_row(cells: BlockCells, k: usize, room: usize) -> BlockVerdict
+    requires { ⌜ BlockFits cells ⌝ }
+    ensures { λ r. ⌜ r ≡ blockVerdict (blockRow room k cells) ⌝ }
 {
-    match row {
-        Row::Block {
-            number,
-            cost: _,
-            innermost: _,
-            first: _,
-            second: _,
-            figure: _,
-        } => in_turn(row, number, k, room),
-        Row::Loop {
-            number,
-            parent: _,
-            head: _,
-            limit: _,
-            multiplier: _,
-        } => in_turn(row, number, k, room),
-        Row::Bad => Verdict::Fault(104),
+    let number = cells.number;
+    let Value::Number(number) = number else {
+        return BlockVerdict::Fault(104);
+    };
+    let cost = cells.cost;
+    let Value::Number(cost) = cost else {
+        return BlockVerdict::Fault(104);
+    };
+    let innermost = cells.innermost;
+    let Value::Number(innermost) = innermost else {
+        return BlockVerdict::Fault(104);
+    };
+    let first = cells.first;
+    let Value::Number(first) = or_missing(first) else {
+        return BlockVerdict::Fault(104);
+    };
+    let second = cells.second;
+    let Value::Number(second) = or_missing(second) else {
+        return BlockVerdict::Fault(104);
+    };
+    let figure = cells.figure;
+    let SignedValue::Number(figure) = figure else {
+        return BlockVerdict::Fault(104);
+    };
+    match turn_of(number, k, room) {
+        Turn::Due => BlockVerdict::Taken(BlockRow {
+            number: number as u16,
+            cost: cost as u32,
+            innermost: innermost as u16,
+            first: first as u16,
+            second: second as u16,
+            figure,
+        }),
+        Turn::Fault(fault) => BlockVerdict::Fault(fault),
     }
 }
 
-// The record that starts at `at`, where row k is due, by one scan for the bounds of its fields.
-fn scanned_row(text: &[u8], t: Layout, at: usize, k: usize) -> Step
-    ensures { λ r. ⌜ r ≡ stepOf t k at (recordOf (drop at (now (text .entry)))) ⌝ }
+// The loop that the cells say, where row k is due.
+fn loop_row(cells: LoopCells, k: usize, room: usize) -> LoopVerdict
+    requires { ⌜ LoopFits cells ⌝ }
+    ensures { λ r. ⌜ r ≡ loopVerdict (loopRow room k cells) ⌝ }
+{
+    let number = cells.number;
+    let Value::Number(number) = number else {
+        return LoopVerdict::Fault(104);
+    };
+    let parent = cells.parent;
+    let Value::Number(parent) = parent else {
+        return LoopVerdict::Fault(104);
+    };
+    let header = cells.header;
+    let Value::Number(header) = header else {
+        return LoopVerdict::Fault(104);
+    };
+    let limit = cells.limit;
+    let Value::Number(limit) = limit else {
+        return LoopVerdict::Fault(104);
+    };
+    let multiplier = cells.multiplier;
+    let Value::Number(multiplier) = multiplier else {
+        return LoopVerdict::Fault(104);
+    };
+    match turn_of(number, k, room) {
+        Turn::Due => LoopVerdict::Taken(LoopRow {
+            number: number as u16,
+            parent: parent as u16,
+            header: header as u16,
+            limit: limit as u32,
+            multiplier,
+        }),
+        Turn::Fault(fault) => LoopVerdict::Fault(fault),
+    }
+}
+
+// ---- the long way: one scan notes the bounds of the fields, and each field is read where it stands
+
+fn block_cells(text: &[u8], starts: &[usize; 8], ends: &[usize; 8]) -> BlockCells
+    ensures { λ r. ⌜ r ≡ blockCells (fieldAt (now (text .entry)) (now (starts .entry)) (now (ends .entry))) ⌝ }
+{
+    BlockCells {
+        number: u16_in(text, starts, ends, 0),
+        cost: u32_in(text, starts, ends, 1),
+        innermost: u16_in(text, starts, ends, 2),
+        first: successor_in(text, starts, ends, 3),
+        second: successor_in(text, starts, ends, 4),
+        figure: i64_in(text, starts, ends, 5),
+    }
+}
+
+fn loop_cells(text: &[u8], starts: &[usize; 8], ends: &[usize; 8]) -> LoopCells
+    ensures { λ r. ⌜ r ≡ loopCells (fieldAt (now (text .entry)) (now (starts .entry)) (now (ends .entry))) ⌝ }
+{
+    LoopCells {
+        number: u16_in(text, starts, ends, 0),
+        parent: u16_in(text, starts, ends, 1),
+        header: u16_in(text, starts, ends, 2),
+        limit: u32_in(text, starts, ends, 3),
+        multiplier: u64_in(text, starts, ends, 4),
+    }
+}
+
+fn scanned_block(text: &[u8], at: usize, k: usize, room: usize) -> BlockStep
+    ensures { λ r. ⌜ r ≡ blockStep room k at (recordOf (drop at (now (text .entry)))) ⌝ }
 {
     let split = csv::scan_record(text, at);
     let next = split.next;
     if split.sound {
-        if split.count != t.columns {
-            return Step {
-                verdict: Verdict::Fault(103),
-                next,
-            };
+        if split.count != BLOCK_FIELDS {
+            let verdict = BlockVerdict::Fault(103);
+            return BlockStep { verdict, next };
         }
-        let shape = t.shape;
         let starts = split.starts;
         let ends = split.ends;
-        let row = row_of(text, shape, &starts, &ends);
-        return Step {
-            verdict: place_row(row, k, t.room),
-            next,
-        };
+        let cells = block_cells(text, &starts, &ends);
+        let verdict = block_row(cells, k, room);
+        return BlockStep { verdict, next };
     }
-    Step {
-        verdict: Verdict::Fault(102),
-        next,
-    }
+    let verdict = BlockVerdict::Fault(102);
+    BlockStep { verdict, next }
 }
 
-// A successor in a plain field that a comma follows. One that is missing is 65,535.
-fn successor_cell(text: &[u8], at: usize) -> Cell
-    ensures { λ r. ⌜ CellAt (now (text .entry)) at successor r ⌝ }
+// The record that starts at `at`, where loop k is due and `room` loops have a place.
+pub fn loop_at(text: &[u8], at: usize, k: usize, room: usize) -> LoopStep
+    ensures { λ r. ⌜ r ≡ loopStep room k at (recordOf (drop at (now (text .entry)))) ⌝ }
 {
-    match csv::number_cell(text, at, 65534) {
-        Cell::Number(n, end) => Cell::Number(n, end),
-        Cell::Missing(end) => Cell::Number(65535, end),
-        Cell::Other => Cell::Other,
+    let split = csv::scan_record(text, at);
+    let next = split.next;
+    if split.sound {
+        if split.count != LOOP_FIELDS {
+            let verdict = LoopVerdict::Fault(103);
+            return LoopStep { verdict, next };
+        }
+        let starts = split.starts;
+        let ends = split.ends;
+        let cells = loop_cells(text, &starts, &ends);
+        let verdict = loop_row(cells, k, room);
+        return LoopStep { verdict, next };
     }
+    let verdict = LoopVerdict::Fault(102);
+    LoopStep { verdict, next }
 }
 
-// The usual row: a block whose fields are plain numbers is found and read in one scan.
-fn quick_block(text: &[u8], at: usize) -> Quick
-    ensures { λ r. ⌜ QuickAt (now (text .entry)) at r ⌝ }
-{
-    let Cell::Number(number, a) = csv::number_cell(text, at, 65535) else {
-        return Quick::Other;
-    };
-    let Cell::Number(cost, b) = csv::number_cell(text, a + 1, 4294967295) else {
-        return Quick::Other;
-    };
-    let Cell::Number(innermost, c) = csv::number_cell(text, b + 1, 65535) else {
-        return Quick::Other;
-    };
-    let Cell::Number(first, d) = successor_cell(text, c + 1) else {
-        return Quick::Other;
-    };
-    let Cell::Number(second, e) = successor_cell(text, d + 1) else {
-        return Quick::Other;
-    };
-    let LastCell::Number(figure, to) = csv::integer_cell(text, e + 1) else {
-        return Quick::Other;
-    };
-    let row = Row::Block {
-        number: number as u16,
-        cost: cost as u32,
-        innermost: innermost as u16,
-        first: first as u16,
-        second: second as u16,
-        figure,
-    };
-    Quick::Block(row, to + 2)
-}
+// ---- the short way: one scan finds and reads each field
 
-// The record that starts at `at`, where row k is due.
-pub fn row_at(text: &[u8], t: Layout, at: usize, k: usize) -> Step
-    ensures { λ r. ⌜ r ≡ stepOf t k at (recordOf (drop at (now (text .entry)))) ⌝ }
+pub fn block_at(text: &[u8], at: usize, k: usize, room: usize) -> BlockStep
+    ensures { λ r. ⌜ r ≡ blockStep room k at (recordOf (drop at (now (text .entry)))) ⌝ }
 {
-    let shape = t.shape;
-    let Shape::Blocks = shape else {
-        return scanned_row(text, t, at, k);
-    };
-    if t.columns != 6 {
-        return scanned_row(text, t, at, k);
-    }
-    match quick_block(text, at) {
-        Quick::Block(row, next) => Step {
-            verdict: place_row(row, k, t.room),
-            next,
-        },
-        Quick::Other => scanned_row(text, t, at, k),
-    }
+    scanned_block(text, at, k, room)
 }

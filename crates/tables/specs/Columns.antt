@@ -6,10 +6,10 @@ use mathlib.Core.Bool.{Bool}
 use mathlib.Core.List.{List, [], _∷_, map}
 use lib.ListN.{length}
 use lib.IntN.{ℤ}
-use Rattle.rows.specs.Row.{costOf, innermostOf, firstOf, secondOf, figureOf, parentOf, headOf, limitOf, multiplierOf}
-use Rattle.tables.specs.Table.{End, all, refused, Reading, layoutOf, tableOf}
-use Rattle.rows.specs.declared.Shape.the-variants.{Blocks, Loops}
-use Rattle.rows.specs.declared.Row.{Row}
+use Rattle.rows.specs.Row.{costOf, innermostOf, firstOf, secondOf, figureOf, parentOf, loopHeaderOf, limitOf, multiplierOf}
+use Rattle.rows.specs.declared.BlockRow.{BlockRow}
+use Rattle.rows.specs.declared.LoopRow.{LoopRow}
+use Rattle.tables.specs.Table.{End, all, refused, Reading, blockTable, loopTable}
 use Rattle.tables.specs.declared.ReadReply.{ReadReply}
 use Rattle.tables.specs.declared.ReadReply.the-variants.{Rows, Refused}
 
@@ -18,15 +18,15 @@ abbrev pub replyBy : ℕ → End → ReadReply
 replyBy k all = Rows k
 replyBy k (refused n place) = Refused n place
 
-abbrev pub replyOf : Reading → ReadReply
+abbrev pub replyOf : {A : Type 0} → Reading A → ReadReply
 replyOf x = replyBy (length (x .rows)) (x .end)
 
 -- the rows of an accepted text; a refusal "changes no lent column"
-abbrev pub acceptedBy : List Row → End → List Row
+abbrev pub acceptedBy : {A : Type 0} → List A → End → List A
 acceptedBy ws all = ws
 acceptedBy ws (refused n place) = []
 
-abbrev pub accepted : Reading → List Row
+abbrev pub accepted : {A : Type 0} → Reading A → List A
 accepted x = acceptedBy (x .rows) (x .end)
 
 -- a column that "fills the first k places .. later places keep their contents"
@@ -44,25 +44,25 @@ pub record BlockColumns : Type 0 where
   pub figure : List ℤ
 
 abbrev pub blocks : List ℕ → List ℕ → List ℕ → List ℕ → List ℤ → BlockColumns
-blocks c l a b f = record { cost = c; loops = l; first = a; second = b; figure = f }
+blocks c l a b z = record { cost = c; loops = l; first = a; second = b; figure = z }
 
 abbrev pub shortestBlock : BlockColumns → ℕ
 shortestBlock c = min (length (c .cost)) (min (length (c .loops)) (min (length (c .first)) (min (length (c .second)) (length (c .figure)))))
 
 pub record LoopColumns : Type 0 where
   pub parent : List ℕ
-  pub head : List ℕ
+  pub header : List ℕ
   pub limit : List ℕ
   pub multiplier : List ℕ
 
 abbrev pub loops : List ℕ → List ℕ → List ℕ → List ℕ → LoopColumns
-loops p h l m = record { parent = p; head = h; limit = l; multiplier = m }
+loops p h l m = record { parent = p; header = h; limit = l; multiplier = m }
 
 abbrev pub shortestLoop : LoopColumns → ℕ
-shortestLoop c = min (length (c .parent)) (min (length (c .head)) (min (length (c .limit)) (length (c .multiplier))))
+shortestLoop c = min (length (c .parent)) (min (length (c .header)) (min (length (c .limit)) (length (c .multiplier))))
 
 -- the reply and the columns after the reading x
-pub record BlocksDone (x : Reading) (old : BlockColumns) (r : ReadReply) (new : BlockColumns) : Type 0 where
+pub record BlocksDone (x : Reading BlockRow) (old : BlockColumns) (r : ReadReply) (new : BlockColumns) : Type 0 where
   pub reply : r ≡ replyOf x
   pub cost : new .cost ≡ over (map costOf (accepted x)) (old .cost)
   pub loops : new .loops ≡ over (map innermostOf (accepted x)) (old .loops)
@@ -70,16 +70,16 @@ pub record BlocksDone (x : Reading) (old : BlockColumns) (r : ReadReply) (new : 
   pub second : new .second ≡ over (map secondOf (accepted x)) (old .second)
   pub figure : new .figure ≡ over (map figureOf (accepted x)) (old .figure)
 
-pub record LoopsDone (x : Reading) (old : LoopColumns) (r : ReadReply) (new : LoopColumns) : Type 0 where
+pub record LoopsDone (x : Reading LoopRow) (old : LoopColumns) (r : ReadReply) (new : LoopColumns) : Type 0 where
   pub reply : r ≡ replyOf x
   pub parent : new .parent ≡ over (map parentOf (accepted x)) (old .parent)
-  pub head : new .head ≡ over (map headOf (accepted x)) (old .head)
+  pub header : new .header ≡ over (map loopHeaderOf (accepted x)) (old .header)
   pub limit : new .limit ≡ over (map limitOf (accepted x)) (old .limit)
   pub multiplier : new .multiplier ≡ over (map multiplierOf (accepted x)) (old .multiplier)
 
 -- the promises of the two readers, of a text and the columns that were lent
 abbrev pub BlocksRead : List ℕ → Bool → BlockColumns → ReadReply → BlockColumns → Type 0
-BlocksRead s header old r new = BlocksDone (tableOf (layoutOf Blocks (shortestBlock old)) header s) old r new
+BlocksRead s headerRow old r new = BlocksDone (blockTable (shortestBlock old) headerRow s) old r new
 
 abbrev pub LoopsRead : List ℕ → Bool → LoopColumns → ReadReply → LoopColumns → Type 0
-LoopsRead s header old r new = LoopsDone (tableOf (layoutOf Loops (shortestLoop old)) header s) old r new
+LoopsRead s headerRow old r new = LoopsDone (loopTable (shortestLoop old) headerRow s) old r new

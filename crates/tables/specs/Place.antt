@@ -1,86 +1,52 @@
 -- What the functions under the two readers answer, by the definitions of Table.
-use Prim.Native.Nat.{ℕ, _+_, _≤_}
-use mathlib.Core.Path.{_≡_}
-use mathlib.Core.List.{List, [], _∷_, map}
-use lib.ListN.{length, take, replicate}
-use lib.Seq.{sets}
-use mir.Syntax.{w64}
-use mir.Val.{SFits}
-use Rattle.rows.specs.Row.{costOf, innermostOf, firstOf, secondOf, figureOf, parentOf, headOf, limitOf, multiplierOf}
+use Prim.Native.Nat.{ℕ, suc, _+_}
+use mathlib.Core.Bool.{Bool, cond}
+use mathlib.Core.List.{List, [], _∷_}
+use lib.ListN.{length, set}
+use lib.Dec.{leb, eqb}
+use Rattle.limits.specs.Limits.{mostTextBytes}
+use Rattle.csv.specs.Grammar.{Record, records}
+use Rattle.rows.specs.declared.BlockRow.{BlockRow}
+use Rattle.rows.specs.declared.LoopRow.{LoopRow}
 use Rattle.tables.specs.Table.{Reading}
-use Rattle.tables.specs.Columns.{replyBy, BlockColumns, LoopColumns}
-use Rattle.rows.specs.declared.Row.{Row}
-use Rattle.rows.specs.declared.Row.the-variants.{Block, Loop, Bad}
-use Rattle.tables.specs.declared.Slot.{Slot}
-use Rattle.tables.specs.declared.Gathered.{Gathered}
+use Rattle.tables.specs.Columns.{replyBy, BlockColumns, blocks, LoopColumns, loops}
 use Rattle.tables.specs.declared.ReadReply.{ReadReply}
 use Rattle.tables.specs.declared.ReadReply.the-variants.{Rows, Refused}
+use Rattle.tables.specs.declared.Start.{Start}
+use Rattle.tables.specs.declared.Start.the-variants.{At, Refused as NoStart}
 
--- the slots before a row is taken
-abbrev pub slotOf : Row → Slot
-slotOf w = record { row = w }
+-- where the rows of a text start, and in which record, if its length and its header allow any
+abbrev pub startAfter : ℕ → List Record → Start
+startAfter count [] = NoStart 103 1
+startAfter count (r ∷ rs) = cond (r .sound) (cond (eqb (length (r .fields)) count) (At (r .bytes) 2) (NoStart 103 1)) (NoStart 102 1)
 
-unfoldable pub noSlots : List Slot
-noSlots = replicate 1024 (slotOf Bad)
+unfoldable pub startOf : ℕ → Bool → List ℕ → Start
+startOf count headerRow s = cond (leb (length s) mostTextBytes) (cond headerRow (startAfter count (records s)) (At 0 1)) (NoStart 101 0)
 
--- a reading behind k rows, which have their slots already
-abbrev pub gathered : List Slot → ℕ → Reading → Gathered
-gathered slots k x = record { slots = sets slots k (map slotOf (x .rows)); reply = replyBy (k + length (x .rows)) (x .end) }
+-- columns with a store for each row, from place k on, by the store of one row
+unfoldable pub stores : {A C : Type 0} → (C → ℕ → A → C) → C → ℕ → List A → C
+stores store columns k [] = columns
+stores store columns k (w ∷ ws) = stores store (store columns k w) (suc k) ws
 
--- the rows in the first slots
-abbrev pub rowsIn : List Slot → ℕ → List Row
-rowsIn slots count = map (λ (x : Slot). x .row) (take count slots)
+abbrev pub storeBlock : BlockColumns → ℕ → BlockRow → BlockColumns
+storeBlock c k w = blocks (set (c .cost) k (w .cost)) (set (c .loops) k (w .innermost)) (set (c .first) k (w .first)) (set (c .second) k (w .second)) (set (c .figure) k (w .figure))
 
--- each column after a store for each row, from its first place on
-pub record BlocksFilled (ws : List Row) (old new : BlockColumns) : Type 0 where
-  pub cost : new .cost ≡ sets (old .cost) 0 (map costOf ws)
-  pub loops : new .loops ≡ sets (old .loops) 0 (map innermostOf ws)
-  pub first : new .first ≡ sets (old .first) 0 (map firstOf ws)
-  pub second : new .second ≡ sets (old .second) 0 (map secondOf ws)
-  pub figure : new .figure ≡ sets (old .figure) 0 (map figureOf ws)
+abbrev pub storeLoop : LoopColumns → ℕ → LoopRow → LoopColumns
+storeLoop c k w = loops (set (c .parent) k (w .parent)) (set (c .header) k (w .header)) (set (c .limit) k (w .limit)) (set (c .multiplier) k (w .multiplier))
 
-pub record LoopsFilled (ws : List Row) (old new : LoopColumns) : Type 0 where
-  pub parent : new .parent ≡ sets (old .parent) 0 (map parentOf ws)
-  pub head : new .head ≡ sets (old .head) 0 (map headOf ws)
-  pub limit : new .limit ≡ sets (old .limit) 0 (map limitOf ws)
-  pub multiplier : new .multiplier ≡ sets (old .multiplier) 0 (map multiplierOf ws)
+-- what a pass over the records leaves: the rows up to the first fault in its columns, and the reply
+pub record Gathered (C : Type 0) : Type 0 where
+  pub columns : C
+  pub reply : ReadReply
+
+-- a reading after k rows, which stand in the columns already
+abbrev pub gathered : {A C : Type 0} → (C → ℕ → A → C) → C → ℕ → Reading A → Gathered C
+gathered store columns k x = record { columns = stores store columns k (x .rows); reply = replyBy (k + length (x .rows)) (x .end) }
+
+abbrev pub leaving : {C : Type 0} → ReadReply → C → Gathered C
+leaving r columns = record { columns = columns; reply = r }
 
 -- the count of rows in a reply
 abbrev pub rowCount : ReadReply → ℕ
 rowCount (Rows count) = count
 rowCount (Refused n place) = 0
-
--- the rows of a table of blocks, whose figures fit their column, and those of a table of loops
-abbrev pub IsBlock : Row → Type 0
-IsBlock (Block n c l a b z) = SFits w64 z
-IsBlock (Loop n p h l m) = ⊥
-IsBlock Bad = ⊥
-
-abbrev pub IsLoop : Row → Type 0
-IsLoop (Block n c l a b z) = ⊥
-IsLoop (Loop n p h l m) = Unit {0}
-IsLoop Bad = ⊥
-
-unfoldable pub All : (Row → Type 0) → List Row → Type 0
-All P [] = Unit {0}
-All P (w ∷ ws) = P w × All P ws
-
--- each row has a place in every column
-pub record BlocksRoom (slots : List Slot) (count : ℕ) (c : BlockColumns) : Type 0 where
-  pub rows : All IsBlock (rowsIn slots count)
-  pub all-slots : length slots ≡ 1024
-  pub enough : count ≤ 1024
-  pub cost : count ≤ length (c .cost)
-  pub loops : count ≤ length (c .loops)
-  pub first : count ≤ length (c .first)
-  pub second : count ≤ length (c .second)
-  pub figure : count ≤ length (c .figure)
-
-pub record LoopsRoom (slots : List Slot) (count : ℕ) (c : LoopColumns) : Type 0 where
-  pub rows : All IsLoop (rowsIn slots count)
-  pub all-slots : length slots ≡ 1024
-  pub enough : count ≤ 1024
-  pub parent : count ≤ length (c .parent)
-  pub head : count ≤ length (c .head)
-  pub limit : count ≤ length (c .limit)
-  pub multiplier : count ≤ length (c .multiplier)

@@ -1,15 +1,22 @@
-// The two tables of a routine, read from comma-separated text into lent columns.
+// The two tables of a routine, read from comma-separated text into lent columns. Rows wait in columns on the stack until the whole text is
+// accepted.
 ghost use mathlib.Core.Path.{_≡_};
 ghost use Prim.Native.Nat.{_≤_, min};
-ghost use lib.ListN.{length, drop};
+ghost use lib.ListN.{length, take, drop};
+ghost use Rattle.limits.specs.Limits.{mostBlocks, mostLoops};
 ghost use Rattle.csv.specs.Grammar.{records};
-ghost use Rattle.tables.specs.Table.{layoutOf, stopped, reading, tableOf};
-ghost use Rattle.tables.specs.Columns.{blocks, loops, BlocksRead, LoopsRead};
-ghost use Rattle.tables.specs.Place.{noSlots, gathered, rowsIn, rowCount, BlocksRoom, BlocksFilled, LoopsRoom, LoopsFilled};
-use rows::Layout;
-use rows::Row;
-use rows::Shape;
-use rows::Verdict;
+ghost use Rattle.rows.specs.Judge.{judgeBlock, judgeLoop};
+ghost use Rattle.tables.specs.Table.{reading, tableOf};
+ghost use Rattle.rows.specs.Row.{blockFields, loopFields};
+ghost use Rattle.tables.specs.Columns.{over, blocks, loops, BlocksRead, LoopsRead};
+ghost use Rattle.tables.specs.Place.{startAfter, startOf, storeBlock, storeLoop, gathered, leaving, rowCount};
+use limits::MOST_BLOCKS;
+use limits::MOST_LOOPS;
+use limits::MOST_TEXT_BYTES;
+use rows::BLOCK_FIELDS;
+use rows::BlockVerdict;
+use rows::LOOP_FIELDS;
+use rows::LoopVerdict;
 
 // The reply of a reader: the count of rows, or the number of a refusal and its place, a record (0 for 101).
 pub enum ReadReply {
@@ -17,156 +24,227 @@ pub enum ReadReply {
     Refused { number: u32, record: usize },
 }
 
-// A row that is taken.
-pub struct Slot {
-    pub row: Row,
+// Where the rows of a text start, and in which record; or a refusal before the first row.
+pub enum Start {
+    At { at: usize, record: usize },
+    Refused { number: u32, record: usize },
 }
 
-// The rows of a text up to the first fault, each in its slot, and the reply to it.
-pub struct Gathered {
-    pub slots: [Slot; 1024],
-    pub reply: ReadReply,
-}
+// ---- one pass over the text
 
-// The records from `at` on, of which row 0 stands in record `first`: one pass, which writes no column.
-fn gather(text: &[u8], t: Layout, at: usize, first: usize) -> Gathered
-    requires { ⌜ (at ≤ length (now text)) × (first ≤ 2) × (t .room ≤ 1024) ⌝ }
-    ensures { λ r. ⌜ r ≡ gathered noSlots 0 (reading t first 0 (records (drop at (now (text .entry))))) ⌝ }
+// Where the rows start after a header record.
+fn header_start(text: &[u8], count: usize) -> Start
+    ensures { λ r. ⌜ r ≡ startAfter count (records (now (text .entry))) ⌝ }
 {
-    let none = Slot { row: Row::Bad };
-    let mut slots = [none; 1024];
+    if text.len() == 0 {
+        return Start::Refused {
+            number: 103,
+            record: 1,
+        };
+    }
+    let split = csv::scan_record(text, 0);
+    if split.sound {
+        if split.count != count {
+            return Start::Refused {
+                number: 103,
+                record: 1,
+            };
+        }
+        return Start::At {
+            at: split.next,
+            record: 2,
+        };
+    }
+    Start::Refused {
+        number: 102,
+        record: 1,
+    }
+}
+
+// The length of the text, and its header if one is promised.
+fn start_of(text: &[u8], header_row: bool, count: usize) -> Start
+    ensures { λ r. ⌜ r ≡ startOf count «header_row» (now (text .entry)) ⌝ }
+{
+    if text.len() > MOST_TEXT_BYTES {
+        return Start::Refused {
+            number: 101,
+            record: 0,
+        };
+    }
+    if header_row {
+        return header_start(text, count);
+    }
+    Start::At { at: 0, record: 1 }
+}
+
+// The records from `at` on, of which row 0 stands in record `start`, into columns.
+fn gather_blocks(
+    text: &[u8],
+    at: usize,
+    start: usize,
+    room: usize,
+    cost: &mut [u32; MOST_BLOCKS],
+    loops: &mut [u16; MOST_BLOCKS],
+    first: &mut [u16; MOST_BLOCKS],
+    second: &mut [u16; MOST_BLOCKS],
+    figure: &mut [i64; MOST_BLOCKS],
+) -> ReadReply
+    requires { ⌜ (at ≤ length (now text)) × (start ≤ 2) × (room ≤ mostBlocks) ⌝ }
+    ensures { λ r. ⌜ leaving r (blocks (now (cost .exit)) (now (loops .exit)) (now (first .exit)) (now (second .exit)) (now (figure .exit))) ≡ gathered storeBlock (blocks (now (cost .entry)) (now (loops .entry)) (now (first .entry)) (now (second .entry)) (now (figure .entry))) 0 (reading (judgeBlock room) start 0 (records (drop at (now (text .entry))))) ⌝ }
+{
     let mut p = at;
     let mut k: usize = 0;
     while p < text.len() {
-        let step = rows::row_at(text, t, p, k);
+        let step = rows::block_at(text, p, k, room);
         let verdict = step.verdict;
         match verdict {
-            Verdict::Taken(row) => {
-                slots[k] = Slot { row };
+            BlockVerdict::Taken(row) => {
+                cost[k] = row.cost;
+                loops[k] = row.innermost;
+                first[k] = row.first;
+                second[k] = row.second;
+                let z = row.figure;
+                figure[k] = z;
                 p = step.next;
                 k += 1;
             }
-            Verdict::Fault(number) => {
-                let place = first + k;
-                let reply = ReadReply::Refused {
-                    number,
-                    record: place,
-                };
-                return Gathered { slots, reply };
+            BlockVerdict::Fault(number) => {
+                let record = start + k;
+                return ReadReply::Refused { number, record };
             }
         }
     }
-    let reply = ReadReply::Rows(k);
-    Gathered { slots, reply }
-}
-
-// A refusal before the first row.
-fn refused(number: u32, place: usize) -> Gathered
-    ensures { λ r. ⌜ r ≡ gathered noSlots 0 (stopped number place) ⌝ }
-{
-    let none = Slot { row: Row::Bad };
-    let slots = [none; 1024];
-    let reply = ReadReply::Refused {
-        number,
-        record: place,
-    };
-    Gathered { slots, reply }
-}
-
-// The whole text: its length, its header if one is promised, and its rows.
-fn gather_table(text: &[u8], header: bool, t: Layout) -> Gathered
-    requires { ⌜ t .room ≤ 1024 ⌝ }
-    ensures { λ r. ⌜ r ≡ gathered noSlots 0 (tableOf t header (now (text .entry))) ⌝ }
-{
-    if text.len() > 65536 {
-        return refused(101, 0);
-    }
-    if header {
-        if text.len() == 0 {
-            return refused(103, 1);
-        }
-        let split = csv::scan_record(text, 0);
-        if split.sound {
-            if split.count != t.columns {
-                return refused(103, 1);
-            }
-            return gather(text, t, split.next, 2);
-        }
-        return refused(102, 1);
-    }
-    gather(text, t, 0, 1)
-}
-
-// Writes the first `count` rows into the columns of blocks.
-fn fill_blocks(
-    slots: [Slot; 1024],
-    count: usize,
-    cost: &mut [u32],
-    loops: &mut [u16],
-    first: &mut [u16],
-    second: &mut [u16],
-    figure: &mut [i64],
-)
-    requires { ⌜ BlocksRoom slots count (blocks (now cost) (now loops) (now first) (now second) (now figure)) ⌝ }
-    ensures { λ _. ⌜ BlocksFilled (rowsIn slots count) (blocks (now (cost .entry)) (now (loops .entry)) (now (first .entry)) (now (second .entry)) (now (figure .entry))) (blocks (now (cost .exit)) (now (loops .exit)) (now (first .exit)) (now (second .exit)) (now (figure .exit))) ⌝ }
-{
-    let mut k: usize = 0;
-    while k < count {
-        let slot = slots[k];
-        let row = slot.row;
-        let Row::Block {
-            number: _,
-            cost: c,
-            innermost: l,
-            first: a,
-            second: b,
-            figure: z,
-        } = row
-        else {
-            return;
-        };
-        cost[k] = c;
-        loops[k] = l;
-        first[k] = a;
-        second[k] = b;
-        figure[k] = z;
-        k += 1;
-    }
+    ReadReply::Rows(k)
 }
 
 // The same of loops.
-fn fill_loops(
-    slots: [Slot; 1024],
-    count: usize,
-    parent: &mut [u16],
-    head: &mut [u16],
-    limit: &mut [u32],
-    multiplier: &mut [u64],
-)
-    requires { ⌜ LoopsRoom slots count (loops (now parent) (now head) (now limit) (now multiplier)) ⌝ }
-    ensures { λ _. ⌜ LoopsFilled (rowsIn slots count) (loops (now (parent .entry)) (now (head .entry)) (now (limit .entry)) (now (multiplier .entry))) (loops (now (parent .exit)) (now (head .exit)) (now (limit .exit)) (now (multiplier .exit))) ⌝ }
+fn gather_loops(
+    text: &[u8],
+    at: usize,
+    start: usize,
+    room: usize,
+    parent: &mut [u16; MOST_LOOPS],
+    header: &mut [u16; MOST_LOOPS],
+    limit: &mut [u32; MOST_LOOPS],
+    multiplier: &mut [u64; MOST_LOOPS],
+) -> ReadReply
+    requires { ⌜ (at ≤ length (now text)) × (start ≤ 2) × (room ≤ mostLoops) ⌝ }
+    ensures { λ r. ⌜ leaving r (loops (now (parent .exit)) (now (header .exit)) (now (limit .exit)) (now (multiplier .exit))) ≡ gathered storeLoop (loops (now (parent .entry)) (now (header .entry)) (now (limit .entry)) (now (multiplier .entry))) 0 (reading (judgeLoop room) start 0 (records (drop at (now (text .entry))))) ⌝ }
 {
-    let mut i: usize = 0;
+    let mut p = at;
+    let mut k: usize = 0;
+    while p < text.len() {
+        let step = rows::loop_at(text, p, k, room);
+        let verdict = step.verdict;
+        match verdict {
+            LoopVerdict::Taken(row) => {
+                parent[k] = row.parent;
+                header[k] = row.header;
+                limit[k] = row.limit;
+                multiplier[k] = row.multiplier;
+                p = step.next;
+                k += 1;
+            }
+            LoopVerdict::Fault(number) => {
+                let record = start + k;
+                return ReadReply::Refused { number, record };
+            }
+        }
+    }
+    ReadReply::Rows(k)
+}
+
+// The whole text of a block table into columns.
+fn gather_block_table(
+    text: &[u8],
+    header_row: bool,
+    room: usize,
+    cost: &mut [u32; MOST_BLOCKS],
+    loops: &mut [u16; MOST_BLOCKS],
+    first: &mut [u16; MOST_BLOCKS],
+    second: &mut [u16; MOST_BLOCKS],
+    figure: &mut [i64; MOST_BLOCKS],
+) -> ReadReply
+    requires { ⌜ room ≤ mostBlocks ⌝ }
+    ensures { λ r. ⌜ leaving r (blocks (now (cost .exit)) (now (loops .exit)) (now (first .exit)) (now (second .exit)) (now (figure .exit))) ≡ gathered storeBlock (blocks (now (cost .entry)) (now (loops .entry)) (now (first .entry)) (now (second .entry)) (now (figure .entry))) 0 (tableOf blockFields (judgeBlock room) «header_row» (now (text .entry))) ⌝ }
+{
+    match start_of(text, header_row, BLOCK_FIELDS) {
+        Start::At { at, record } => {
+            gather_blocks(text, at, record, room, cost, loops, first, second, figure)
+        }
+        Start::Refused { number, record } => ReadReply::Refused { number, record },
+    }
+}
+
+// The whole text of a loop table into columns.
+fn gather_loop_table(
+    text: &[u8],
+    header_row: bool,
+    room: usize,
+    parent: &mut [u16; MOST_LOOPS],
+    header: &mut [u16; MOST_LOOPS],
+    limit: &mut [u32; MOST_LOOPS],
+    multiplier: &mut [u64; MOST_LOOPS],
+) -> ReadReply
+    requires { ⌜ room ≤ mostLoops ⌝ }
+    ensures { λ r. ⌜ leaving r (loops (now (parent .exit)) (now (header .exit)) (now (limit .exit)) (now (multiplier .exit))) ≡ gathered storeLoop (loops (now (parent .entry)) (now (header .entry)) (now (limit .entry)) (now (multiplier .entry))) 0 (tableOf loopFields (judgeLoop room) «header_row» (now (text .entry))) ⌝ }
+{
+    match start_of(text, header_row, LOOP_FIELDS) {
+        Start::At { at, record } => {
+            gather_loops(text, at, record, room, parent, header, limit, multiplier)
+        }
+        Start::Refused { number, record } => ReadReply::Refused { number, record },
+    }
+}
+
+// ---- from the columns on the stack to the lent ones
+
+// Copies the first `count` values.
+fn copy_u16(from: &[u16], count: usize, to: &mut [u16])
+    requires { ⌜ (count ≤ length (now from)) × (count ≤ length (now to)) ⌝ }
+    ensures { λ _. ⌜ now (to .exit) ≡ over (take count (now (from .entry))) (now (to .entry)) ⌝ }
+{
+    let mut i = 0;
     while i < count {
-        let slot = slots[i];
-        let row = slot.row;
-        let Row::Loop {
-            number: _,
-            parent: a,
-            head: h,
-            limit: l,
-            multiplier: m,
-        } = row
-        else {
-            return;
-        };
-        parent[i] = a;
-        head[i] = h;
-        limit[i] = l;
-        multiplier[i] = m;
+        to[i] = from[i];
         i += 1;
     }
 }
+
+fn copy_u32(from: &[u32], count: usize, to: &mut [u32])
+    requires { ⌜ (count ≤ length (now from)) × (count ≤ length (now to)) ⌝ }
+    ensures { λ _. ⌜ now (to .exit) ≡ over (take count (now (from .entry))) (now (to .entry)) ⌝ }
+{
+    let mut i = 0;
+    while i < count {
+        to[i] = from[i];
+        i += 1;
+    }
+}
+
+fn copy_u64(from: &[u64], count: usize, to: &mut [u64])
+    requires { ⌜ (count ≤ length (now from)) × (count ≤ length (now to)) ⌝ }
+    ensures { λ _. ⌜ now (to .exit) ≡ over (take count (now (from .entry))) (now (to .entry)) ⌝ }
+{
+    let mut i = 0;
+    while i < count {
+        to[i] = from[i];
+        i += 1;
+    }
+}
+
+fn copy_i64(from: &[i64], count: usize, to: &mut [i64])
+    requires { ⌜ (count ≤ length (now from)) × (count ≤ length (now to)) ⌝ }
+    ensures { λ _. ⌜ now (to .exit) ≡ over (take count (now (from .entry))) (now (to .entry)) ⌝ }
+{
+    let mut i = 0;
+    while i < count {
+        to[i] = from[i];
+        i += 1;
+    }
+}
+
+// ---- the readers
 
 // The count of rows in a reply: none in a refusal.
 fn row_count(reply: ReadReply) -> usize
@@ -187,72 +265,87 @@ fn least(a: usize, b: usize) -> usize
     if a <= b { a } else { b }
 }
 
-// What a block table goes by, with these places in its columns.
-fn block_layout(cost: usize, loops: usize, first: usize, second: usize, figure: usize) -> Layout
-    ensures { λ r. ⌜ r ≡ layoutOf Shape.Blocks (min cost (min loops (min first (min second figure)))) ⌝ }
+// The blocks that have a place in columns of these lengths.
+fn block_room(cost: usize, loops: usize, first: usize, second: usize, figure: usize) -> usize
+    ensures { λ r. ⌜ r ≡ min (min cost (min loops (min first (min second figure)))) mostBlocks ⌝ }
 {
     let places = least(cost, least(loops, least(first, least(second, figure))));
-    Layout {
-        shape: Shape::Blocks,
-        columns: 6,
-        room: least(places, 1024),
-    }
+    least(places, MOST_BLOCKS)
 }
 
-// What a loop table goes by, with these places in its columns.
-fn loop_layout(parent: usize, head: usize, limit: usize, multiplier: usize) -> Layout
-    ensures { λ r. ⌜ r ≡ layoutOf Shape.Loops (min parent (min head (min limit multiplier))) ⌝ }
+// The loops that have a place in columns of these lengths.
+fn loop_room(parent: usize, header: usize, limit: usize, multiplier: usize) -> usize
+    ensures { λ r. ⌜ r ≡ min (min parent (min header (min limit multiplier))) mostLoops ⌝ }
 {
-    let places = least(parent, least(head, least(limit, multiplier)));
-    Layout {
-        shape: Shape::Loops,
-        columns: 5,
-        room: least(places, 64),
-    }
+    let places = least(parent, least(header, least(limit, multiplier)));
+    least(places, MOST_LOOPS)
 }
 
 // Reads a block table into the columns: the count of its rows, or the number of a refusal and its record (0 for 101). A refusal leaves the
 // columns as they were.
 pub fn read_blocks(
     text: &[u8],
-    header: bool,
+    header_row: bool,
     cost: &mut [u32],
     loops: &mut [u16],
     first: &mut [u16],
     second: &mut [u16],
     figure: &mut [i64],
 ) -> ReadReply
-    ensures { λ r. ⌜ BlocksRead (now (text .entry)) header (blocks (now (cost .entry)) (now (loops .entry)) (now (first .entry)) (now (second .entry)) (now (figure .entry))) r (blocks (now (cost .exit)) (now (loops .exit)) (now (first .exit)) (now (second .exit)) (now (figure .exit))) ⌝ }
+    ensures { λ r. ⌜ BlocksRead (now (text .entry)) «header_row» (blocks (now (cost .entry)) (now (loops .entry)) (now (first .entry)) (now (second .entry)) (now (figure .entry))) r (blocks (now (cost .exit)) (now (loops .exit)) (now (first .exit)) (now (second .exit)) (now (figure .exit))) ⌝ }
 {
-    let t = block_layout(
+    let room = block_room(
         cost.len(),
         loops.len(),
         first.len(),
         second.len(),
         figure.len(),
     );
-    let found = gather_table(text, header, t);
-    let reply = found.reply;
-    let slots = found.slots;
-    fill_blocks(slots, row_count(reply), cost, loops, first, second, figure);
+    let mut c = [0u32; MOST_BLOCKS];
+    let mut l = [0u16; MOST_BLOCKS];
+    let mut a = [0u16; MOST_BLOCKS];
+    let mut b = [0u16; MOST_BLOCKS];
+    let mut z = [0i64; MOST_BLOCKS];
+    let reply = gather_block_table(
+        text,
+        header_row,
+        room,
+        &mut c,
+        &mut l,
+        &mut a,
+        &mut b,
+        &mut z,
+    );
+    let count = row_count(reply);
+    copy_u32(&c, count, cost);
+    copy_u16(&l, count, loops);
+    copy_u16(&a, count, first);
+    copy_u16(&b, count, second);
+    copy_i64(&z, count, figure);
     reply
 }
 
 // Reads a loop table into the columns, with the same reply.
 pub fn read_loops(
     text: &[u8],
-    header: bool,
+    header_row: bool,
     parent: &mut [u16],
-    head: &mut [u16],
+    header: &mut [u16],
     limit: &mut [u32],
     multiplier: &mut [u64],
 ) -> ReadReply
-    ensures { λ r. ⌜ LoopsRead (now (text .entry)) header (loops (now (parent .entry)) (now (head .entry)) (now (limit .entry)) (now (multiplier .entry))) r (loops (now (parent .exit)) (now (head .exit)) (now (limit .exit)) (now (multiplier .exit))) ⌝ }
+    ensures { λ r. ⌜ LoopsRead (now (text .entry)) «header_row» (loops (now (parent .entry)) (now (header .entry)) (now (limit .entry)) (now (multiplier .entry))) r (loops (now (parent .exit)) (now (header .exit)) (now (limit .exit)) (now (multiplier .exit))) ⌝ }
 {
-    let t = loop_layout(parent.len(), head.len(), limit.len(), multiplier.len());
-    let found = gather_table(text, header, t);
-    let reply = found.reply;
-    let slots = found.slots;
-    fill_loops(slots, row_count(reply), parent, head, limit, multiplier);
+    let room = loop_room(parent.len(), header.len(), limit.len(), multiplier.len());
+    let mut p = [0u16; MOST_LOOPS];
+    let mut h = [0u16; MOST_LOOPS];
+    let mut l = [0u32; MOST_LOOPS];
+    let mut m = [0u64; MOST_LOOPS];
+    let reply = gather_loop_table(text, header_row, room, &mut p, &mut h, &mut l, &mut m);
+    let count = row_count(reply);
+    copy_u16(&p, count, parent);
+    copy_u16(&h, count, header);
+    copy_u32(&l, count, limit);
+    copy_u64(&m, count, multiplier);
     reply
 }

@@ -4,8 +4,8 @@ use Rattle.rows.proofs.i64_in.Statement.{statement}
 use Rattle.rows.proofs.i64_in.Tie as tie
 use Rattle.rows.proofs.i64_in.Reads as reads
 use Rattle.rows.proofs.i64_in.Lts as lts
+use Rattle.cells.proofs.i64_of.Reads as i64-of-reads
 use Rattle.csv.proofs.find_field.Reads as find-field-reads
-use Rattle.numbers.proofs.i64_of.Reads as i64-of-reads
 
 find-field-requires : tie.Need-find-field-requires
 find-field-requires c κs = search needs

@@ -1,22 +1,61 @@
 use Rattle.tables.specs.Columns.{blocks}
-use Rattle.tables.proofs.Whole.{table-slots, blocks-room, blocks-filled}
+use Rattle.tables.proofs.Whole.{blocks-count, blocks-lengths, blocks-read}
+use Prim.Native.Nat.{_≤_}
+use mathlib.Core.Path.{refl}
+use native.Mathlib.Omega.{arith}
 use borrow.Author.Needs.{needs}
 use Rattle.tables.proofs.read_blocks.Statement.{statement}
 use Rattle.tables.proofs.read_blocks.Tie as tie
 use Rattle.tables.proofs.read_blocks.Reads as reads
 use Rattle.tables.proofs.read_blocks.Lts as lts
+use Rattle.tables.proofs.block_room.Reads as block-room-reads
+use Rattle.tables.proofs.copy_i64.Reads as copy-i64-reads
+use Rattle.tables.proofs.copy_u16.Reads as copy-u16-reads
+use Rattle.tables.proofs.copy_u32.Reads as copy-u32-reads
+use Rattle.tables.proofs.gather_block_table.Reads as gather-block-table-reads
+use Rattle.tables.proofs.row_count.Reads as row-count-reads
 
-block-layout-requires : tie.Need-block-layout-requires
-block-layout-requires c κs = search needs
+counted : (c : tie.After-row-count) → c .row-count .result ≤ c .before .before .before .before .before .before .before .block-room .result
+counted c = blocks-count (c .before .before .before .before .before .before .before .before .before .before .before .before .before .args .text .now) (c .before .before .before .before .before .before .before .before .before .before .before .before .before .args .header-row) (blocks (c .before .before .before .before .before .before .before .before .before .before .before .before .before .args .cost .now) (c .before .before .before .before .before .before .before .before .before .before .before .before .before .args .loops .now) (c .before .before .before .before .before .before .before .before .before .before .before .before .before .args .first .now) (c .before .before .before .before .before .before .before .before .before .before .before .before .before .args .second .now) (c .before .before .before .before .before .before .before .before .before .before .before .before .before .args .figure .now)) _ (c .before .before .before .before .before .before .before .block-room .ensures) (c .before .gather-block-table .ensures) (c .row-count .ensures)
 
-gather-table-requires : tie.Need-gather-table-requires
-gather-table-requires c κs = table-slots _ _ (c .block-layout .ensures)
+block-room-requires : tie.Need-block-room-requires
+block-room-requires c κs = search needs
+
+gather-block-table-requires : tie.Need-gather-block-table-requires
+gather-block-table-requires c κs = omega (arith, c .before .before .before .before .before .block-room .ensures)
 
 row-count-requires : tie.Need-row-count-requires
 row-count-requires c κs = search needs
 
-fill-blocks-requires : tie.Need-fill-blocks-requires
-fill-blocks-requires c κs = search blocks-room
+slice-aggregate-copy-u32 : tie.Need-slice-aggregate-copy-u32
+slice-aggregate-copy-u32 c = blocks-lengths 1024 (c .before .before .before .before .before .before .before .before .before .before .before .before .before .before .args .text .now) (c .before .before .before .before .before .before .before .before .before .before .before .before .before .before .args .header-row) (c .before .before .before .before .before .before .before .before .block-room .result) (c .before .before .gather-block-table .ensures) (record { cost = refl; loops = refl; first = refl; second = refl; figure = refl }) .cost
+
+copy-u32-requires : tie.Need-copy-u32-requires
+copy-u32-requires c κs = let l = blocks-lengths 1024 (c .before .before .before .before .before .before .before .before .before .before .before .before .before .before .before .args .text .now) (c .before .before .before .before .before .before .before .before .before .before .before .before .before .before .before .args .header-row) (c .before .before .before .before .before .before .before .before .before .block-room .result) (c .before .before .before .gather-block-table .ensures) (record { cost = refl; loops = refl; first = refl; second = refl; figure = refl }) .cost in let h = counted (c .before .before) in (omega (arith, c .before .before .before .before .before .before .before .before .before .block-room .ensures), omega (arith, c .before .before .before .before .before .before .before .before .before .block-room .ensures))
+
+slice-aggregate-copy-u16 : tie.Need-slice-aggregate-copy-u16
+slice-aggregate-copy-u16 c = blocks-lengths 1024 (c .before .before .before .before .before .before .before .before .before .before .before .before .before .before .before .before .before .before .before .args .text .now) (c .before .before .before .before .before .before .before .before .before .before .before .before .before .before .before .before .before .before .before .args .header-row) (c .before .before .before .before .before .before .before .before .before .before .before .before .before .block-room .result) (c .before .before .before .before .before .before .before .gather-block-table .ensures) (record { cost = refl; loops = refl; first = refl; second = refl; figure = refl }) .loops
+
+copy-u16-requires : tie.Need-copy-u16-requires
+copy-u16-requires c κs = let l = blocks-lengths 1024 (c .before .before .before .before .before .before .before .before .before .before .before .before .before .before .before .before .before .before .before .before .args .text .now) (c .before .before .before .before .before .before .before .before .before .before .before .before .before .before .before .before .before .before .before .before .args .header-row) (c .before .before .before .before .before .before .before .before .before .before .before .before .before .before .block-room .result) (c .before .before .before .before .before .before .before .before .gather-block-table .ensures) (record { cost = refl; loops = refl; first = refl; second = refl; figure = refl }) .loops in let h = counted (c .before .before .before .before .before .before .before) in (omega (arith, c .before .before .before .before .before .before .before .before .before .before .before .before .before .before .block-room .ensures), omega (arith, c .before .before .before .before .before .before .before .before .before .before .before .before .before .before .block-room .ensures))
+
+slice-aggregate-copy-u16-2 : tie.Need-slice-aggregate-copy-u16-2
+slice-aggregate-copy-u16-2 c = blocks-lengths 1024 (c .before .before .before .before .before .before .before .before .before .before .before .before .before .before .before .before .before .before .before .before .before .before .before .before .args .text .now) (c .before .before .before .before .before .before .before .before .before .before .before .before .before .before .before .before .before .before .before .before .before .before .before .before .args .header-row) (c .before .before .before .before .before .before .before .before .before .before .before .before .before .before .before .before .before .before .block-room .result) (c .before .before .before .before .before .before .before .before .before .before .before .before .gather-block-table .ensures) (record { cost = refl; loops = refl; first = refl; second = refl; figure = refl }) .first
+
+copy-u16-requires-2 : tie.Need-copy-u16-requires-2
+copy-u16-requires-2 c κs = let l = blocks-lengths 1024 (c .before .before .before .before .before .before .before .before .before .before .before .before .before .before .before .before .before .before .before .before .before .before .before .before .before .args .text .now) (c .before .before .before .before .before .before .before .before .before .before .before .before .before .before .before .before .before .before .before .before .before .before .before .before .before .args .header-row) (c .before .before .before .before .before .before .before .before .before .before .before .before .before .before .before .before .before .before .before .block-room .result) (c .before .before .before .before .before .before .before .before .before .before .before .before .before .gather-block-table .ensures) (record { cost = refl; loops = refl; first = refl; second = refl; figure = refl }) .first in let h = counted (c .before .before .before .before .before .before .before .before .before .before .before .before) in (omega (arith, c .before .before .before .before .before .before .before .before .before .before .before .before .before .before .before .before .before .before .before .block-room .ensures), omega (arith, c .before .before .before .before .before .before .before .before .before .before .before .before .before .before .before .before .before .before .before .block-room .ensures))
+
+slice-aggregate-copy-u16-3 : tie.Need-slice-aggregate-copy-u16-3
+slice-aggregate-copy-u16-3 c = blocks-lengths 1024 (c .before .before .before .before .before .before .before .before .before .before .before .before .before .before .before .before .before .before .before .before .before .before .before .before .before .before .before .before .before .args .text .now) (c .before .before .before .before .before .before .before .before .before .before .before .before .before .before .before .before .before .before .before .before .before .before .before .before .before .before .before .before .before .args .header-row) (c .before .before .before .before .before .before .before .before .before .before .before .before .before .before .before .before .before .before .before .before .before .before .before .block-room .result) (c .before .before .before .before .before .before .before .before .before .before .before .before .before .before .before .before .before .gather-block-table .ensures) (record { cost = refl; loops = refl; first = refl; second = refl; figure = refl }) .second
+
+copy-u16-requires-3 : tie.Need-copy-u16-requires-3
+copy-u16-requires-3 c κs = let l = blocks-lengths 1024 (c .before .before .before .before .before .before .before .before .before .before .before .before .before .before .before .before .before .before .before .before .before .before .before .before .before .before .before .before .before .before .args .text .now) (c .before .before .before .before .before .before .before .before .before .before .before .before .before .before .before .before .before .before .before .before .before .before .before .before .before .before .before .before .before .before .args .header-row) (c .before .before .before .before .before .before .before .before .before .before .before .before .before .before .before .before .before .before .before .before .before .before .before .before .block-room .result) (c .before .before .before .before .before .before .before .before .before .before .before .before .before .before .before .before .before .before .gather-block-table .ensures) (record { cost = refl; loops = refl; first = refl; second = refl; figure = refl }) .second in let h = counted (c .before .before .before .before .before .before .before .before .before .before .before .before .before .before .before .before .before) in (omega (arith, c .before .before .before .before .before .before .before .before .before .before .before .before .before .before .before .before .before .before .before .before .before .before .before .before .block-room .ensures), omega (arith, c .before .before .before .before .before .before .before .before .before .before .before .before .before .before .before .before .before .before .before .before .before .before .before .before .block-room .ensures))
+
+slice-aggregate-copy-i64 : tie.Need-slice-aggregate-copy-i64
+slice-aggregate-copy-i64 c = blocks-lengths 1024 (c .before .before .before .before .before .before .before .before .before .before .before .before .before .before .before .before .before .before .before .before .before .before .before .before .before .before .before .before .before .before .before .before .before .before .args .text .now) (c .before .before .before .before .before .before .before .before .before .before .before .before .before .before .before .before .before .before .before .before .before .before .before .before .before .before .before .before .before .before .before .before .before .before .args .header-row) (c .before .before .before .before .before .before .before .before .before .before .before .before .before .before .before .before .before .before .before .before .before .before .before .before .before .before .before .before .block-room .result) (c .before .before .before .before .before .before .before .before .before .before .before .before .before .before .before .before .before .before .before .before .before .before .gather-block-table .ensures) (record { cost = refl; loops = refl; first = refl; second = refl; figure = refl }) .figure
+
+copy-i64-requires : tie.Need-copy-i64-requires
+copy-i64-requires c κs = let l = blocks-lengths 1024 (c .before .before .before .before .before .before .before .before .before .before .before .before .before .before .before .before .before .before .before .before .before .before .before .before .before .before .before .before .before .before .before .before .before .before .before .args .text .now) (c .before .before .before .before .before .before .before .before .before .before .before .before .before .before .before .before .before .before .before .before .before .before .before .before .before .before .before .before .before .before .before .before .before .before .before .args .header-row) (c .before .before .before .before .before .before .before .before .before .before .before .before .before .before .before .before .before .before .before .before .before .before .before .before .before .before .before .before .before .block-room .result) (c .before .before .before .before .before .before .before .before .before .before .before .before .before .before .before .before .before .before .before .before .before .before .before .gather-block-table .ensures) (record { cost = refl; loops = refl; first = refl; second = refl; figure = refl }) .figure in let h = counted (c .before .before .before .before .before .before .before .before .before .before .before .before .before .before .before .before .before .before .before .before .before .before) in (omega (arith, c .before .before .before .before .before .before .before .before .before .before .before .before .before .before .before .before .before .before .before .before .before .before .before .before .before .before .before .before .before .block-room .ensures), omega (arith, c .before .before .before .before .before .before .before .before .before .before .before .before .before .before .before .before .before .before .before .before .before .before .before .before .before .before .before .before .before .block-room .ensures))
 
 same-length : tie.Need-same-length
 same-length c = search needs
@@ -34,16 +73,25 @@ same-length-5 : tie.Need-same-length-5
 same-length-5 c = search needs
 
 returns : tie.Need-returns
-returns c = blocks-filled (c .before .before .before .before .before .before .before .before .before .before .before .before .before .before .before .before .before .before .before .before .before .before .before .before .args .text .now) (c .before .before .before .before .before .before .before .before .before .before .before .before .before .before .before .before .before .before .before .before .before .before .before .before .args .header) (blocks (c .before .before .before .before .before .before .before .before .before .before .before .before .before .before .before .before .before .before .before .before .before .before .before .before .args .cost .now) (c .before .before .before .before .before .before .before .before .before .before .before .before .before .before .before .before .before .before .before .before .before .before .before .before .args .loops .now) (c .before .before .before .before .before .before .before .before .before .before .before .before .before .before .before .before .before .before .before .before .before .before .before .before .args .first .now) (c .before .before .before .before .before .before .before .before .before .before .before .before .before .before .before .before .before .before .before .before .before .before .before .before .args .second .now) (c .before .before .before .before .before .before .before .before .before .before .before .before .before .before .before .before .before .before .before .before .before .before .before .before .args .figure .now)) (c .before .before .before .before .before .before .before .before .before .before .before .before .before .before .before .before .before .before .block-layout .ensures) (c .before .before .before .before .before .before .before .before .before .before .before .before .before .before .before .before .before .gather-table .ensures) (c .before .before .before .before .before .before .before .before .before .before .before .before .before .before .before .row-count .ensures) (c .before .before .before .before .before .before .before .before .before .fill-blocks .ensures)
+returns c = blocks-read (c .before .before .before .before .before .before .before .before .before .before .before .before .before .before .before .before .before .before .before .before .before .before .before .before .before .before .before .before .before .before .before .before .before .before .before .before .before .args .text .now) (c .before .before .before .before .before .before .before .before .before .before .before .before .before .before .before .before .before .before .before .before .before .before .before .before .before .before .before .before .before .before .before .before .before .before .before .before .before .args .header-row) (blocks (c .before .before .before .before .before .before .before .before .before .before .before .before .before .before .before .before .before .before .before .before .before .before .before .before .before .before .before .before .before .before .before .before .before .before .before .before .before .args .cost .now) (c .before .before .before .before .before .before .before .before .before .before .before .before .before .before .before .before .before .before .before .before .before .before .before .before .before .before .before .before .before .before .before .before .before .before .before .before .before .args .loops .now) (c .before .before .before .before .before .before .before .before .before .before .before .before .before .before .before .before .before .before .before .before .before .before .before .before .before .before .before .before .before .before .before .before .before .before .before .before .before .args .first .now) (c .before .before .before .before .before .before .before .before .before .before .before .before .before .before .before .before .before .before .before .before .before .before .before .before .before .before .before .before .before .before .before .before .before .before .before .before .before .args .second .now) (c .before .before .before .before .before .before .before .before .before .before .before .before .before .before .before .before .before .before .before .before .before .before .before .before .before .before .before .before .before .before .before .before .before .before .before .before .before .args .figure .now)) _ (c .before .before .before .before .before .before .before .before .before .before .before .before .before .before .before .before .before .before .before .before .before .before .before .before .before .before .before .before .before .before .before .block-room .ensures) (c .before .before .before .before .before .before .before .before .before .before .before .before .before .before .before .before .before .before .before .before .before .before .before .before .before .gather-block-table .ensures) (c .before .before .before .before .before .before .before .before .before .before .before .before .before .before .before .before .before .before .before .before .before .before .before .before .row-count .ensures) (record { cost = omega (arith, c .before .before .before .before .before .before .before .before .before .before .before .before .before .before .before .before .before .before .before .before .before .before .before .before .before .before .before .before .before .before .before .block-room .ensures); loops = omega (arith, c .before .before .before .before .before .before .before .before .before .before .before .before .before .before .before .before .before .before .before .before .before .before .before .before .before .before .before .before .before .before .before .block-room .ensures); first = omega (arith, c .before .before .before .before .before .before .before .before .before .before .before .before .before .before .before .before .before .before .before .before .before .before .before .before .before .before .before .before .before .before .before .block-room .ensures); second = omega (arith, c .before .before .before .before .before .before .before .before .before .before .before .before .before .before .before .before .before .before .before .before .before .before .before .before .before .before .before .before .before .before .before .block-room .ensures); figure = omega (arith, c .before .before .before .before .before .before .before .before .before .before .before .before .before .before .before .before .before .before .before .before .before .before .before .before .before .before .before .before .before .before .before .block-room .ensures) }) (record { cost = c .before .before .before .before .before .before .before .before .before .before .before .before .before .before .before .before .before .before .before .before .before .copy-u32 .ensures; loops = c .before .before .before .before .before .before .before .before .before .before .before .before .before .before .before .before .copy-u16 .ensures; first = c .before .before .before .before .before .before .before .before .before .before .before .copy-u162 .ensures; second = c .before .before .before .before .before .before .copy-u163 .ensures; figure = c .before .copy-i64 .ensures })
 
 pub read-blocks-spec : {M : Type 1} → statement M
 read-blocks-spec =
     tie.close
     (tie.spec
-    block-layout-requires
-    gather-table-requires
+    block-room-requires
+    gather-block-table-requires
     row-count-requires
-    fill-blocks-requires
+    slice-aggregate-copy-u32
+    copy-u32-requires
+    slice-aggregate-copy-u16
+    copy-u16-requires
+    slice-aggregate-copy-u16-2
+    copy-u16-requires-2
+    slice-aggregate-copy-u16-3
+    copy-u16-requires-3
+    slice-aggregate-copy-i64
+    copy-i64-requires
     same-length
     same-length-2
     same-length-3

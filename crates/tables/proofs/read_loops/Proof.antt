@@ -1,22 +1,56 @@
+use Rattle.tables.proofs.Whole.{loops-count, loops-lengths, loops-read}
+use mathlib.Core.Path.{refl}
 use Rattle.tables.specs.Columns.{loops}
-use Rattle.tables.proofs.Whole.{table-slots, loops-room, loops-filled}
+use Rattle.tables.proofs.Whole.{loops-count, loops-read}
+use Prim.Native.Nat.{_≤_}
+use native.Mathlib.Omega.{arith}
 use borrow.Author.Needs.{needs}
 use Rattle.tables.proofs.read_loops.Statement.{statement}
 use Rattle.tables.proofs.read_loops.Tie as tie
 use Rattle.tables.proofs.read_loops.Reads as reads
 use Rattle.tables.proofs.read_loops.Lts as lts
+use Rattle.tables.proofs.copy_u16.Reads as copy-u16-reads
+use Rattle.tables.proofs.copy_u32.Reads as copy-u32-reads
+use Rattle.tables.proofs.copy_u64.Reads as copy-u64-reads
+use Rattle.tables.proofs.gather_loop_table.Reads as gather-loop-table-reads
+use Rattle.tables.proofs.loop_room.Reads as loop-room-reads
+use Rattle.tables.proofs.row_count.Reads as row-count-reads
 
-loop-layout-requires : tie.Need-loop-layout-requires
-loop-layout-requires c κs = search needs
+counted : (c : tie.After-row-count) → c .row-count .result ≤ c .before .before .before .before .before .before .loop-room .result
+counted c = loops-count (c .before .before .before .before .before .before .before .before .before .before .before .before .args .text .now) (c .before .before .before .before .before .before .before .before .before .before .before .before .args .header-row) (loops (c .before .before .before .before .before .before .before .before .before .before .before .before .args .parent .now) (c .before .before .before .before .before .before .before .before .before .before .before .before .args .header .now) (c .before .before .before .before .before .before .before .before .before .before .before .before .args .limit .now) (c .before .before .before .before .before .before .before .before .before .before .before .before .args .multiplier .now)) _ (c .before .before .before .before .before .before .loop-room .ensures) (c .before .gather-loop-table .ensures) (c .row-count .ensures)
 
-gather-table-requires : tie.Need-gather-table-requires
-gather-table-requires c κs = table-slots _ _ (c .loop-layout .ensures)
+loop-room-requires : tie.Need-loop-room-requires
+loop-room-requires c κs = search needs
+
+gather-loop-table-requires : tie.Need-gather-loop-table-requires
+gather-loop-table-requires c κs = omega (arith, c .before .before .before .before .loop-room .ensures)
 
 row-count-requires : tie.Need-row-count-requires
 row-count-requires c κs = search needs
 
-fill-loops-requires : tie.Need-fill-loops-requires
-fill-loops-requires c κs = search loops-room
+slice-aggregate-copy-u16 : tie.Need-slice-aggregate-copy-u16
+slice-aggregate-copy-u16 c = loops-lengths 64 (c .before .before .before .before .before .before .before .before .before .before .before .before .before .args .text .now) (c .before .before .before .before .before .before .before .before .before .before .before .before .before .args .header-row) (c .before .before .before .before .before .before .before .loop-room .result) (c .before .before .gather-loop-table .ensures) (record { parent = refl; header = refl; limit = refl; multiplier = refl }) .parent
+
+copy-u16-requires : tie.Need-copy-u16-requires
+copy-u16-requires c κs = let l = loops-lengths 64 (c .before .before .before .before .before .before .before .before .before .before .before .before .before .before .args .text .now) (c .before .before .before .before .before .before .before .before .before .before .before .before .before .before .args .header-row) (c .before .before .before .before .before .before .before .before .loop-room .result) (c .before .before .before .gather-loop-table .ensures) (record { parent = refl; header = refl; limit = refl; multiplier = refl }) .parent in let h = counted (c .before .before) in (omega (arith, c .before .before .before .before .before .before .before .before .loop-room .ensures), omega (arith, c .before .before .before .before .before .before .before .before .loop-room .ensures))
+
+slice-aggregate-copy-u16-2 : tie.Need-slice-aggregate-copy-u16-2
+slice-aggregate-copy-u16-2 c = loops-lengths 64 (c .before .before .before .before .before .before .before .before .before .before .before .before .before .before .before .before .before .before .args .text .now) (c .before .before .before .before .before .before .before .before .before .before .before .before .before .before .before .before .before .before .args .header-row) (c .before .before .before .before .before .before .before .before .before .before .before .before .loop-room .result) (c .before .before .before .before .before .before .before .gather-loop-table .ensures) (record { parent = refl; header = refl; limit = refl; multiplier = refl }) .header
+
+copy-u16-requires-2 : tie.Need-copy-u16-requires-2
+copy-u16-requires-2 c κs = let l = loops-lengths 64 (c .before .before .before .before .before .before .before .before .before .before .before .before .before .before .before .before .before .before .before .args .text .now) (c .before .before .before .before .before .before .before .before .before .before .before .before .before .before .before .before .before .before .before .args .header-row) (c .before .before .before .before .before .before .before .before .before .before .before .before .before .loop-room .result) (c .before .before .before .before .before .before .before .before .gather-loop-table .ensures) (record { parent = refl; header = refl; limit = refl; multiplier = refl }) .header in let h = counted (c .before .before .before .before .before .before .before) in (omega (arith, c .before .before .before .before .before .before .before .before .before .before .before .before .before .loop-room .ensures), omega (arith, c .before .before .before .before .before .before .before .before .before .before .before .before .before .loop-room .ensures))
+
+slice-aggregate-copy-u32 : tie.Need-slice-aggregate-copy-u32
+slice-aggregate-copy-u32 c = loops-lengths 64 (c .before .before .before .before .before .before .before .before .before .before .before .before .before .before .before .before .before .before .before .before .before .before .before .args .text .now) (c .before .before .before .before .before .before .before .before .before .before .before .before .before .before .before .before .before .before .before .before .before .before .before .args .header-row) (c .before .before .before .before .before .before .before .before .before .before .before .before .before .before .before .before .before .loop-room .result) (c .before .before .before .before .before .before .before .before .before .before .before .before .gather-loop-table .ensures) (record { parent = refl; header = refl; limit = refl; multiplier = refl }) .limit
+
+copy-u32-requires : tie.Need-copy-u32-requires
+copy-u32-requires c κs = let l = loops-lengths 64 (c .before .before .before .before .before .before .before .before .before .before .before .before .before .before .before .before .before .before .before .before .before .before .before .before .args .text .now) (c .before .before .before .before .before .before .before .before .before .before .before .before .before .before .before .before .before .before .before .before .before .before .before .before .args .header-row) (c .before .before .before .before .before .before .before .before .before .before .before .before .before .before .before .before .before .before .loop-room .result) (c .before .before .before .before .before .before .before .before .before .before .before .before .before .gather-loop-table .ensures) (record { parent = refl; header = refl; limit = refl; multiplier = refl }) .limit in let h = counted (c .before .before .before .before .before .before .before .before .before .before .before .before) in (omega (arith, c .before .before .before .before .before .before .before .before .before .before .before .before .before .before .before .before .before .before .loop-room .ensures), omega (arith, c .before .before .before .before .before .before .before .before .before .before .before .before .before .before .before .before .before .before .loop-room .ensures))
+
+slice-aggregate-copy-u64 : tie.Need-slice-aggregate-copy-u64
+slice-aggregate-copy-u64 c = loops-lengths 64 (c .before .before .before .before .before .before .before .before .before .before .before .before .before .before .before .before .before .before .before .before .before .before .before .before .before .before .before .before .args .text .now) (c .before .before .before .before .before .before .before .before .before .before .before .before .before .before .before .before .before .before .before .before .before .before .before .before .before .before .before .before .args .header-row) (c .before .before .before .before .before .before .before .before .before .before .before .before .before .before .before .before .before .before .before .before .before .before .loop-room .result) (c .before .before .before .before .before .before .before .before .before .before .before .before .before .before .before .before .before .gather-loop-table .ensures) (record { parent = refl; header = refl; limit = refl; multiplier = refl }) .multiplier
+
+copy-u64-requires : tie.Need-copy-u64-requires
+copy-u64-requires c κs = let l = loops-lengths 64 (c .before .before .before .before .before .before .before .before .before .before .before .before .before .before .before .before .before .before .before .before .before .before .before .before .before .before .before .before .before .args .text .now) (c .before .before .before .before .before .before .before .before .before .before .before .before .before .before .before .before .before .before .before .before .before .before .before .before .before .before .before .before .before .args .header-row) (c .before .before .before .before .before .before .before .before .before .before .before .before .before .before .before .before .before .before .before .before .before .before .before .loop-room .result) (c .before .before .before .before .before .before .before .before .before .before .before .before .before .before .before .before .before .before .gather-loop-table .ensures) (record { parent = refl; header = refl; limit = refl; multiplier = refl }) .multiplier in let h = counted (c .before .before .before .before .before .before .before .before .before .before .before .before .before .before .before .before .before) in (omega (arith, c .before .before .before .before .before .before .before .before .before .before .before .before .before .before .before .before .before .before .before .before .before .before .before .loop-room .ensures), omega (arith, c .before .before .before .before .before .before .before .before .before .before .before .before .before .before .before .before .before .before .before .before .before .before .before .loop-room .ensures))
 
 same-length : tie.Need-same-length
 same-length c = search needs
@@ -31,16 +65,23 @@ same-length-4 : tie.Need-same-length-4
 same-length-4 c = search needs
 
 returns : tie.Need-returns
-returns c = loops-filled (c .before .before .before .before .before .before .before .before .before .before .before .before .before .before .before .before .before .before .before .before .before .before .args .text .now) (c .before .before .before .before .before .before .before .before .before .before .before .before .before .before .before .before .before .before .before .before .before .before .args .header) (loops (c .before .before .before .before .before .before .before .before .before .before .before .before .before .before .before .before .before .before .before .before .before .before .args .parent .now) (c .before .before .before .before .before .before .before .before .before .before .before .before .before .before .before .before .before .before .before .before .before .before .args .head .now) (c .before .before .before .before .before .before .before .before .before .before .before .before .before .before .before .before .before .before .before .before .before .before .args .limit .now) (c .before .before .before .before .before .before .before .before .before .before .before .before .before .before .before .before .before .before .before .before .before .before .args .multiplier .now)) (c .before .before .before .before .before .before .before .before .before .before .before .before .before .before .before .before .loop-layout .ensures) (c .before .before .before .before .before .before .before .before .before .before .before .before .before .before .before .gather-table .ensures) (c .before .before .before .before .before .before .before .before .before .before .before .before .before .row-count .ensures) (c .before .before .before .before .before .before .before .before .fill-loops .ensures)
+returns c = loops-read (c .before .before .before .before .before .before .before .before .before .before .before .before .before .before .before .before .before .before .before .before .before .before .before .before .before .before .before .before .before .before .before .before .args .text .now) (c .before .before .before .before .before .before .before .before .before .before .before .before .before .before .before .before .before .before .before .before .before .before .before .before .before .before .before .before .before .before .before .before .args .header-row) (loops (c .before .before .before .before .before .before .before .before .before .before .before .before .before .before .before .before .before .before .before .before .before .before .before .before .before .before .before .before .before .before .before .before .args .parent .now) (c .before .before .before .before .before .before .before .before .before .before .before .before .before .before .before .before .before .before .before .before .before .before .before .before .before .before .before .before .before .before .before .before .args .header .now) (c .before .before .before .before .before .before .before .before .before .before .before .before .before .before .before .before .before .before .before .before .before .before .before .before .before .before .before .before .before .before .before .before .args .limit .now) (c .before .before .before .before .before .before .before .before .before .before .before .before .before .before .before .before .before .before .before .before .before .before .before .before .before .before .before .before .before .before .before .before .args .multiplier .now)) _ (c .before .before .before .before .before .before .before .before .before .before .before .before .before .before .before .before .before .before .before .before .before .before .before .before .before .before .loop-room .ensures) (c .before .before .before .before .before .before .before .before .before .before .before .before .before .before .before .before .before .before .before .before .before .gather-loop-table .ensures) (c .before .before .before .before .before .before .before .before .before .before .before .before .before .before .before .before .before .before .before .before .row-count .ensures) (record { parent = omega (arith, c .before .before .before .before .before .before .before .before .before .before .before .before .before .before .before .before .before .before .before .before .before .before .before .before .before .before .loop-room .ensures); header = omega (arith, c .before .before .before .before .before .before .before .before .before .before .before .before .before .before .before .before .before .before .before .before .before .before .before .before .before .before .loop-room .ensures); limit = omega (arith, c .before .before .before .before .before .before .before .before .before .before .before .before .before .before .before .before .before .before .before .before .before .before .before .before .before .before .loop-room .ensures); multiplier = omega (arith, c .before .before .before .before .before .before .before .before .before .before .before .before .before .before .before .before .before .before .before .before .before .before .before .before .before .before .loop-room .ensures) }) (record { parent = c .before .before .before .before .before .before .before .before .before .before .before .before .before .before .before .before .before .copy-u16 .ensures; header = c .before .before .before .before .before .before .before .before .before .before .before .before .copy-u162 .ensures; limit = c .before .before .before .before .before .before .before .copy-u32 .ensures; multiplier = c .before .before .copy-u64 .ensures })
 
 pub read-loops-spec : {M : Type 1} → statement M
 read-loops-spec =
     tie.close
     (tie.spec
-    loop-layout-requires
-    gather-table-requires
+    loop-room-requires
+    gather-loop-table-requires
     row-count-requires
-    fill-loops-requires
+    slice-aggregate-copy-u16
+    copy-u16-requires
+    slice-aggregate-copy-u16-2
+    copy-u16-requires-2
+    slice-aggregate-copy-u32
+    copy-u32-requires
+    slice-aggregate-copy-u64
+    copy-u64-requires
     same-length
     same-length-2
     same-length-3
