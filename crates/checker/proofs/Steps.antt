@@ -13,7 +13,7 @@ use Rattle.streams.specs.declared.Content.{Content}
 use Rattle.report.specs.Line.{bytes, lineOf, textOf, Ready}
 use Rattle.report.specs.declared.Outcome.{Outcome}
 use Rattle.report.specs.declared.Line.{Line}
-use Rattle.stages.specs.Stages.{headerOf, blocksStage, settingStage, outcomeOf, wantedBy}
+use Rattle.stages.specs.Stages.{headerOf, blocksStage, settingStage, outcomeOf, wantedBy, settingRoom, textRoom}
 use Rattle.stages.specs.declared.Header.{Header}
 use Rattle.stages.specs.declared.Header.the-variants.{Absent, Present, Wrong}
 use Rattle.stages.specs.declared.Files.the-variants.{Neither, Blocks as OnlyBlocks, Both}
@@ -21,7 +21,7 @@ use Rattle.stages.specs.declared.Wanted.{Wanted}
 use Rattle.stages.specs.declared.Wanted.the-variants.{Nothing, Blocks as BlockFile, Loops as LoopFile}
 use Rattle.stages.proofs.Whole.{in-turn}
 use Rattle.stages.proofs.Wanted.{the-type}
-use Rattle.checker.specs.Program.{settingRoom, textRoom, isBlocks, isLoops, wantsLoops, Came, filesOf, LoopsJudged, FilesJudged, InputJudged, failure, Complained, Ran}
+use Rattle.checker.specs.Program.{isBlocks, isLoops, wantsLoops, Came, filesOf, LoopsJudged, FilesJudged, InputJudged, failure, Complained, Ran}
 
 -- ---- which file is wanted
 

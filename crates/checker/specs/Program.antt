@@ -1,27 +1,19 @@
 -- Document 01, "One routine in full": what the program reads, in which order, and what it says of it.
 -- Assumes nothing: these are definitions.
-use Prim.Native.Nat.{ℕ, suc}
+use Prim.Native.Nat.{ℕ}
 use Prim.Native.String.{String}
 use mathlib.Core.Bool.{Bool, true, false}
 use mathlib.Core.List.{List, [], _∷_, _++_}
 use mathlib.Core.Path.{_≡_}
 use lib.IntN.{pos}
-use Rattle.limits.specs.Limits.{mostTextBytes}
 use Rattle.streams.specs.Calls.{Gave, FileGave, Written}
 use Rattle.report.specs.Line.{bytes, lineOf}
 use Rattle.report.specs.declared.Outcome.{Outcome}
-use Rattle.stages.specs.Stages.{outcomeOf, wantedBy}
+use Rattle.stages.specs.Stages.{outcomeOf, wantedBy, settingRoom, textRoom}
 use Rattle.stages.specs.declared.Files.{Files}
 use Rattle.stages.specs.declared.Files.the-variants.{Neither, Blocks as OnlyBlocks, Both}
 use Rattle.stages.specs.declared.Wanted.{Wanted}
 use Rattle.stages.specs.declared.Wanted.the-variants.{Nothing, Blocks as BlockFile, Loops as LoopFile}
-
--- Buffers with one byte more than the longest good setting, and than the longest good text. `FirstBytes` says that they are large enough.
-abbrev pub settingRoom : ℕ
-settingRoom = 16
-
-abbrev pub textRoom : ℕ
-textRoom = suc mostTextBytes
 
 -- whether an outcome waits for the file
 abbrev pub isBlocks : Wanted → Bool
