@@ -7,12 +7,13 @@ use native.Mathlib.Omega.{arith}
 use Rattle.lists.specs.Search.{firstBelow}
 use Rattle.lists.proofs.Search.{first-ext}
 use Rattle.wcet.specs.Table.{Routine, blockCount, exit, cost, loopOf, first, second, figure, limit, multiplier, someEdge, inside}
-use Rattle.wcet.specs.Rules.{isHeader, edgeHolds, inequalityBroken}
-use Rattle.loopsets.specs.Sets.{SetsAround}
+use Rattle.wcet.specs.Rules.{isHeader, inequality, edgeHolds, inequalityBroken}
+use Rattle.loopsets.specs.Sets.{setsAround}
+use Rattle.loopsets.proofs.Laws.{member-around}
 use Rattle.nesting.specs.Columns.{Ranged}
 use Rattle.nesting.proofs.Stages.{innermost}
 use Rattle.nesting.proofs.Edges.{edges-ext}
-use Rattle.certificate.specs.Figures.{Figure, inequality}
+use Rattle.certificate.specs.Figures.{Figure}
 use Rattle.certificate.specs.Columns.{weightColumns, priceColumns, Weighed, Priced, brokenBySets, anyBrokenBySets}
 
 module _ (t : Routine) (R : Ranged t) where
@@ -44,21 +45,21 @@ module _ (t : Routine) (R : Ranged t) where
     exit-range = figure-of (exit t) (omega (arith, R .sized .some-block));
   }
 
-  module _ (sets : List ℕ) (S : SetsAround (t .parents) sets) where
+  module _ (sets : List ℕ) (S : sets ≡ setsAround (t .parents)) where
     abbrev by-sets : ℕ → ℕ → Bool
     by-sets = brokenBySets sets (weightColumns (t .costs) (t .loops) (t .figures) (t .headers) (t .limits) (t .multipliers))
 
     -- membership of the source's set is being inside
-    edge-broken : (u v : ℕ) → u < blockCount t → by-sets u v ≡ not (edgeHolds t u v)
-    unfolding brokenBySets edgeHolds inequality inside
-    edge-broken u v b =
+    edge-broken : (u v : ℕ) → u < blockCount t → v < blockCount t → by-sets u v ≡ not (edgeHolds t u v)
+    unfolding brokenBySets edgeHolds inside
+    edge-broken u v b h =
         ap (λ (i : Bool). not (inequality (isHeader t v) i (cost t v) (figure t u) (figure t v) (multiplier t (loopOf t v)) (limit t (loopOf t v))))
-        (S .each (loopOf t u) (loopOf t v) (R .loop-below u b))
+        (member-around (t .parents) sets S (R .sized .few-loops) (loopOf t u) (loopOf t v) (R .loop-below u b) (omega (arith, R .loop-below v h, R .sized .few-loops)))
 
     any-broken : (u : ℕ) → u < blockCount t
         → anyBrokenBySets sets (t .firsts) (t .seconds) (weightColumns (t .costs) (t .loops) (t .figures) (t .headers) (t .limits) (t .multipliers)) u ≡ inequalityBroken t u
     unfolding inequalityBroken someEdge
-    any-broken u b = edges-ext t u (by-sets u) (λ v. not (edgeHolds t u v)) (λ h. edge-broken u (first t u) b) (λ h. edge-broken u (second t u) b)
+    any-broken u b = edges-ext t u (by-sets u) (λ v. not (edgeHolds t u v)) (λ h. edge-broken u (first t u) b (R .first-names u b h)) (λ h. edge-broken u (second t u) b (R .second-names u b h))
 
     pub broken-places : firstBelow (blockCount t) (anyBrokenBySets sets (t .firsts) (t .seconds) (weightColumns (t .costs) (t .loops) (t .figures) (t .headers) (t .limits) (t .multipliers)))
         ≡ firstBelow (blockCount t) (inequalityBroken t)

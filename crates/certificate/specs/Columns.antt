@@ -1,26 +1,27 @@
--- The columns that 208 and the bound are about, and 208 as it is read off the loop sets: for functions that are no public entry.
+-- The columns that 208 and the bound read, and 208 as it is read off the loop sets: for functions that are no public entry.
 use Prim.Native.Nat.{ℕ, _^_, _≤_, _<_}
 use mathlib.Core.Path.{_≡_}
 use mathlib.Core.Bool.{Bool, not}
-use mathlib.Core.List.{List, []}
+use mathlib.Core.List.{List, [], _∷_}
 use lib.IntN.{ℤ}
 use lib.ListN.{length}
+use Rattle.limits.specs.Limits.{mostBlocks}
 use Rattle.wcet.specs.Table.{Routine, blockCount, exit, cost, loopOf, figure, limit, multiplier, someEdge}
-use Rattle.wcet.specs.Rules.{isHeader}
+use Rattle.wcet.specs.Rules.{Reply, accepted, check, isHeader, inequality, bound}
 use Rattle.loopsets.specs.Sets.{member, setAt}
 use Rattle.nesting.specs.Columns.{routine, edgeColumns, Innermost}
-use Rattle.certificate.specs.Figures.{Figure, inequality}
+use Rattle.certificate.specs.Figures.{Figure}
 
--- what the inequality of an edge is read off, beside the sets; and the bound
+-- the columns that the inequality of an edge reads beside the sets, and those that the bound reads
 abbrev pub weightColumns : (costs loops : List ℕ) (figures : List ℤ) (headers limits multipliers : List ℕ) → Routine
 weightColumns costs loops figures headers limits multipliers = routine costs loops [] [] figures [] headers limits multipliers
 
 abbrev pub priceColumns : (costs : List ℕ) (figures : List ℤ) → Routine
 priceColumns costs figures = routine costs [] [] [] figures [] [] [] []
 
--- what 201 to 203 leave of them
+-- what 201 to 203 ensure of them
 pub record Weighed (t : Routine) : Type 0 where
-  pub few-blocks : blockCount t ≤ 1024
+  pub few-blocks : blockCount t ≤ mostBlocks
   pub loops : length (t .loops) ≡ blockCount t
   pub figures : length (t .figures) ≡ blockCount t
   pub limits : length (t .limits) ≡ length (t .headers)
@@ -34,7 +35,7 @@ pub record Weighed (t : Routine) : Type 0 where
 
 pub record Priced (t : Routine) : Type 0 where
   pub some-block : 0 < blockCount t
-  pub few-blocks : blockCount t ≤ 1024
+  pub few-blocks : blockCount t ≤ mostBlocks
   pub figures : length (t .figures) ≡ blockCount t
   pub cost-most : cost t 0 ≤ 1000000
   pub entry-range : Figure (figure t 0)
@@ -48,3 +49,7 @@ brokenBySets sets t u v =
 -- of either edge of block u
 abbrev pub anyBrokenBySets : (sets firsts seconds : List ℕ) (t : Routine) → ℕ → Bool
 anyBrokenBySets sets firsts seconds t u = someEdge (edgeColumns [] firsts seconds) u (brokenBySets sets t u)
+
+-- 208 and the bound, read off the sets
+abbrev pub certifiedBySets : (sets firsts seconds : List ℕ) (t : Routine) → Reply ℤ
+certifiedBySets sets firsts seconds t = check (record { number = 208; places = blockCount t; broken = anyBrokenBySets sets firsts seconds t } ∷ []) (accepted (bound t))

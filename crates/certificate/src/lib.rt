@@ -1,18 +1,19 @@
-// The certificate check: 208, the inequality of each edge, and the reply to a pair of tables. Figures and multipliers are claims of
-// whoever made the tables; what an accepted bound means does not lean on them.
+// The certificate check: 208, the inequality of each edge, and the reply to a pair of tables. Figures and multipliers are claims, and are
+// never believed: what an accepted bound means does not depend on who made them.
 ghost use mathlib.Core.Path.{_≡_};
 ghost use Prim.Native.Nat.{_^_, _≤_, _<_};
 ghost use lib.IntN.{pos, _+ℤ_, _-ℤ_, _*ℤ_};
 ghost use lib.Signed.{leZ};
 ghost use lib.ListN.{length};
 ghost use Rattle.lists.specs.Search.{firstBelow};
-ghost use Rattle.wcet.specs.Rules.{bound};
+ghost use Rattle.wcet.specs.Rules.{inequality, bound};
 ghost use Rattle.wcet.specs.Claim.{Checked};
 ghost use Rattle.nesting.specs.Columns.{routine, Names, Linked, ofEdge};
-ghost use Rattle.nesting.specs.Answers.{placeOf, StructureChecked};
-ghost use Rattle.certificate.specs.Answers.{tableMeaning};
-ghost use Rattle.certificate.specs.Figures.{Figure, inequality};
-ghost use Rattle.certificate.specs.Columns.{weightColumns, priceColumns, Weighed, Priced, brokenBySets, anyBrokenBySets};
+ghost use Rattle.nesting.specs.Answers.{placeOf};
+ghost use Rattle.nesting.specs.declared.Structure.the-variants.{Sound};
+ghost use Rattle.certificate.specs.Answers.{tableMeaning, replyAfter};
+ghost use Rattle.certificate.specs.Figures.{Figure};
+ghost use Rattle.certificate.specs.Columns.{weightColumns, priceColumns, Weighed, Priced, brokenBySets, anyBrokenBySets, certifiedBySets};
 use loopsets::Sets;
 use nesting::Place;
 use nesting::Structure;
@@ -158,31 +159,32 @@ fn bound_at_exit(cost: &[u32], figure: &[i64]) -> i64
     requires { ⌜ Priced (priceColumns (now cost) (now figure)) ⌝ }
     ensures { λ r. ⌜ r ≡ bound (priceColumns (now (cost .entry)) (now (figure .entry))) ⌝ }
 {
-    let exit = cost.len() - 1;
-    bound_of(cost[0], figure[0], figure[exit])
+    let last = cost.len() - 1;
+    let entry = figure[0];
+    let exit = figure[last];
+    bound_of(cost[0], entry, exit)
 }
 
-// 208 and the bound, behind the structure check. Its contract is about the whole routine, for which it takes the parents too.
+// The reply after the structure check: its refusal, or else 208 and the bound.
 fn certify(
-    structured: Structured,
+    checked: Structured,
     cost: &[u32],
     loops: &[u16],
     first: &[u16],
     second: &[u16],
     figure: &[i64],
-    parent: &[u16],
     header: &[u16],
     limit: &[u32],
     multiplier: &[u64],
 ) -> TableReply
-    requires { ⌜ StructureChecked (routine (now cost) (now loops) (now first) (now second) (now figure) (now parent) (now header) (now limit) (now multiplier)) structured ⌝ }
-    ensures { λ r. ⌜ Checked (routine (now (cost .entry)) (now (loops .entry)) (now (first .entry)) (now (second .entry)) (now (figure .entry)) (now (parent .entry)) (now (header .entry)) (now (limit .entry)) (now (multiplier .entry))) (tableMeaning r) ⌝ }
+    requires { ⌜ (checked .answer ≡ Sound → Weighed (weightColumns (now cost) (now loops) (now figure) (now header) (now limit) (now multiplier)) × Linked (length (now cost)) (now first) (now second) × Priced (priceColumns (now cost) (now figure))) ⌝ }
+    ensures { λ r. ⌜ tableMeaning r ≡ replyAfter (checked .answer) (certifiedBySets (checked .around) (now (first .entry)) (now (second .entry)) (weightColumns (now (cost .entry)) (now (loops .entry)) (now (figure .entry)) (now (header .entry)) (now (limit .entry)) (now (multiplier .entry)))) ⌝ }
 {
-    let answer = structured.answer;
+    let answer = checked.answer;
     if let Structure::Broken(fault) = answer {
         return TableReply::Structure(fault);
     }
-    let around = structured.around;
+    let around = checked.around;
     let place = first_broken_inequality(
         &around,
         cost,
@@ -200,7 +202,7 @@ fn certify(
     TableReply::Accepted(bound_at_exit(cost, figure))
 }
 
-// The reply to a pair of tables: the longest time of the routine, or the first broken rule; and with it what an accepted bound means for
+// The reply to a pair of tables: the longest time of the routine, or the first broken rule. With it comes what an accepted bound means for
 // every list of blocks.
 pub fn check(
     cost: &[u32],
@@ -215,7 +217,7 @@ pub fn check(
 ) -> TableReply
     ensures { λ r. ⌜ Checked (routine (now (cost .entry)) (now (loops .entry)) (now (first .entry)) (now (second .entry)) (now (figure .entry)) (now (parent .entry)) (now (header .entry)) (now (limit .entry)) (now (multiplier .entry))) (tableMeaning r) ⌝ }
 {
-    let structured = nesting::check_structure(
+    let checked = nesting::check_structure(
         cost,
         loops,
         first,
@@ -227,13 +229,12 @@ pub fn check(
         multiplier,
     );
     certify(
-        structured,
+        checked,
         cost,
         loops,
         first,
         second,
         figure,
-        parent,
         header,
         limit,
         multiplier,

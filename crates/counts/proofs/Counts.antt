@@ -8,8 +8,9 @@ use borrow.Author.Tests.{eq-eqb, ne-eqb}
 use lib.Dec.{eqb}
 use lib.ListN.{length, getD, set, replicate, List·getD-eq-default}
 use lib.Seq.{getD-set-same, getD-set-other}
+use Rattle.limits.specs.Limits.{mostLoops}
 use Rattle.lists.specs.Search.{if_then_else_}
-use Rattle.counts.specs.Counts.{countIn}
+use Rattle.counts.specs.Counts.{countWords, countIn}
 
 -- the count at place j of a word
 abbrev part : ℕ → ℕ → ℕ
@@ -86,7 +87,7 @@ part-with : (w j i c : ℕ) → j < 4 → i < 4 → c ≤ 65535 → part (with-p
 part-with w j i c h b k = rw (with-exact w j c h k) (part-is w j i c h b k)
 
 -- storing c at loop l, in the word that holds its count
-pub stored : (words : List ℕ) (l c : ℕ) → length words ≡ 16 → l < 64 → c ≤ 65535
+pub stored : (words : List ℕ) (l c : ℕ) → length words ≡ countWords → l < mostLoops → c ≤ 65535
     → (k : ℕ) → countIn (set words (l / 4) (with-part (getD words (l / 4) 0) (l % 4) c)) k ≡ (if eqb k l then c else countIn words k)
 unfolding countIn
 stored words l c size h b k = go (ℕ-discrete (k / 4) (l / 4)) (ℕ-discrete k l)
@@ -107,7 +108,7 @@ unfolding countIn
 count-most words l = omega arith
 
 -- a number that is no loop has no count
-pub past-loops : (words : List ℕ) (l : ℕ) → length words ≡ 16 → 64 ≤ l → countIn words l ≡ 0
+pub past-loops : (words : List ℕ) (l : ℕ) → length words ≡ countWords → mostLoops ≤ l → countIn words l ≡ 0
 unfolding countIn
 past-loops words l size h = rw (List·getD-eq-default words 0 {n = l / 4} (omega arith)) (empty (l % 4) (omega arith))
 
@@ -118,11 +119,11 @@ zeros zero l = refl
 zeros (suc n) zero = refl
 zeros (suc n) (suc l) = zeros n l
 
-pub first-counts : (l : ℕ) → countIn (1 ∷ replicate 15 0) l ≡ (if eqb l 0 then 1 else 0)
+pub first-counts : (l : ℕ) → countIn (1 ∷ replicate (countWords - 1) 0) l ≡ (if eqb l 0 then 1 else 0)
 unfolding countIn
 first-counts l = go (l / 4) refl (ℕ-discrete l 0)
   where
-    go : (q : ℕ) → l / 4 ≡ q → Dec (l ≡ 0) → part (getD (1 ∷ replicate 15 0) q 0) (l % 4) ≡ (if eqb l 0 then 1 else 0)
+    go : (q : ℕ) → l / 4 ≡ q → Dec (l ≡ 0) → part (getD (1 ∷ replicate (countWords - 1) 0) q 0) (l % 4) ≡ (if eqb l 0 then 1 else 0)
     go zero e (yes z) = rw (z)
     go zero e (no ne) = rw (ne-eqb l 0 ne) (inner (l % 4) (omega arith) (omega arith))
-    go (suc q) e d = rw (zeros 15 q, ne-eqb l 0 (λ z. omega arith)) (empty (l % 4) (omega arith))
+    go (suc q) e d = rw (zeros (countWords - 1) q, ne-eqb l 0 (λ z. omega arith)) (empty (l % 4) (omega arith))

@@ -7,6 +7,7 @@ use native.Mathlib.Decide.{ℕ-discrete}
 use native.Mathlib.Omega.{arith}
 use borrow.Author.Tests.{eqb-false, ltb-true, ltb-false, eq-eqb, ne-eqb, not-true}
 use lib.Dec.{eqb, ltb}
+use Rattle.limits.specs.Limits.{mostLoops}
 use Rattle.lists.specs.Search.{if_then_else_}
 use Rattle.lists.proofs.Tests.{and-true as both-true}
 use Rattle.loopsets.specs.Sets.{member, LowestOf}
@@ -18,12 +19,12 @@ abbrev pub newCount : ℕ → ℕ → LoopSet → ℕ → ℕ → ℕ
 newCount l visits rest j c = if member rest j then (if eqb j l then visits else 0) else c
 
 module _ (l visits : ℕ) (counts : List ℕ) (rest : LoopSet) (k : ℕ) (low : LowestOf rest k) where
-  pub none-left : 64 ≤ k → (j : ℕ) → j < 64 → newCount l visits rest j (countIn counts j) ≡ countIn counts j
+  pub none-left : mostLoops ≤ k → (j : ℕ) → j < mostLoops → newCount l visits rest j (countIn counts j) ≡ countIn counts j
   none-left h j q = rw (low .lower j (omega arith))
 
-  module _ (next : LoopSet) (below : k < 64) (less : (j : ℕ) → j < 64 → member next j ≡ (member rest j && not (eqb k j))) where
+  module _ (next : LoopSet) (below : k < mostLoops) (less : (j : ℕ) → j < mostLoops → member next j ≡ (member rest j && not (eqb k j))) where
     pub one-less : (after : List ℕ) → ((j : ℕ) → countIn after j ≡ (if eqb j k then (if eqb k l then visits else 0) else countIn counts j))
-        → (j : ℕ) → j < 64 → newCount l visits rest j (countIn counts j) ≡ newCount l visits next j (countIn after j)
+        → (j : ℕ) → j < mostLoops → newCount l visits rest j (countIn counts j) ≡ newCount l visits next j (countIn after j)
     one-less after put j h = at (ℕ-discrete j k)
       where
         at : Dec (j ≡ k) → newCount l visits rest j (countIn counts j) ≡ newCount l visits next j (countIn after j)

@@ -4,9 +4,14 @@ use mathlib.Core.Bool.{Bool, not, _&&_}
 use mathlib.Core.List.{List}
 use lib.Dec.{eqb}
 use lib.ListN.{getD}
+use Rattle.limits.specs.Limits.{mostLoops}
 use Rattle.lists.specs.Search.{if_then_else_}
 use Rattle.loopsets.specs.Sets.{member}
 use Rattle.loopsets.specs.declared.LoopSet.{LoopSet}
+
+-- the words that the counts take, four counts each
+abbrev pub countWords : ℕ
+countWords = mostLoops / 4
 
 -- the count of loop l: four counts of 16 bits to a word, the lowest loop in the lowest bits
 unfoldable pub countIn : List ℕ → ℕ → ℕ

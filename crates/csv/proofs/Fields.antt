@@ -3,22 +3,27 @@
 use mathlib.Core.Path.{_≡_, refl, sym, ap, _∙_}
 use mathlib.Core.Bool.{Bool, true, false, cond}
 use mathlib.Core.Logic.{_⊎_, inl, inr}
-use mathlib.Core.List.{List}
+use mathlib.Core.List.{List, [], _∷_}
 use Prim.Native.Nat.{ℕ, zero, suc, _+_, _-_, _<_, _≤_}
 use native.Mathlib.Nat.{add-suc, add-zero}
 use native.Mathlib.Numerals.{add-one, sub-one}
 use native.Mathlib.Omega.{arith}
 use borrow.Author.Tests.{eq-eqb, ne-eqb, le-leb, lt-leb}
 use lib.ListN.{length, drop, getD, drop-of-length-le}
-use lib.Seq.{drop-drop}
+use lib.Seq.{drop-cons, drop-drop}
 use lib.Dec.{leb, leb·zero, leb·suc-suc, leb·suc-zero}
-use Rattle.numbers.proofs.Numbers.{next-byte}
-use Rattle.csv.specs.Grammar.{Extent, size, unclosed, longer, plain, inside, after, extent, isQuote, isText, broken, following, lineFeed, limited, field}
+use Rattle.limits.specs.Limits.{mostFieldBytes}
+use Rattle.csv.specs.Grammar.{Extent, size, unclosed, longer, plain, insideQuotes, afterQuote, extent, isQuote, isComma, isCr, isLf, isText, comma, ends, broken, following, lineFeed, limited, field}
 use Rattle.csv.specs.Place.{closeAt, foundAt}
 use Rattle.csv.specs.declared.Close.{Close}
 use Rattle.csv.specs.declared.Close.the-variants.{At, Never}
+use Rattle.csv.specs.declared.Found.{Found}
 use Rattle.csv.specs.declared.Found.the-variants.{Comma, Ends, Broken}
 use Rattle.csv.specs.declared.Ending.the-variants.{CrLf, EndOfText}
+
+-- the bytes from a place within the text: the byte there, and those from the next place on
+pub next-byte : (s : List ℕ) (i : ℕ) → i < length s → drop i s ≡ getD s i 0 ∷ drop (i + 1) s
+next-byte s i h = rw (add-one, drop-cons s i 0)
 
 -- one byte more: one place on, and one byte less of room
 pub closeAt-longer : (at room : ℕ) (e : Extent) → (room ≡ 0 → ⊥) → closeAt at room (longer e) ≡ closeAt (at + 1) (room - 1) e
@@ -35,61 +40,60 @@ pub closeAt-full : (at : ℕ) (e : Extent) → closeAt at 0 (longer e) ≡ Never
 closeAt-full at (size n) = rw leb·suc-zero
 closeAt-full at unclosed = refl
 
--- the bytes from a place within the text: the byte there, and those from the next place on
+-- Inside quotes, and after a quote mark: at the end of the text, at a quote mark, at another byte.
 module _ (s : List ℕ) (at : ℕ) where
-  -- inside quotes, and following a quote mark: at the end of the text, at a quote mark, at another byte
-  inside-end : length s ≤ at → inside (drop at s) ≡ unclosed
-  unfolding inside
+  inside-end : length s ≤ at → insideQuotes (drop at s) ≡ unclosed
+  unfolding insideQuotes
   inside-end h = rw drop-of-length-le
 
-  inside-mark : at < length s → getD s at 0 ≡ 34 → inside (drop at s) ≡ longer (after (drop (at + 1) s))
-  unfolding inside
+  inside-mark : at < length s → getD s at 0 ≡ 34 → insideQuotes (drop at s) ≡ longer (afterQuote (drop (at + 1) s))
+  unfolding insideQuotes
   inside-mark h e = rw (next-byte s at h, eq-eqb _ _ e)
 
-  inside-text : at < length s → (getD s at 0 ≡ 34 → ⊥) → inside (drop at s) ≡ longer (inside (drop (at + 1) s))
-  unfolding inside
+  inside-text : at < length s → (getD s at 0 ≡ 34 → ⊥) → insideQuotes (drop at s) ≡ longer (insideQuotes (drop (at + 1) s))
+  unfolding insideQuotes
   inside-text h e = rw (next-byte s at h, ne-eqb _ _ e)
 
-  after-end : length s ≤ at → after (drop at s) ≡ size 0
-  unfolding inside
+  after-end : length s ≤ at → afterQuote (drop at s) ≡ size 0
+  unfolding insideQuotes
   after-end h = rw drop-of-length-le
 
-  after-mark : at < length s → getD s at 0 ≡ 34 → after (drop at s) ≡ longer (inside (drop (at + 1) s))
-  unfolding inside
+  after-mark : at < length s → getD s at 0 ≡ 34 → afterQuote (drop at s) ≡ longer (insideQuotes (drop (at + 1) s))
+  unfolding insideQuotes
   after-mark h e = rw (next-byte s at h, eq-eqb _ _ e)
 
-  after-other : at < length s → (getD s at 0 ≡ 34 → ⊥) → after (drop at s) ≡ size 0
-  unfolding inside
+  after-other : at < length s → (getD s at 0 ≡ 34 → ⊥) → afterQuote (drop at s) ≡ size 0
+  unfolding insideQuotes
   after-other h e = rw (next-byte s at h, ne-eqb _ _ e)
 
   -- a byte more than there is room for
-  pub inside-full : {room : ℕ} → at < length s → room ≡ 0 → Never ≡ closeAt at room (inside (drop at s))
-  unfolding inside
-  inside-full h e = rw (e, next-byte s at h) (sym (closeAt-full at (cond (isQuote (getD s at 0)) (after (drop (at + 1) s)) (inside (drop (at + 1) s)))))
+  pub inside-full : {room : ℕ} → at < length s → room ≡ 0 → Never ≡ closeAt at room (insideQuotes (drop at s))
+  unfolding insideQuotes
+  inside-full h e = rw (e, next-byte s at h) (sym (closeAt-full at (cond (isQuote (getD s at 0)) (afterQuote (drop (at + 1) s)) (insideQuotes (drop (at + 1) s)))))
 
-  pub after-full : {room : ℕ} → at < length s → getD s at 0 ≡ 34 → room ≡ 0 → Never ≡ closeAt at room (after (drop at s))
-  after-full h e f = rw (f, after-mark h e) (sym (closeAt-full at (inside (drop (at + 1) s))))
+  pub after-full : {room : ℕ} → at < length s → getD s at 0 ≡ 34 → room ≡ 0 → Never ≡ closeAt at room (afterQuote (drop at s))
+  after-full h e f = rw (f, after-mark h e) (sym (closeAt-full at (insideQuotes (drop (at + 1) s))))
 
 -- Each way through `inside_quotes` and `after_quote`. The conclusions have the form of their `ensures`.
 module _ (s : List ℕ) (at room : ℕ) where
-  pub inside-stops : length s ≤ at → Never ≡ closeAt at room (inside (drop at s))
+  pub inside-stops : length s ≤ at → Never ≡ closeAt at room (insideQuotes (drop at s))
   inside-stops h = rw (inside-end s at h)
 
-  pub after-stops : length s ≤ at → At at ≡ closeAt at room (after (drop at s))
+  pub after-stops : length s ≤ at → At at ≡ closeAt at room (afterQuote (drop at s))
   after-stops h = rw (after-end s at h, leb·zero, add-zero)
 
-  pub after-closes : at < length s → (getD s at 0 ≡ 34 → ⊥) → At at ≡ closeAt at room (after (drop at s))
+  pub after-closes : at < length s → (getD s at 0 ≡ 34 → ⊥) → At at ≡ closeAt at room (afterQuote (drop at s))
   after-closes h e = rw (after-other s at h e, leb·zero, add-zero)
 
   module _ {r : Close} (h : at < length s) (f : room ≡ 0 → ⊥) where
-    pub inside-to-after : getD s at 0 ≡ 34 → r ≡ closeAt (at + 1) (room - 1) (after (drop (at + 1) s)) → r ≡ closeAt at room (inside (drop at s))
-    inside-to-after e q = rw (inside-mark s at h e) (q ∙ sym (closeAt-longer at room (after (drop (at + 1) s)) f))
+    pub inside-to-after : getD s at 0 ≡ 34 → r ≡ closeAt (at + 1) (room - 1) (afterQuote (drop (at + 1) s)) → r ≡ closeAt at room (insideQuotes (drop at s))
+    inside-to-after e q = rw (inside-mark s at h e) (q ∙ sym (closeAt-longer at room (afterQuote (drop (at + 1) s)) f))
 
-    pub inside-on : (getD s at 0 ≡ 34 → ⊥) → r ≡ closeAt (at + 1) (room - 1) (inside (drop (at + 1) s)) → r ≡ closeAt at room (inside (drop at s))
-    inside-on e q = rw (inside-text s at h e) (q ∙ sym (closeAt-longer at room (inside (drop (at + 1) s)) f))
+    pub inside-on : (getD s at 0 ≡ 34 → ⊥) → r ≡ closeAt (at + 1) (room - 1) (insideQuotes (drop (at + 1) s)) → r ≡ closeAt at room (insideQuotes (drop at s))
+    inside-on e q = rw (inside-text s at h e) (q ∙ sym (closeAt-longer at room (insideQuotes (drop (at + 1) s)) f))
 
-    pub after-to-inside : getD s at 0 ≡ 34 → r ≡ closeAt (at + 1) (room - 1) (inside (drop (at + 1) s)) → r ≡ closeAt at room (after (drop at s))
-    after-to-inside e q = rw (after-mark s at h e) (q ∙ sym (closeAt-longer at room (inside (drop (at + 1) s)) f))
+    pub after-to-inside : getD s at 0 ≡ 34 → r ≡ closeAt (at + 1) (room - 1) (insideQuotes (drop (at + 1) s)) → r ≡ closeAt at room (afterQuote (drop at s))
+    after-to-inside e q = rw (after-mark s at h e) (q ∙ sym (closeAt-longer at room (insideQuotes (drop (at + 1) s)) f))
 
 -- The marks, and any other byte.
 pub no-text : (b : ℕ) → (b ≡ 10) ⊎ ((b ≡ 13) ⊎ ((b ≡ 34) ⊎ (b ≡ 44))) → false ≡ isText b
@@ -117,81 +121,104 @@ module _ (s : List ℕ) (i t : ℕ) where
 
 -- Each way through `field_close`.
 module _ (s : List ℕ) (at : ℕ) where
-  pub close-over : length s ≤ at → At at ≡ closeAt at 64 (extent (drop at s))
+  pub close-over : length s ≤ at → At at ≡ closeAt at mostFieldBytes (extent (drop at s))
   unfolding extent
   close-over h = rw (drop-of-length-le s h, add-zero)
 
-  pub close-quoted : {r : Close} → at < length s → getD s at 0 ≡ 34 → r ≡ closeAt (at + 1) 63 (inside (drop (at + 1) s)) → r ≡ closeAt at 64 (extent (drop at s))
+  pub close-quoted : {r : Close} → at < length s → getD s at 0 ≡ 34 → r ≡ closeAt (at + 1) (mostFieldBytes - 1) (insideQuotes (drop (at + 1) s)) → r ≡ closeAt at mostFieldBytes (extent (drop at s))
   unfolding extent
-  close-quoted h e q = rw (next-byte s at h, eq-eqb _ _ e) (q ∙ sym (closeAt-longer at 64 (inside (drop (at + 1) s)) (λ z. omega arith)))
+  close-quoted h e q = rw (next-byte s at h, eq-eqb _ _ e) (q ∙ sym (closeAt-longer at mostFieldBytes (insideQuotes (drop (at + 1) s)) (λ z. omega arith)))
 
   extent-plain : at < length s → (getD s at 0 ≡ 34 → ⊥) → extent (drop at s) ≡ size (plain (drop at s))
   unfolding extent
   extent-plain h e = rw (next-byte s at h, ne-eqb _ _ e)
 
-  pub close-plain : (e : ℕ) → at < length s → (getD s at 0 ≡ 34 → ⊥) → e ≡ at + plain (drop at s) → e - at ≤ 64 → At e ≡ closeAt at 64 (extent (drop at s))
-  close-plain e h f q l = rw (extent-plain h f, le-leb (plain (drop at s)) 64 (omega arith), q)
+  pub close-plain : (e : ℕ) → at < length s → (getD s at 0 ≡ 34 → ⊥) → e ≡ at + plain (drop at s) → e - at ≤ mostFieldBytes → At e ≡ closeAt at mostFieldBytes (extent (drop at s))
+  close-plain e h f q l = rw (extent-plain h f, le-leb (plain (drop at s)) mostFieldBytes (omega arith), q)
 
-  pub close-long : (e : ℕ) → at < length s → (getD s at 0 ≡ 34 → ⊥) → e ≡ at + plain (drop at s) → 64 < e - at → Never ≡ closeAt at 64 (extent (drop at s))
-  close-long e h f q l = rw (extent-plain h f, lt-leb (plain (drop at s)) 64 (omega arith))
+  pub close-long : (e : ℕ) → at < length s → (getD s at 0 ≡ 34 → ⊥) → e ≡ at + plain (drop at s) → mostFieldBytes < e - at → Never ≡ closeAt at mostFieldBytes (extent (drop at s))
+  close-long e h f q l = rw (extent-plain h f, lt-leb (plain (drop at s)) mostFieldBytes (omega arith))
+
+-- what follows a field does not depend on where its bytes are counted from
+found-after : (at n : ℕ) (t : List ℕ) → foundAt (at + n) (following 0 t) ≡ foundAt at (following n t)
+unfolding following
+found-after at n [] = rw add-zero
+found-after at n (b ∷ t) = go (isComma b) (isCr b)
+  where
+    line : (t : List ℕ) → foundAt (at + n) (lineFeed 0 t) ≡ foundAt at (lineFeed n t)
+    line [] = refl
+    line (c ∷ t) = feed (isLf c)
+      where
+        feed : (f : Bool) → foundAt (at + n) (cond f (ends CrLf 0) broken) ≡ foundAt at (cond f (ends CrLf n) broken)
+        feed true = rw add-zero
+        feed false = refl
+
+    go : (f g : Bool) → foundAt (at + n) (cond f (comma 0) (cond g (lineFeed 0 t) broken)) ≡ foundAt at (cond f (comma n) (cond g (lineFeed n t) broken))
+    go true g = rw add-zero
+    go false true = line t
+    go false false = refl
+
+pub found-from : (s : List ℕ) (at n e : ℕ) → e ≡ at + n → foundAt e (following 0 (drop e s)) ≡ foundAt at (following n (drop n (drop at s)))
+found-from s at n e i = rw (i, drop-drop n at s) (found-after at n (drop (at + n) s))
+
+-- Each way through `follow`.
+module _ (s : List ℕ) (e : ℕ) where
+  pub follow-last : length s ≤ e → Ends EndOfText e ≡ foundAt e (following 0 (drop e s))
+  unfolding following
+  follow-last h = rw (drop-of-length-le s h, add-zero)
+
+  module _ (h : e < length s) where
+    pub follow-comma : getD s e 0 ≡ 44 → Comma e ≡ foundAt e (following 0 (drop e s))
+    unfolding following
+    follow-comma m = rw (next-byte s e h, eq-eqb _ _ m, add-zero)
+
+    pub follow-other : (getD s e 0 ≡ 44 → ⊥) → (getD s e 0 ≡ 13 → ⊥) → Broken ≡ foundAt e (following 0 (drop e s))
+    unfolding following
+    follow-other m o = rw (next-byte s e h, ne-eqb _ _ m, ne-eqb _ _ o)
+
+    module _ (m : getD s e 0 ≡ 44 → ⊥) (o : getD s e 0 ≡ 13) where
+      after-cr : following 0 (drop e s) ≡ lineFeed 0 (drop (e + 1) s)
+      unfolding following
+      after-cr = rw (next-byte s e h, ne-eqb _ _ m, eq-eqb _ _ o)
+
+      pub follow-cr-last : length s - e ≡ 1 → Broken ≡ foundAt e (following 0 (drop e s))
+      follow-cr-last l = rw (after-cr, drop-of-length-le s {i = e + 1} (omega arith))
+
+      module _ (l : length s - e ≡ 1 → ⊥) where
+        in-text : e + 1 < length s
+        in-text = omega arith
+
+        pub follow-line : getD s (e + 1) 0 ≡ 10 → Ends CrLf e ≡ foundAt e (following 0 (drop e s))
+        follow-line w = rw (after-cr, next-byte s (e + 1) in-text, eq-eqb _ _ w, add-zero)
+
+        pub follow-cr-other : (getD s (e + 1) 0 ≡ 10 → ⊥) → Broken ≡ foundAt e (following 0 (drop e s))
+        follow-cr-other w = rw (after-cr, next-byte s (e + 1) in-text, ne-eqb _ _ w)
 
 -- A field that ends at e: how many bytes it has, and that what stands at e decides.
-closed : (x : Extent) (t : List ℕ) (at e : ℕ) → At e ≡ closeAt at 64 x → (n : ℕ) × (e ≡ at + n) × (limited t x ≡ following n (drop n t))
-closed (size n) t at e q = go (leb n 64) refl q
+closed : (x : Extent) (t : List ℕ) (at e : ℕ) → At e ≡ closeAt at mostFieldBytes x → (n : ℕ) × (e ≡ at + n) × (limited t x ≡ following n (drop n t))
+closed (size n) t at e q = go (leb n mostFieldBytes) refl q
   where
-    go : (b : Bool) → leb n 64 ≡ b → At e ≡ cond b (At (at + n)) Never → (k : ℕ) × (e ≡ at + k) × (limited t (size n) ≡ following k (drop k t))
+    go : (b : Bool) → leb n mostFieldBytes ≡ b → At e ≡ cond b (At (at + n)) Never → (k : ℕ) × (e ≡ at + k) × (limited t (size n) ≡ following k (drop k t))
     go true p q = (n, (cc), rw p)
     go false p q = absurd (let z : _≡_ {A = ℕ} 0 1 = cc in omega arith)
 closed unclosed t at e q = absurd (let z : _≡_ {A = ℕ} 0 1 = cc in omega arith)
 
-never : (x : Extent) (t : List ℕ) (at : ℕ) → Never ≡ closeAt at 64 x → limited t x ≡ broken
-never (size n) t at q = go (leb n 64) refl q
+never : (x : Extent) (t : List ℕ) (at : ℕ) → Never ≡ closeAt at mostFieldBytes x → limited t x ≡ broken
+never (size n) t at q = go (leb n mostFieldBytes) refl q
   where
-    go : (b : Bool) → leb n 64 ≡ b → Never ≡ cond b (At (at + n)) Never → limited t (size n) ≡ broken
+    go : (b : Bool) → leb n mostFieldBytes ≡ b → Never ≡ cond b (At (at + n)) Never → limited t (size n) ≡ broken
     go true p q = absurd (let z : _≡_ {A = ℕ} 0 1 = cc in omega arith)
     go false p q = rw p
 never unclosed t at q = refl
 
 -- Each way through `field_end`; r is what `field_close` gave.
-module _ (s : List ℕ) (at : ℕ) {r : Close} (q : r ≡ closeAt at 64 (extent (drop at s))) where
+module _ (s : List ℕ) (at : ℕ) {r : Close} (q : r ≡ closeAt at mostFieldBytes (extent (drop at s))) where
   pub find-never : r ≡ Never → Broken ≡ foundAt at (field (drop at s))
   unfolding field
   find-never p = rw (never (extent (drop at s)) (drop at s) at (sym p ∙ q))
 
-  module _ (e : ℕ) (p : r ≡ At e) where
-    at-end : (n : ℕ) × (e ≡ at + n) × (field (drop at s) ≡ following n (drop e s))
-    unfolding field
-    at-end =
-        let k = closed (extent (drop at s)) (drop at s) at e (sym p ∙ q) in
-        (k .0, k .1, k .2 ∙ rw (drop-drop (k .0) at s, ← k .1))
-
-    pub find-last : length s ≤ e → Ends EndOfText e ≡ foundAt at (field (drop at s))
-    unfolding following
-    find-last h = ap (Ends EndOfText) (at-end .1) ∙ rw (at-end .2, drop-of-length-le s h)
-
-    module _ (h : e < length s) where
-      pub find-comma : getD s e 0 ≡ 44 → Comma e ≡ foundAt at (field (drop at s))
-      unfolding following
-      find-comma m = ap Comma (at-end .1) ∙ rw (at-end .2, next-byte s e h, eq-eqb _ _ m)
-
-      pub find-other : (getD s e 0 ≡ 44 → ⊥) → (getD s e 0 ≡ 13 → ⊥) → Broken ≡ foundAt at (field (drop at s))
-      unfolding following
-      find-other m o = rw (at-end .2, next-byte s e h, ne-eqb _ _ m, ne-eqb _ _ o)
-
-      module _ (m : getD s e 0 ≡ 44 → ⊥) (o : getD s e 0 ≡ 13) where
-        after-cr : field (drop at s) ≡ lineFeed (at-end .0) (drop (e + 1) s)
-        unfolding following
-        after-cr = at-end .2 ∙ rw (next-byte s e h, ne-eqb _ _ m, eq-eqb _ _ o)
-
-        pub find-cr-last : length s - e ≡ 1 → Broken ≡ foundAt at (field (drop at s))
-        find-cr-last l = rw (after-cr, drop-of-length-le s {i = e + 1} (omega arith))
-
-        module _ (l : length s - e ≡ 1 → ⊥) where
-          in-text : e + 1 < length s
-          in-text = omega arith
-
-          pub find-line : getD s (e + 1) 0 ≡ 10 → Ends CrLf e ≡ foundAt at (field (drop at s))
-          find-line w = ap (Ends CrLf) (at-end .1) ∙ rw (after-cr, next-byte s (e + 1) in-text, eq-eqb _ _ w)
-
-          pub find-cr-other : (getD s (e + 1) 0 ≡ 10 → ⊥) → Broken ≡ foundAt at (field (drop at s))
-          find-cr-other w = rw (after-cr, next-byte s (e + 1) in-text, ne-eqb _ _ w)
+  pub find-at : {x : Found} (e : ℕ) → r ≡ At e → x ≡ foundAt e (following 0 (drop e s)) → x ≡ foundAt at (field (drop at s))
+  unfolding field
+  find-at e p w =
+      let k = closed (extent (drop at s)) (drop at s) at e (sym p ∙ q) in
+      w ∙ found-from s at (k .0) e (k .1) ∙ ap (foundAt at) (sym (k .2))

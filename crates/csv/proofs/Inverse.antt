@@ -1,7 +1,7 @@
 -- Reading what RFC 4180 writes gives what was written, and every text whose records are all sound is written so.
 -- Assumes nothing.
 use mathlib.Core.Path.{_≡_, refl, sym, ap, _∙_}
-use mathlib.Core.Bool.{Bool, true, false, cond, not, _||_, false≢true}
+use mathlib.Core.Bool.{Bool, true, false, cond, not, _||_, and-eq-true-iff, false≢true}
 use mathlib.Core.List.{List, [], _∷_, _++_, map, append-assoc}
 use Prim.Native.Nat.{ℕ, zero, suc, _+_, _-_, _<_, _≤_}
 use native.Mathlib.Numerals.{add-one}
@@ -10,16 +10,15 @@ use borrow.Author.Tests.{eqb-true, leb-true, le-leb}
 use lib.ListN.{length, take, drop, length-append, length-drop, take-append-drop}
 use lib.Seq.{length-take-le, take-append-seam, drop-append-seam, drop-append-add, drop-drop}
 use lib.Dec.{leb}
-use Rattle.csv.specs.Grammar.{isQuote, isComma, isCr, isLf, isText, Extent, size, unclosed, longer, plain, inside, after, extent, most, width, Field, comma, ends, broken, lineFeed, following, limited, field, Record, recordWith, recordIn, recordOf, recordsIn, records}
-use Rattle.numbers.specs.Number.{undoubled, content}
+use Rattle.csv.specs.Grammar.{isQuote, isComma, isCr, isLf, isText, Extent, size, unclosed, longer, plain, insideQuotes, afterQuote, extent, undoubled, content, width, Field, comma, ends, broken, lineFeed, following, limited, field, Record, recordWith, recordIn, recordOf, recordsIn, records}
+use Rattle.limits.specs.Limits.{mostFieldBytes}
 use Rattle.csv.specs.Write.{Entry, bare, quoted, textOf, doubled, written, allText, Unmarked, Writable, Line, writeFields, writeLine, write, AllWritable, LastLine, Allowed, recordAs, recordsAs, AllSound, Written}
 use Rattle.csv.specs.declared.Ending.{Ending}
 use Rattle.csv.specs.declared.Ending.the-variants.{CrLf, EndOfText}
-use Rattle.numbers.proofs.Numbers.{and-left, and-right}
 use Rattle.csv.proofs.Records.{record-step, records-none, records-step, Spans, record-spans}
 
 -- what may follow a field: nothing, or a byte that is neither text nor a quote mark
-abbrev Stops : List ℕ → Type 0
+abbrev pub Stops : List ℕ → Type 0
 Stops [] = Unit {0}
 Stops (b ∷ t) = (isText b ≡ false) × (isQuote b ≡ false)
 
@@ -34,19 +33,19 @@ plain-run : (s t : List ℕ) → allText s ≡ true → Stops t → plain (s ++ 
 unfolding plain allText
 plain-run [] [] e h = refl
 plain-run [] (b ∷ t) e h = rw (h .0)
-plain-run (b ∷ s) t e h = rw (and-left (isText b) (allText s) e) (ap suc (plain-run s t (and-right (isText b) (allText s) e) h))
+plain-run (b ∷ s) t e h = rw (and-eq-true-iff (isText b) (allText s) .0 e .0) (ap suc (plain-run s t (and-eq-true-iff (isText b) (allText s) .0 e .1) h))
 
-after-stops : (t : List ℕ) → Stops t → after t ≡ size 0
-unfolding inside
+after-stops : (t : List ℕ) → Stops t → afterQuote t ≡ size 0
+unfolding insideQuotes
 after-stops [] h = refl
 after-stops (b ∷ t) h = rw (h .1)
 
-inside-doubled : (u t : List ℕ) → Stops t → inside (doubled u ++ 34 ∷ t) ≡ size (suc (length (doubled u)))
-unfolding inside doubled
+inside-doubled : (u t : List ℕ) → Stops t → insideQuotes (doubled u ++ 34 ∷ t) ≡ size (suc (length (doubled u)))
+unfolding insideQuotes doubled
 inside-doubled [] t h = ap longer (after-stops t h)
 inside-doubled (b ∷ u) t h = go (isQuote b) refl (inside-doubled u t h)
   where
-    go : (q : Bool) → isQuote b ≡ q → inside (doubled u ++ 34 ∷ t) ≡ size (suc (length (doubled u))) → inside (cond q (b ∷ b ∷ doubled u) (b ∷ doubled u) ++ 34 ∷ t) ≡ size (suc (length (cond q (b ∷ b ∷ doubled u) (b ∷ doubled u))))
+    go : (q : Bool) → isQuote b ≡ q → insideQuotes (doubled u ++ 34 ∷ t) ≡ size (suc (length (doubled u))) → insideQuotes (cond q (b ∷ b ∷ doubled u) (b ∷ doubled u) ++ 34 ∷ t) ≡ size (suc (length (cond q (b ∷ b ∷ doubled u) (b ∷ doubled u))))
     go true e ih = rw e (ap (λ (x : Extent). longer (longer x)) ih)
     go false e ih = rw e (ap longer ih)
 
@@ -54,18 +53,18 @@ extent-bare : (b : ℕ) (s : List ℕ) → isQuote b ≡ false → extent (b ∷
 unfolding extent
 extent-bare b s e = rw e
 
-extent-written : (f : Entry) (t : List ℕ) → Unmarked f → Stops t → extent (written f ++ t) ≡ size (length (written f))
+pub extent-written : (f : Entry) (t : List ℕ) → Unmarked f → Stops t → extent (written f ++ t) ≡ size (length (written f))
 unfolding extent allText plain
 extent-written (bare []) [] e h = refl
 extent-written (bare []) (b ∷ t) e h = rw (h .0, h .1)
-extent-written (bare (b ∷ s)) t e h = extent-bare b (s ++ t) (text-no-quote b (and-left (isText b) (allText s) e)) ∙ ap size (plain-run (b ∷ s) t e h)
+extent-written (bare (b ∷ s)) t e h = extent-bare b (s ++ t) (text-no-quote b (and-eq-true-iff (isText b) (allText s) .0 e .0)) ∙ ap size (plain-run (b ∷ s) t e h)
 extent-written (quoted u) t e h =
     let l : length (doubled u ++ (34 ∷ [])) ≡ suc (length (doubled u)) = length-append (doubled u) (34 ∷ []) ∙ add-one (length (doubled u)) in
     rw (append-assoc (doubled u) (34 ∷ []) t, l) (ap longer (inside-doubled u t h))
 
 pub field-written : (f : Entry) (t : List ℕ) → Writable f → Stops t → field (written f ++ t) ≡ following (length (written f)) t
 unfolding field
-field-written f t w h = rw (extent-written f t (w .unmarked) h, le-leb (length (written f)) most (w .size), drop-append-seam (written f) t)
+field-written f t w h = rw (extent-written f t (w .unmarked) h, le-leb (length (written f)) mostFieldBytes (w .size), drop-append-seam (written f) t)
 
 -- what follows the last field of a record
 abbrev pub ending : Ending → List ℕ → List ℕ
@@ -138,7 +137,7 @@ undoubled-doubled (b ∷ u) = go (isQuote b) refl (undoubled-doubled u)
 pub content-written : (f : Entry) → Unmarked f → content (written f) ≡ textOf f
 unfolding content allText
 content-written (bare []) e = refl
-content-written (bare (b ∷ s)) e = rw (text-no-quote b (and-left (isText b) (allText s) e))
+content-written (bare (b ∷ s)) e = rw (text-no-quote b (and-eq-true-iff (isText b) (allText s) .0 e .0))
 content-written (quoted u) e =
     let l : length (doubled u ++ (34 ∷ [])) - 1 ≡ length (doubled u) = rw length-append (omega arith) in
     rw (l, take-append-seam (doubled u) (34 ∷ [])) (undoubled-doubled u)
@@ -173,14 +172,14 @@ all-plain (b ∷ s) = go (isText b) refl (all-plain s)
     go true e ih = (rw e (ih .0), omega arith)
     go false e ih = (refl, omega arith)
 
--- the bytes of a quoted field from behind its opening mark on, and from behind a further mark on
+-- the bytes of a quoted field after its opening mark, and after a further mark
 abbrev Inside : List ℕ → Extent → Type 0
 Inside s (size n) = (u : List ℕ) × (doubled u ++ (34 ∷ []) ≡ take n s) × (n ≤ length s)
 Inside s unclosed = Unit {0}
 
-abbrev Behind : List ℕ → Extent → Type 0
-Behind s (size n) = (u : List ℕ) × (doubled u ++ (34 ∷ []) ≡ 34 ∷ take n s) × (n ≤ length s)
-Behind s unclosed = Unit {0}
+abbrev After : List ℕ → Extent → Type 0
+After s (size n) = (u : List ℕ) × (doubled u ++ (34 ∷ []) ≡ 34 ∷ take n s) × (n ≤ length s)
+After s unclosed = Unit {0}
 
 doubled-quote : (b : ℕ) (u : List ℕ) → isQuote b ≡ true → doubled (b ∷ u) ≡ b ∷ b ∷ doubled u
 unfolding doubled
@@ -190,7 +189,7 @@ doubled-other : (b : ℕ) (u : List ℕ) → isQuote b ≡ false → doubled (b 
 unfolding doubled
 doubled-other b u e = rw e
 
-inside-mark : (b : ℕ) (s : List ℕ) (x : Extent) → isQuote b ≡ true → Behind s x → Inside (b ∷ s) (longer x)
+inside-mark : (b : ℕ) (s : List ℕ) (x : Extent) → isQuote b ≡ true → After s x → Inside (b ∷ s) (longer x)
 inside-mark b s (size n) e h = (h .0, h .1 ∙ rw (eqb-true b 34 e), omega (arith, h .2))
 inside-mark b s unclosed e h = tt
 
@@ -198,31 +197,31 @@ inside-other : (b : ℕ) (s : List ℕ) (x : Extent) → isQuote b ≡ false →
 inside-other b s (size n) e h = (b ∷ h .0, rw (doubled-other b (h .0) e) (ap (λ (x : List ℕ). b ∷ x) (h .1)), omega (arith, h .2))
 inside-other b s unclosed e h = tt
 
-behind-mark : (b : ℕ) (s : List ℕ) (x : Extent) → isQuote b ≡ true → Inside s x → Behind (b ∷ s) (longer x)
-behind-mark b s (size n) e h = let z : b ≡ 34 = eqb-true b 34 e in (b ∷ h .0, rw (doubled-quote b (h .0) e) (rw z (ap (λ (x : List ℕ). 34 ∷ 34 ∷ x) (h .1))), omega (arith, h .2))
-behind-mark b s unclosed e h = tt
+after-mark : (b : ℕ) (s : List ℕ) (x : Extent) → isQuote b ≡ true → Inside s x → After (b ∷ s) (longer x)
+after-mark b s (size n) e h = let z : b ≡ 34 = eqb-true b 34 e in (b ∷ h .0, rw (doubled-quote b (h .0) e) (rw z (ap (λ (x : List ℕ). 34 ∷ 34 ∷ x) (h .1))), omega (arith, h .2))
+after-mark b s unclosed e h = tt
 
 closing : doubled [] ++ (34 ∷ []) ≡ 34 ∷ []
 unfolding doubled
 closing = refl
 
 mutual
-  unfolding inside
+  unfolding insideQuotes
 
-  inside-again : (s : List ℕ) → Inside s (inside s)
+  inside-again : (s : List ℕ) → Inside s (insideQuotes s)
   inside-again [] = tt
   inside-again (b ∷ s) = go (isQuote b) refl (after-again s) (inside-again s)
     where
-      go : (q : Bool) → isQuote b ≡ q → Behind s (after s) → Inside s (inside s) → Inside (b ∷ s) (longer (cond q (after s) (inside s)))
-      go true e g h = inside-mark b s (after s) e g
-      go false e g h = inside-other b s (inside s) e h
+      go : (q : Bool) → isQuote b ≡ q → After s (afterQuote s) → Inside s (insideQuotes s) → Inside (b ∷ s) (longer (cond q (afterQuote s) (insideQuotes s)))
+      go true e g h = inside-mark b s (afterQuote s) e g
+      go false e g h = inside-other b s (insideQuotes s) e h
 
-  after-again : (s : List ℕ) → Behind s (after s)
+  after-again : (s : List ℕ) → After s (afterQuote s)
   after-again [] = ([], closing, omega arith)
   after-again (b ∷ s) = go (isQuote b) refl (inside-again s)
     where
-      go : (q : Bool) → isQuote b ≡ q → Inside s (inside s) → Behind (b ∷ s) (cond q (longer (inside s)) (size 0))
-      go true e h = behind-mark b s (inside s) e h
+      go : (q : Bool) → isQuote b ≡ q → Inside s (insideQuotes s) → After (b ∷ s) (cond q (longer (insideQuotes s)) (size 0))
+      go true e h = after-mark b s (insideQuotes s) e h
       go false e h = ([], closing, omega arith)
 
 abbrev ExtentAgain : List ℕ → Extent → Type 0
@@ -238,8 +237,8 @@ unfolding extent allText
 extent-again [] = record { entry = bare []; unmarked = refl; same = refl; within = omega arith }
 extent-again (b ∷ s) = go (isQuote b) refl
   where
-    go : (q : Bool) → isQuote b ≡ q → ExtentAgain (b ∷ s) (cond q (longer (inside s)) (size (plain (b ∷ s))))
-    go true e = quoted-again b s (inside s) e (inside-again s)
+    go : (q : Bool) → isQuote b ≡ q → ExtentAgain (b ∷ s) (cond q (longer (insideQuotes s)) (size (plain (b ∷ s))))
+    go true e = quoted-again b s (insideQuotes s) e (inside-again s)
     go false e = record { entry = bare (take (plain (b ∷ s)) (b ∷ s)); unmarked = all-plain (b ∷ s) .0; same = refl; within = all-plain (b ∷ s) .1 }
 
 -- a text begins with an entry that may be written, and with what follows it
@@ -253,10 +252,10 @@ FieldAgain s (comma n) = Begins n s (44 ∷ drop (n + 1) s)
 FieldAgain s (ends e n) = Begins n s (ending e (drop (n + width e) s))
 FieldAgain s broken = Unit {0}
 
-module _ (s : List ℕ) (n : ℕ) (a : Again n s) (l : n ≤ most) where
+module _ (s : List ℕ) (n : ℕ) (a : Again n s) (l : n ≤ mostFieldBytes) where
   begins : (t : List ℕ) → drop n s ≡ t → Begins n s t
   begins t e =
-      let m : length (written (a .entry)) ≤ most = rw (a .same, length-take-le n s (a .within)) l in
+      let m : length (written (a .entry)) ≤ mostFieldBytes = rw (a .same, length-take-le n s (a .within)) l in
       record { entry = a .entry; writable = record { unmarked = a .unmarked; size = m }; text = sym (take-append-drop n s) ∙ rw (← a .same, e) }
 
   line-again : (b : ℕ) (t : List ℕ) → isCr b ≡ true → drop n s ≡ b ∷ t → FieldAgain s (lineFeed n t)
@@ -283,10 +282,10 @@ field-again s = go (extent s) (extent-again s)
   where
     go : (x : Extent) → ExtentAgain s x → FieldAgain s (limited s x)
     go unclosed a = tt
-    go (size n) a = short (leb n most) refl
+    go (size n) a = short (leb n mostFieldBytes) refl
       where
-        short : (f : Bool) → leb n most ≡ f → FieldAgain s (cond f (following n (drop n s)) broken)
-        short true e = following-again s n a (leb-true n most e) (drop n s) refl
+        short : (f : Bool) → leb n mostFieldBytes ≡ f → FieldAgain s (cond f (following n (drop n s)) broken)
+        short true e = following-again s n a (leb-true n mostFieldBytes e) (drop n s) refl
         short false e = tt
 
 -- a sound record, as a line

@@ -3,5 +3,6 @@ pub mod Fields
 pub mod Records
 pub mod Splits
 pub mod Inverse
-pub mod Cells
-pub mod Numerals
+pub mod Reading
+pub mod Quotes
+pub mod Short

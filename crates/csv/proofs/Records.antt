@@ -1,4 +1,4 @@
--- A field lies within its text, and a record is its first field and the record following the comma, however much is counted.
+-- A field lies within its text, and a record is its first field and the record after the comma, however much is counted.
 -- Assumes nothing.
 use mathlib.Core.Path.{_≡_, refl, ap}
 use mathlib.Core.Bool.{Bool, true, false, cond, false≢true}
@@ -7,8 +7,9 @@ use Prim.Native.Nat.{ℕ, zero, suc, _+_, _<_, _≤_}
 use native.Mathlib.Omega.{arith}
 use lib.ListN.{length, take, drop, length-drop}
 use lib.Dec.{leb}
+use Rattle.limits.specs.Limits.{mostFieldBytes}
 use Rattle.csv.specs.declared.Ending.the-variants.{CrLf, EndOfText}
-use Rattle.csv.specs.Grammar.{Extent, size, unclosed, longer, plain, inside, after, extent, isQuote, isComma, isCr, isLf, isText, Field, comma, ends, width, broken, following, lineFeed, limited, field, Record, recordWith, recordIn, recordOf, joined, recordsAfter, recordsIn, records}
+use Rattle.csv.specs.Grammar.{Extent, size, unclosed, longer, plain, insideQuotes, afterQuote, extent, isQuote, isComma, isCr, isLf, isText, Field, comma, ends, width, broken, following, lineFeed, limited, field, Record, recordWith, recordIn, recordOf, joined, recordsAfter, recordsIn, records}
 
 -- at most l bytes
 abbrev Bounded : ℕ → Extent → Type 0
@@ -33,22 +34,22 @@ plain-bounded (b ∷ s) = go (isText b) (plain-bounded s)
     go false h = omega arith
 
 mutual
-  unfolding inside
+  unfolding insideQuotes
 
-  inside-bounded : (s : List ℕ) → Bounded (length s) (inside s)
+  inside-bounded : (s : List ℕ) → Bounded (length s) (insideQuotes s)
   inside-bounded [] = tt
-  inside-bounded (b ∷ s) = bounded-longer (length s) (cond (isQuote b) (after s) (inside s)) (either (Bounded (length s)) (isQuote b) (after s) (inside s) (after-bounded s) (inside-bounded s))
+  inside-bounded (b ∷ s) = bounded-longer (length s) (cond (isQuote b) (afterQuote s) (insideQuotes s)) (either (Bounded (length s)) (isQuote b) (afterQuote s) (insideQuotes s) (after-bounded s) (inside-bounded s))
 
-  after-bounded : (s : List ℕ) → Bounded (length s) (after s)
+  after-bounded : (s : List ℕ) → Bounded (length s) (afterQuote s)
   after-bounded [] = omega arith
-  after-bounded (b ∷ s) = either (Bounded (suc (length s))) (isQuote b) (longer (inside s)) (size 0) (bounded-longer (length s) (inside s) (inside-bounded s)) (omega arith)
+  after-bounded (b ∷ s) = either (Bounded (suc (length s))) (isQuote b) (longer (insideQuotes s)) (size 0) (bounded-longer (length s) (insideQuotes s) (inside-bounded s)) (omega arith)
 
 extent-bounded : (s : List ℕ) → Bounded (length s) (extent s)
 unfolding extent
 extent-bounded [] = omega arith
-extent-bounded (b ∷ s) = either (Bounded (suc (length s))) (isQuote b) (longer (inside s)) (size (plain (b ∷ s))) (bounded-longer (length s) (inside s) (inside-bounded s)) (plain-bounded (b ∷ s))
+extent-bounded (b ∷ s) = either (Bounded (suc (length s))) (isQuote b) (longer (insideQuotes s)) (size (plain (b ∷ s))) (bounded-longer (length s) (insideQuotes s) (inside-bounded s)) (plain-bounded (b ∷ s))
 
--- a field and what stands following it lie within l bytes
+-- a field and what follows it lie within l bytes
 abbrev pub Within : ℕ → Field → Type 0
 Within l (comma n) = n < l
 Within l (ends e n) = (n + width e ≤ l) × (width e ≡ 0 → n ≡ l)
@@ -78,7 +79,7 @@ field-within s = go (extent s) (extent-bounded s)
   where
     go : (x : Extent) → Bounded (length s) x → Within (length s) (limited s x)
     go unclosed h = tt
-    go (size n) h = at (leb n 64)
+    go (size n) h = at (leb n mostFieldBytes)
       where
         at : (f : Bool) → Within (length s) (cond f (following n (drop n s)) broken)
         at true = following-within (length s) n (drop n s) (rw length-drop (omega arith))

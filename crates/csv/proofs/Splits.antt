@@ -1,7 +1,7 @@
 -- One turn of `scan_record`, and what the bounds that it notes say of the fields.
 -- Assumes nothing.
 use mathlib.Core.Path.{_≡_, refl, sym, ap, subst, _∙_}
-use mathlib.Core.Bool.{Bool, true, false, cond, _&&_}
+use mathlib.Core.Bool.{Bool, true, false, cond}
 use mathlib.Core.List.{List, [], _∷_}
 use Prim.Native.Nat.{ℕ, zero, suc, _+_, _-_, _<_, _≤_, max}
 use native.Mathlib.Nat.{add-zero}
@@ -13,7 +13,7 @@ use lib.Seq.{drop-drop, getD-set-same, getD-set-other, length-take-le}
 use native.Mathlib.Decide.{decLe}
 use lib.Dec.{leb, ltb, leb·zero}
 use Rattle.csv.specs.Grammar.{Field, comma, ends, broken, width, field, Record, recordOf, recordIn, recordWith, joined, only, unsound}
-use Rattle.csv.specs.Place.{foundAt, noPlaces, note, noted, startsOf, stopsOf, splitOf, fieldAt}
+use Rattle.csv.specs.Place.{foundAt, noPlaces, note, noted, startsOf, stopsOf, splitOf, partOf, fieldAt}
 use Rattle.csv.specs.declared.Ending.{Ending}
 use Rattle.csv.specs.declared.Ending.the-variants.{EndOfText}
 use Rattle.csv.specs.declared.Found.{Found}
@@ -21,39 +21,55 @@ use Rattle.csv.specs.declared.Found.the-variants.{Comma, Ends, Broken}
 use Rattle.csv.specs.declared.Split.{Split}
 use Rattle.csv.proofs.Records.{Within, field-within, record-step}
 
--- Each way through `put`.
+-- Each way through `note_bounds`.
 pub put-in : (places : List ℕ) (i x : ℕ) → i < 8 → set places i x ≡ note places i x
 put-in places i x h = rw (lt-ltb i 8 h)
 
 pub put-out : (places : List ℕ) (i x : ℕ) → 8 ≤ i → places ≡ note places i x
 put-out places i x h = rw (le-ltb i 8 h)
 
+-- Each way through `part`.
+module _ (s : List ℕ) (from to : ℕ) where
+  pub part-turned : to < from → [] ≡ partOf s from to
+  part-turned l = let z : to - from ≡ 0 = omega arith in rw z (go (leb to (length s)))
+    where
+      go : (b : Bool) → [] ≡ cond b (take 0 (drop from s)) []
+      go true = refl
+      go false = refl
+
+  pub part-beyond : length s < to → [] ≡ partOf s from to
+  part-beyond l = rw (lt-leb to (length s) l)
+
+  pub part-is : to ≤ length s → take (to - from) (drop from s) ≡ partOf s from to
+  part-is l = rw (le-leb to (length s) l)
+
+-- n bytes of a text from p on, where there are as many
+pub part-at : (s : List ℕ) (p n : ℕ) → n ≤ length (drop p s) → partOf s p (p + n) ≡ take n (drop p s)
+part-at s p n h = let e : p + n - p ≡ n = omega arith in rw e (at (decLe (p + n) (length s)))
+  where
+    at : Dec (p + n ≤ length s) → cond (leb (p + n) (length s)) (take n (drop p s)) [] ≡ take n (drop p s)
+    at (yes l) = rw (le-leb (p + n) (length s) l)
+    at (no l) = let z : n ≡ 0 = omega (arith, rw length-drop at h) in rw z (flat (leb (p + 0) (length s)))
+      where
+        flat : (b : Bool) → cond b (take 0 (drop p s)) [] ≡ take 0 (drop p s)
+        flat true = refl
+        flat false = refl
+
 -- Each way through `find_field`.
 module _ (s starts stops : List ℕ) (i : ℕ) where
-  pub part-none : 8 ≤ i → [] ≡ fieldAt s starts stops i
-  part-none h = rw (le-ltb i 8 h)
+  pub field-none : 8 ≤ i → [] ≡ fieldAt s starts stops i
+  field-none h = rw (le-ltb i 8 h)
 
-  module _ (h : i < 8) where
-    pub part-turned : getD stops i 0 < getD starts i 0 → [] ≡ fieldAt s starts stops i
-    part-turned l = let z : getD stops i 0 - getD starts i 0 ≡ 0 = omega arith in rw z (go (ltb i 8 && leb (getD stops i 0) (length s)))
-      where
-        go : (b : Bool) → [] ≡ cond b (take 0 (drop (getD starts i 0) s)) []
-        go true = refl
-        go false = refl
-
-    pub part-beyond : length s < getD stops i 0 → [] ≡ fieldAt s starts stops i
-    part-beyond l = rw (lt-ltb i 8 h, lt-leb (getD stops i 0) (length s) l)
-
-    pub part-is : getD stops i 0 ≤ length s → take (getD stops i 0 - getD starts i 0) (drop (getD starts i 0) s) ≡ fieldAt s starts stops i
-    part-is l = rw (lt-ltb i 8 h, le-leb (getD stops i 0) (length s) l)
+  pub field-part : {w : List ℕ} → i < 8 → w ≡ partOf s (getD starts i 0) (getD stops i 0) → w ≡ fieldAt s starts stops i
+  field-part h q = rw (lt-ltb i 8 h) q
 
 -- What an answer of `field_end` says of the field.
-comma-of : (p e : ℕ) (f : Field) → Comma e ≡ foundAt p f → (n : ℕ) × (f ≡ comma n) × (e ≡ p + n)
+pub comma-of : (p e : ℕ) (f : Field) → Comma e ≡ foundAt p f → (n : ℕ) × (f ≡ comma n) × (e ≡ p + n)
 comma-of p e (comma n) q = (n, refl, cc)
 comma-of p e (ends x n) q = absurd (let z : _≡_ {A = ℕ} 0 1 = cc in omega arith)
 comma-of p e broken q = absurd (let z : _≡_ {A = ℕ} 0 1 = cc in omega arith)
 
-ends-of : (p e : ℕ) (x : Ending) (f : Field) → Ends x e ≡ foundAt p f → (n : ℕ) × (f ≡ ends x n) × (e ≡ p + n)
+pub ends-of : (p e : ℕ) (x : Ending) (f : Field) → Ends x e ≡ foundAt p f → (n : ℕ) × (f ≡ ends x n) × (e ≡ p + n)
 ends-of p e x (comma n) q = absurd (let z : _≡_ {A = ℕ} 0 1 = cc in omega arith)
 ends-of p e x (ends y n) q = (n, (let z : x ≡ y = cc in rw z), cc)
 ends-of p e x broken q = absurd (let z : _≡_ {A = ℕ} 0 1 = cc in omega arith)
@@ -63,7 +79,7 @@ broken-of p (comma n) q = absurd (let z : _≡_ {A = ℕ} 0 1 = cc in omega arit
 broken-of p (ends x n) q = absurd (let z : _≡_ {A = ℕ} 0 1 = cc in omega arith)
 broken-of p broken q = refl
 
--- one field more: its bounds are noted, and the next one starts behind the comma
+-- one field more: its bounds are noted, and the next one starts after the comma
 module _ (starts stops : List ℕ) (count p e : ℕ) (w : List ℕ) (d : p + length w ≡ e) where
   split-joined : (n : ℕ) (t : Record) → p + n ≡ e + 1 → splitOf starts stops count p (joined w n t) ≡ splitOf (note starts count p) (note stops count e) (suc count) (e + 1) t
   unfolding noted startsOf stopsOf
@@ -103,7 +119,7 @@ module _ (s : List ℕ) (p : ℕ) {r : Found} (q : r ≡ foundAt p (field (drop 
     within : at-ends .0 + width x ≤ length s - p
     within = let h : (at-ends .0 + width x ≤ length (drop p s)) × (width x ≡ 0 → at-ends .0 ≡ length (drop p s)) = subst (Within (length (drop p s))) (at-ends .1) (field-within (drop p s)) in rw length-drop at (h .0)
 
-    -- the place behind the record lies in the text, or is p where p does not
+    -- the place after the record lies in the text, or is p where p does not
     pub ends-range : (v : ℕ) → v ≡ width x → e + v ≤ max (length s) p
     ends-range v k = omega (arith, at-ends .2, within)
 
@@ -124,23 +140,15 @@ module _ (s : List ℕ) (p : ℕ) {r : Found} (q : r ≡ foundAt p (field (drop 
 -- The fields ws, as the record that starts at p has them: each is the part of the text between its bounds.
 abbrev Laid : List ℕ → ℕ → List (List ℕ) → Type 0
 Laid s p [] = Unit {0}
-Laid s p (w ∷ ws) = (cond (leb (p + length w) (length s)) (take (length w) (drop p s)) [] ≡ w) × Laid s (p + length w + 1) ws
+Laid s p (w ∷ ws) = (partOf s p (p + length w) ≡ w) × Laid s (p + length w + 1) ws
 
 laid-in : (k : ℕ) (s : List ℕ) (p : ℕ) → Laid s p (recordIn k (drop p s) .fields)
 unfolding recordIn
 laid-in zero s p = tt
 laid-in (suc k) s p = go (λ q. laid-in k s q) (field (drop p s)) (field-within (drop p s))
   where
-    part : (n : ℕ) → n ≤ length (drop p s) → cond (leb (p + length (take n (drop p s))) (length s)) (take (length (take n (drop p s))) (drop p s)) [] ≡ take n (drop p s)
-    part n h = rw (length-take-le n (drop p s) h) (at (decLe (p + n) (length s)))
-      where
-        at : Dec (p + n ≤ length s) → cond (leb (p + n) (length s)) (take n (drop p s)) [] ≡ take n (drop p s)
-        at (yes l) = rw (le-leb (p + n) (length s) l)
-        at (no l) = let z : n ≡ 0 = omega (arith, rw length-drop at h) in rw z (flat (leb (p + 0) (length s)))
-          where
-            flat : (b : Bool) → cond b (take 0 (drop p s)) [] ≡ take 0 (drop p s)
-            flat true = refl
-            flat false = refl
+    part : (n : ℕ) → n ≤ length (drop p s) → partOf s p (p + length (take n (drop p s))) ≡ take n (drop p s)
+    part n h = rw (length-take-le n (drop p s) h) (part-at s p n h)
 
     go : ((q : ℕ) → Laid s q (recordIn k (drop q s) .fields)) → (f : Field) → Within (length (drop p s)) f → Laid s p (recordWith (recordIn k) (drop p s) f .fields)
     go ih (comma n) h =
@@ -184,15 +192,11 @@ noted-at places i (x ∷ xs) (suc j) l h =
     let e : i + suc j ≡ suc i + j = omega arith in
     rw e (noted-at (note places i x) (suc i) xs j (length-note places i x ∙ l) (omega arith) ∙ ap (getD xs j) (note-other places i x (suc i + j) (λ z. omega arith)))
 
--- the part of the text between two bounds
-abbrev between : List ℕ → ℕ → ℕ → List ℕ
-between s a e = cond (leb e (length s)) (take (e - a) (drop a s)) []
-
-laid-field : (s : List ℕ) (p : ℕ) (ws : List (List ℕ)) → Laid s p ws → (j : ℕ) → between s (getD (startsOf p ws) j 0) (getD (stopsOf p ws) j 0) ≡ getD ws j []
+laid-field : (s : List ℕ) (p : ℕ) (ws : List (List ℕ)) → Laid s p ws → (j : ℕ) → partOf s (getD (startsOf p ws) j 0) (getD (stopsOf p ws) j 0) ≡ getD ws j []
 unfolding startsOf stopsOf
 laid-field s p [] h zero = rw leb·zero
 laid-field s p [] h (suc j) = rw leb·zero
-laid-field s p (w ∷ ws) h zero = let e : p + length w - p ≡ length w = omega arith in rw e (h .0)
+laid-field s p (w ∷ ws) h zero = h .0
 laid-field s p (w ∷ ws) h (suc j) = laid-field s (p + length w + 1) ws (h .1) j
 
 -- what `find_field` gives of the bounds that `scan_record` noted is the field

@@ -1,12 +1,13 @@
 -- The grammar of RFC 4180, section 2, over a list of bytes: fields, what follows a field, records, and the text. It departs from
 -- the RFC where document 01 does: TEXTDATA is every byte that is no quote mark, comma, CR or LF; an empty text has no records;
--- and a field has at most 64 bytes as written.
+-- and a field has at most `mostFieldBytes` bytes as written.
 -- Assumes nothing: these are definitions.
-use Prim.Native.Nat.{ℕ, zero, suc, _+_}
+use Prim.Native.Nat.{ℕ, zero, suc, _+_, _-_}
 use mathlib.Core.Bool.{Bool, true, false, cond, not, _||_}
 use mathlib.Core.List.{List, [], _∷_}
 use lib.ListN.{length, take, drop}
 use lib.Dec.{leb, eqb}
+use Rattle.limits.specs.Limits.{mostFieldBytes}
 use Rattle.csv.specs.declared.Ending.{Ending}
 use Rattle.csv.specs.declared.Ending.the-variants.{CrLf, EndOfText}
 
@@ -42,26 +43,22 @@ unfoldable pub plain : List ℕ → ℕ
 plain [] = 0
 plain (b ∷ s) = cond (isText b) (suc (plain s)) 0
 
--- escaped = DQUOTE *(TEXTDATA / COMMA / CR / LF / 2DQUOTE) DQUOTE, from behind the opening mark on.
--- `inside`: any byte but a quote mark is text. `after`, behind a further mark: a second mark hands back to `inside`, and anything
--- else, or the end of the text, leaves the first one the closing mark.
+-- escaped = DQUOTE *(TEXTDATA / COMMA / CR / LF / 2DQUOTE) DQUOTE, from the byte after the opening mark on.
+-- `insideQuotes`: any byte but a quote mark is text. `afterQuote`: a second mark hands back to `insideQuotes`, and anything else, or
+-- the end of the text, leaves the first one the closing mark.
 unfoldable mutual
-  pub inside : List ℕ → Extent
-  inside [] = unclosed
-  inside (b ∷ s) = longer (cond (isQuote b) (after s) (inside s))
+  pub insideQuotes : List ℕ → Extent
+  insideQuotes [] = unclosed
+  insideQuotes (b ∷ s) = longer (cond (isQuote b) (afterQuote s) (insideQuotes s))
 
-  pub after : List ℕ → Extent
-  after [] = size 0
-  after (b ∷ s) = cond (isQuote b) (longer (inside s)) (size 0)
+  pub afterQuote : List ℕ → Extent
+  afterQuote [] = size 0
+  afterQuote (b ∷ s) = cond (isQuote b) (longer (insideQuotes s)) (size 0)
 
 -- field = (escaped / non-escaped): an opening quote mark makes it escaped
 unfoldable pub extent : List ℕ → Extent
 extent [] = size 0
-extent (b ∷ s) = cond (isQuote b) (longer (inside s)) (size (plain (b ∷ s)))
-
--- "A field as written, its quote marks included, has at most 64 bytes."
-abbrev pub most : ℕ
-most = 64
+extent (b ∷ s) = cond (isQuote b) (longer (insideQuotes s)) (size (plain (b ∷ s)))
 
 -- "Records end in CR LF; the last one may end with the text": the bytes that an ending takes
 abbrev pub width : Ending → ℕ
@@ -85,12 +82,24 @@ unfoldable pub following : ℕ → List ℕ → Field
 following n [] = ends EndOfText n
 following n (b ∷ s) = cond (isComma b) (comma n) (cond (isCr b) (lineFeed n s) broken)
 
+-- a field of s that is taken to have a given extent: "A field as written, its quote marks included, has at most 64 bytes."
 abbrev pub limited : List ℕ → Extent → Field
-limited s (size n) = cond (leb n most) (following n (drop n s)) broken
+limited s (size n) = cond (leb n mostFieldBytes) (following n (drop n s)) broken
 limited s unclosed = broken
 
 unfoldable pub field : List ℕ → Field
 field s = limited s (extent s)
+
+-- The text of a field. "Within a quoted field .. two quote marks are one."
+unfoldable pub undoubled : List ℕ → List ℕ
+undoubled [] = []
+undoubled (b ∷ []) = b ∷ []
+undoubled (b ∷ c ∷ s) = cond (isQuote b) (b ∷ undoubled s) (b ∷ undoubled (c ∷ s))
+
+-- of a quoted field, what stands between its opening and its closing mark
+unfoldable pub content : List ℕ → List ℕ
+content [] = []
+content (b ∷ s) = cond (isQuote b) (undoubled (take (length s - 1) s)) (b ∷ s)
 
 -- record = field *(COMMA field), with its end
 pub record Record : Type 0 where
@@ -111,13 +120,13 @@ only w n e = record { fields = w ∷ []; bytes = n + width e; sound = true; endi
 abbrev pub joined : List ℕ → ℕ → Record → Record
 joined w n r = record { fields = w ∷ r .fields; bytes = n + r .bytes; sound = r .sound; ending = r .ending }
 
--- the record of s whose first field is given, over what makes the record of the bytes behind a comma
+-- the record of s whose first field is given, over what makes the record of the bytes after a comma
 abbrev pub recordWith : (List ℕ → Record) → List ℕ → Field → Record
 recordWith rest s (comma n) = joined (take n s) (n + 1) (rest (drop (n + 1) s))
 recordWith rest s (ends e n) = only (take n s) n e
 recordWith rest s broken = unsound
 
--- Each field but the last has a comma behind it, so a text of n bytes has at most n + 1 fields: as many as k counts.
+-- A comma follows each field but the last, so a text of n bytes has at most n + 1 fields: as many as k counts.
 unfoldable pub recordIn : ℕ → List ℕ → Record
 recordIn zero s = unsound
 recordIn (suc k) s = recordWith (recordIn k) s (field s)
@@ -125,7 +134,7 @@ recordIn (suc k) s = recordWith (recordIn k) s (field s)
 unfoldable pub recordOf : List ℕ → Record
 recordOf s = recordIn (suc (length s)) s
 
--- what comes behind the record r of s: nothing is read behind a record that is not sound
+-- the records after the record r of s: nothing is read after a record that is not sound
 abbrev pub recordsAfter : (List ℕ → List Record) → List ℕ → Record → List Record
 recordsAfter rest s r = cond (r .sound) (rest (drop (r .bytes) s)) []
 

@@ -1,13 +1,13 @@
 -- The grammar the other way round: how RFC 4180 writes records. proofs/Inverse.antt shows that reading what is written here gives
 -- those records, and that every text whose records are all sound is written so.
 -- Assumes nothing: these are definitions.
-use Prim.Native.Nat.{ℕ, zero, suc, _+_, _/_, _%_, _≤_, _<_}
+use Prim.Native.Nat.{ℕ, _+_, _≤_, _<_}
 use mathlib.Core.Path.{_≡_}
 use mathlib.Core.Bool.{Bool, true, false, cond, _&&_}
 use mathlib.Core.List.{List, [], _∷_, _++_, map}
 use lib.ListN.{length}
-use lib.Dec.{ltb}
-use Rattle.csv.specs.Grammar.{isQuote, isText, most, width, Record}
+use Rattle.limits.specs.Limits.{mostFieldBytes}
+use Rattle.csv.specs.Grammar.{isQuote, isText, width, Record}
 use Rattle.csv.specs.declared.Ending.{Ending}
 use Rattle.csv.specs.declared.Ending.the-variants.{CrLf, EndOfText}
 
@@ -29,7 +29,7 @@ abbrev pub written : Entry → List ℕ
 written (bare s) = s
 written (quoted s) = 34 ∷ doubled s ++ (34 ∷ [])
 
--- what may be written: without quote marks only TEXTDATA, and at most 64 bytes
+-- what may be written: without quote marks only TEXTDATA, and at most `mostFieldBytes` bytes
 unfoldable pub allText : List ℕ → Bool
 allText [] = true
 allText (b ∷ s) = isText b && allText s
@@ -40,15 +40,7 @@ Unmarked (quoted s) = Unit {0}
 
 pub record Writable (f : Entry) : Type 0 where
   pub unmarked : Unmarked f
-  pub size : length (written f) ≤ most
-
--- the decimal digits of a number with no leading zero, in front of other digits; a number below k has at most k digits
-unfoldable pub numeralIn : ℕ → ℕ → List ℕ → List ℕ
-numeralIn zero n s = s
-numeralIn (suc k) n s = cond (ltb n 10) ((48 + n) ∷ s) (numeralIn k (n / 10) ((48 + n % 10) ∷ s))
-
-unfoldable pub numeralOf : ℕ → List ℕ
-numeralOf n = numeralIn (suc n) n []
+  pub size : length (written f) ≤ mostFieldBytes
 
 -- record = field *(COMMA field)
 pub record Line : Type 0 where

@@ -1,11 +1,11 @@
-// Comma-separated text by RFC 4180: where a field ends, how a record splits into fields, and the plain numbers that one scan finds and reads.
+// Comma-separated text by RFC 4180: where a field ends, how a record splits into fields, and a field without its quote marks.
 ghost use mathlib.Core.Path.{_≡_};
-ghost use mathlib.Core.Bool.{true};
-ghost use Prim.Native.Nat.{_+_, _<_};
-ghost use lib.ListN.{length, drop, getD};
-ghost use Rattle.numbers.specs.Number.{unsigned};
-ghost use Rattle.csv.specs.Grammar.{isText, plain, inside, after, extent, field, recordOf, width};
-ghost use Rattle.csv.specs.Place.{closeAt, foundAt, splitOf, noPlaces, note, fieldAt, CellAt, LineEnd, LastAt};
+ghost use Prim.Native.Nat.{_+_};
+ghost use lib.ListN.{drop};
+ghost use Rattle.limits.specs.Limits.{mostFieldBytes};
+ghost use Rattle.csv.specs.Grammar.{isText, plain, insideQuotes, afterQuote, extent, following, field, recordOf, width};
+ghost use Rattle.csv.specs.Place.{closeAt, foundAt, splitOf, noPlaces, note, partOf, fieldAt, inner};
+use limits::MOST_FIELD_BYTES;
 
 // Where a field ends, if it is closed in time.
 pub enum Close {
@@ -26,7 +26,7 @@ pub enum Found {
     Broken,
 }
 
-// A record: the bounds of its first eight fields, the count of all its fields, the place behind it, and how it ends.
+// A record: the bounds of its first eight fields, the count of all its fields, the place after it, and how it ends.
 // A record with a broken field is not sound, and what is noted lies before that field.
 pub struct Split {
     pub starts: [usize; 8],
@@ -35,19 +35,6 @@ pub struct Split {
     pub next: usize,
     pub sound: bool,
     pub ending: Ending,
-}
-
-// A plain field that a comma follows, and where it ends: a number, or nothing. Other: anything else, or nothing known of it.
-pub enum Cell {
-    Number(u64, usize),
-    Missing(usize),
-    Other,
-}
-
-// A plain number that CR LF follows, and where it ends.
-pub enum LastCell {
-    Number(i64, usize),
-    Other,
 }
 
 // Whether b may stand in a plain field.
@@ -60,9 +47,10 @@ fn is_text(b: u8) -> bool
     }
 }
 
-// Inside quotes: the end of the field, if it comes within `room` bytes. Each byte takes one of them, so the calls are at most 64 deep.
+// Inside quotes: the end of the field, if it comes within `room` bytes. Each byte takes one of them, so the calls are at most
+// MOST_FIELD_BYTES deep.
 fn inside_quotes(text: &[u8], at: usize, room: usize) -> Close
-    ensures { λ r. ⌜ r ≡ closeAt at room (inside (drop at (now (text .entry)))) ⌝ }
+    ensures { λ r. ⌜ r ≡ closeAt at room (insideQuotes (drop at (now (text .entry)))) ⌝ }
 {
     if at >= text.len() {
         return Close::Never;
@@ -77,9 +65,9 @@ fn inside_quotes(text: &[u8], at: usize, room: usize) -> Close
     }
 }
 
-// Behind a quote mark of a quoted field: a second mark hands back to `inside_quotes`, and otherwise the first one closed the field.
+// After a quote mark of a quoted field: a second mark hands back to `inside_quotes`, and otherwise the first one closed the field.
 fn after_quote(text: &[u8], at: usize, room: usize) -> Close
-    ensures { λ r. ⌜ r ≡ closeAt at room (after (drop at (now (text .entry)))) ⌝ }
+    ensures { λ r. ⌜ r ≡ closeAt at room (afterQuote (drop at (now (text .entry)))) ⌝ }
 {
     if at >= text.len() {
         return Close::At(at);
@@ -109,31 +97,28 @@ fn plain_end(text: &[u8], at: usize) -> usize
     i
 }
 
-// The end of the field that starts at `at`, if it has at most 64 bytes as written.
+// The end of the field that starts at `at`, if it has at most MOST_FIELD_BYTES bytes as written.
 fn field_close(text: &[u8], at: usize) -> Close
-    ensures { λ r. ⌜ r ≡ closeAt at 64 (extent (drop at (now (text .entry)))) ⌝ }
+    ensures { λ r. ⌜ r ≡ closeAt at mostFieldBytes (extent (drop at (now (text .entry)))) ⌝ }
 {
     if at >= text.len() {
         return Close::At(at);
     }
     if text[at] == b'"' {
-        return inside_quotes(text, at + 1, 63);
+        return inside_quotes(text, at + 1, MOST_FIELD_BYTES - 1);
     }
     let end = plain_end(text, at);
-    if end - at <= 64 {
+    if end - at <= MOST_FIELD_BYTES {
         Close::At(end)
     } else {
         Close::Never
     }
 }
 
-// The end of the field that starts at `at`, by what follows it.
-fn field_end(text: &[u8], at: usize) -> Found
-    ensures { λ r. ⌜ r ≡ foundAt at (field (drop at (now (text .entry)))) ⌝ }
+// What follows a field that ends at `end`.
+pub fn follow(text: &[u8], end: usize) -> Found
+    ensures { λ r. ⌜ r ≡ foundAt end (following 0 (drop end (now (text .entry)))) ⌝ }
 {
-    let Close::At(end) = field_close(text, at) else {
-        return Found::Broken;
-    };
     if end >= text.len() {
         return Found::Ends(Ending::EndOfText, end);
     }
@@ -154,8 +139,18 @@ fn field_end(text: &[u8], at: usize) -> Found
     }
 }
 
+// The end of the field that starts at `at`, by what follows it.
+fn field_end(text: &[u8], at: usize) -> Found
+    ensures { λ r. ⌜ r ≡ foundAt at (field (drop at (now (text .entry)))) ⌝ }
+{
+    let Close::At(end) = field_close(text, at) else {
+        return Found::Broken;
+    };
+    follow(text, end)
+}
+
 // The bytes that an ending takes.
-fn width_of(x: Ending) -> usize
+pub fn width_of(x: Ending) -> usize
     ensures { λ r. ⌜ r ≡ width x ⌝ }
 {
     match x {
@@ -214,16 +209,10 @@ pub fn scan_record(text: &[u8], at: usize) -> Split
     }
 }
 
-// The field finder: field i of a record as written, a part of the caller's text and no copy, by the bounds that `scan_record` noted. It is
-// empty where they lie outside the text.
-pub fn find_field<'a>(text: &'a [u8], starts: &[usize; 8], ends: &[usize; 8], i: usize) -> &'a [u8]
-    ensures { λ r. ⌜ now r ≡ fieldAt (now (text .entry)) (now (starts .entry)) (now (ends .entry)) i ⌝ }
+// The part of the text between two bounds, no copy. It is empty where they do not lie in the text, or not in order.
+pub fn part(text: &[u8], from: usize, to: usize) -> &[u8]
+    ensures { λ r. ⌜ now r ≡ partOf (now (text .entry)) from to ⌝ }
 {
-    if i >= 8 {
-        return &text[..0];
-    }
-    let from = starts[i];
-    let to = ends[i];
     if from > to {
         return &text[..0];
     }
@@ -233,106 +222,31 @@ pub fn find_field<'a>(text: &'a [u8], starts: &[usize; 8], ends: &[usize; 8], i:
     &text[from..to]
 }
 
-// The field that starts at `at`, where it is a plain number of at most `limit`, or empty, with a comma behind it: one scan for both.
-pub fn number_cell(text: &[u8], at: usize, limit: u64) -> Cell
-    ensures { λ r. ⌜ CellAt (now (text .entry)) at (unsigned limit) r ⌝ }
+// The field finder: field i of a record as written, a part of the caller's text, by the bounds that `scan_record` noted.
+pub fn find_field<'a>(text: &'a [u8], starts: &[usize; 8], ends: &[usize; 8], i: usize) -> &'a [u8]
+    ensures { λ r. ⌜ now r ≡ fieldAt (now (text .entry)) (now (starts .entry)) (now (ends .entry)) i ⌝ }
 {
-    let run = numbers::digit_run(text, at);
-    let n = run.value;
-    let end = run.end;
-    if end >= text.len() {
-        return Cell::Other;
+    if i >= 8 {
+        return &text[..0];
     }
-    if text[end] != b',' {
-        return Cell::Other;
-    }
-    if end == at {
-        return Cell::Missing(end);
-    }
-    if text[at] == b'0' {
-        if end - at == 1 {
-            return Cell::Number(0, end);
-        }
-        return Cell::Other;
-    }
-    if n > limit {
-        return Cell::Other;
-    }
-    Cell::Number(n, end)
+    let from = starts[i];
+    let to = ends[i];
+    part(text, from, to)
 }
 
-// Whether CR LF stands at `at`.
-fn line_ends(text: &[u8], at: usize) -> bool
-    ensures { λ r. ⌜ (r ≡ true → LineEnd (now (text .entry)) at) ⌝ }
+// A field without its quote marks, a part of the text. Doubled marks stay as they are.
+pub fn inner_part(w: &[u8]) -> &[u8]
+    ensures { λ r. ⌜ now r ≡ inner (now (w .entry)) ⌝ }
 {
-    if at >= text.len() {
-        return false;
+    if w.len() == 0 {
+        return w;
     }
-    if text.len() - at == 1 {
-        return false;
+    if w[0] != b'"' {
+        return w;
     }
-    if text[at] == 13 {
-        return text[at + 1] == 10;
+    if w.len() == 1 {
+        return &w[..0];
     }
-    false
-}
-
-// The field that starts at `at`, where it is a plain number other than 0 with no minus sign and CR LF behind it.
-fn positive_cell(text: &[u8], at: usize) -> LastCell
-    ensures { λ r. ⌜ LastAt (now (text .entry)) at r ⌝ }
-{
-    let run = numbers::digit_run(text, at);
-    let n = run.value;
-    let end = run.end;
-    if line_ends(text, end) {
-        if n == 0 {
-            return LastCell::Other;
-        }
-        if text[at] == b'0' {
-            return LastCell::Other;
-        }
-        if n > 9223372036854775807 {
-            return LastCell::Other;
-        }
-        return LastCell::Number(n as i64, end);
-    }
-    LastCell::Other
-}
-
-// The same behind a minus sign at `at`.
-fn negative_cell(text: &[u8], at: usize) -> LastCell
-    requires { ⌜ (at < length (now text)) × (getD (now text) at 0 ≡ 45) ⌝ }
-    ensures { λ r. ⌜ LastAt (now (text .entry)) at r ⌝ }
-{
-    let run = numbers::digit_run(text, at + 1);
-    let n = run.value;
-    let end = run.end;
-    if line_ends(text, end) {
-        if n == 0 {
-            return LastCell::Other;
-        }
-        if text[at + 1] == b'0' {
-            return LastCell::Other;
-        }
-        if n > 9223372036854775808 {
-            return LastCell::Other;
-        }
-        let m = (n - 1) as i64;
-        return LastCell::Number(-1 - m, end);
-    }
-    LastCell::Other
-}
-
-// The field that starts at `at`, where it is a plain number other than 0 with CR LF behind it: one scan for both.
-pub fn integer_cell(text: &[u8], at: usize) -> LastCell
-    ensures { λ r. ⌜ LastAt (now (text .entry)) at r ⌝ }
-{
-    if at >= text.len() {
-        return LastCell::Other;
-    }
-    if text[at] == b'-' {
-        negative_cell(text, at)
-    } else {
-        positive_cell(text, at)
-    }
+    let last = w.len() - 1;
+    &w[1..last]
 }

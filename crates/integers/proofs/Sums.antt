@@ -18,7 +18,7 @@ unfolding sumBelow
 sum-zero zero f z = refl
 sum-zero (suc k) f z = rw (sum-zero k f (λ l h. z l (omega arith)), z k (omega arith))
 
--- three summands regrouped, and the last two changed about
+-- three summands regrouped, and the last two swapped
 regroup : (x y z : ℤ) → x +ℤ (y +ℤ z) ≡ x +ℤ y +ℤ z
 regroup x y z = omega (ints, sum y z, sum x (y +ℤ z), sum x y, sum (x +ℤ y) z)
 
@@ -31,7 +31,7 @@ module _ (R : ℤ → ℤ → Type 0) (O : Direction R) where
   sum-mono zero f g h = O .same (pos 0)
   sum-mono (suc k) f g h = add R O (sumBelow k f) (sumBelow k g) (f k) (g k) (sum-mono k f g (λ l b. h l (omega arith))) (h k (omega arith))
 
-  -- all terms but the one at h are ordered as they stand, that one with a and b beside it
+  -- every term but the one at h is ordered, and that one with a and b added
   pub sum-but : (k : ℕ) (f g : ℕ → ℤ) (h : ℕ) (a b : ℤ) → h < k
       → ((l : ℕ) → l < k → (l ≡ h → ⊥) → R (f l) (g l)) → R (f h +ℤ a) (g h +ℤ b)
       → R (sumBelow k f +ℤ a) (sumBelow k g +ℤ b)

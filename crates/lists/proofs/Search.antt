@@ -1,14 +1,16 @@
 -- What a search over the numbers below k finds, from what holds at each number, and the other way round. Assumes nothing.
-use mathlib.Core.Path.{_≡_, refl, sym, _∙_, ap, subst}
+use mathlib.Core.Path.{_≡_, refl, sym, _∙_, ap, ap₂, subst}
 use mathlib.Core.Bool.{Bool, true, false, not, _&&_, _||_, and-true, or-true}
+use mathlib.Core.List.{List, [], _∷_}
 use mathlib.Core.Option.{Option, none, some}
 use Prim.Native.Nat.{ℕ, zero, suc, _+_, _≤_, _<_}
 use native.Mathlib.Decide.{ℕ-discrete}
 use native.Mathlib.Nat.{add-assoc}
 use native.Mathlib.Omega.{arith}
 use lib.Dec.{eqb}
+use lib.ListN.{length, getD}
 use borrow.Author.Tests.{eq-eqb, ne-eqb}
-use Rattle.lists.specs.Search.{if_then_else_, anyBelow, countBelow, orElse, firstBelow}
+use Rattle.lists.specs.Search.{if_then_else_, anyBelow, countBelow, orElse, firstBelow, tabulate}
 use Rattle.lists.proofs.Tests.{or-false, neither}
 
 -- ---- one number more
@@ -68,15 +70,15 @@ none-found (suc k) p h = rw (none-found k p (λ i l. h i (omega arith)), h k (om
 pub record Lowest (k : ℕ) (p : ℕ → Bool) (i : ℕ) : Type 0 where
   pub below : i < k
   pub passes : p i ≡ true
-  pub first : (j : ℕ) → j < i → p j ≡ false
+  pub lower : (j : ℕ) → j < i → p j ≡ false
 
 pub found : (k : ℕ) (p : ℕ → Bool) (i : ℕ) → Lowest k p i → firstBelow k p ≡ some i
 unfolding firstBelow
 found zero p i h = absurd (omega (arith, h .below))
-found (suc k) p i h = go (ℕ-discrete i k) (λ l. found k p i (record { below = l; passes = h .passes; first = h .first }))
+found (suc k) p i h = go (ℕ-discrete i k) (λ l. found k p i (record { below = l; passes = h .passes; lower = h .lower }))
   where
     go : Dec (i ≡ k) → (i < k → firstBelow k p ≡ some i) → orElse (firstBelow k p) (if p k then some k else none) ≡ some i
-    go (yes q) rest = rw (none-found k p (λ j l. h .first j (omega arith)), ap p (sym q) ∙ h .passes) (ap some (sym q))
+    go (yes q) rest = rw (none-found k p (λ j l. h .lower j (omega arith)), ap p (sym q) ∙ h .passes) (ap some (sym q))
     go (no ne) rest = rw (rest (omega (arith, h .below)))
 
 pub found-lowest : (k : ℕ) (p : ℕ → Bool) (i : ℕ) → firstBelow k p ≡ some i → Lowest k p i
@@ -88,10 +90,10 @@ found-lowest (suc k) p i e = go (firstBelow k p) refl (p k) refl e (found-lowest
         → ((i : ℕ) → firstBelow k p ≡ some i → Lowest k p i) → Lowest (suc k) p i
     go (some j) o b q e rest =
         let r : Lowest k p i = rest i (o ∙ e) in
-        record { below = omega (arith, r .below); passes = r .passes; first = r .first }
+        record { below = omega (arith, r .below); passes = r .passes; lower = r .lower }
     go none o true q e rest =
         let k≡i : k ≡ i = cc in
-        record { below = omega arith; passes = ap p (sym k≡i) ∙ q; first = λ j l. not-found k p o j (omega arith) }
+        record { below = omega arith; passes = ap p (sym k≡i) ∙ q; lower = λ j l. not-found k p o j (omega arith) }
     go none o false q e rest = absurd (let z : _≡_ {A = ℕ} 0 1 = cc in omega arith)
 
 -- two tests that agree below k find the same
@@ -153,3 +155,19 @@ count-remove (suc k) h p l e = go (ℕ-discrete h k) (λ b. count-remove k h p b
         rw (← q, e, eq-eqb h h refl) (let s : countBelow h (λ i. p i && not (eqb i h)) ≡ countBelow h p = rw (← q) at same in omega arith)
     go (no ne) rest =
         rw (ne-eqb k h (λ z. ne (sym z)), and-true (p k)) (let r = rest (omega arith) in omega arith)
+
+-- ---- tabulate
+
+pub tabulate-at {ℓ} : {A : Type ℓ} (k : ℕ) (f : ℕ → A) (d : A) (i : ℕ) → i < k → getD (tabulate k f) i d ≡ f i
+unfolding tabulate
+tabulate-at zero f d i h = absurd (omega arith)
+tabulate-at (suc k) f d zero h = refl
+tabulate-at (suc k) f d (suc i) h = tabulate-at k (λ j. f (suc j)) d i (omega arith)
+
+-- a list of k entries that f gives is the list of f
+pub tabulated {ℓ} : {A : Type ℓ} (xs : List A) (k : ℕ) (f : ℕ → A) (d : A) → length xs ≡ k → ((i : ℕ) → i < k → getD xs i d ≡ f i) → xs ≡ tabulate k f
+unfolding tabulate
+tabulated [] zero f d e h = refl
+tabulated [] (suc k) f d e h = absurd (omega arith)
+tabulated (x ∷ xs) zero f d e h = absurd (omega arith)
+tabulated (x ∷ xs) (suc k) f d e h = ap₂ _∷_ (h 0 (omega arith)) (tabulated xs k (λ i. f (suc i)) d (omega arith) (λ i b. h (suc i) (omega arith)))

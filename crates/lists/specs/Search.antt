@@ -1,6 +1,7 @@
--- The choice by a test, and searches over the numbers 0 to k − 1.
+-- The choice by a test, searches over the numbers 0 to k − 1, and the list of what a function gives for them.
 use Prim.Native.Nat.{ℕ, zero, suc, _+_}
 use mathlib.Core.Bool.{Bool, false, cond, _||_}
+use mathlib.Core.List.{List, [], _∷_}
 use mathlib.Core.Option.{Option, none, some}
 
 infixr 1 if_then_else_
@@ -27,3 +28,8 @@ orElse none o = o
 unfoldable pub firstBelow : ℕ → (ℕ → Bool) → Option ℕ
 firstBelow zero p = none
 firstBelow (suc k) p = orElse (firstBelow k p) (if p k then some k else none)
+
+-- the list of f 0 to f (k − 1)
+unfoldable pub tabulate {ℓ} : {A : Type ℓ} → ℕ → (ℕ → A) → List A
+tabulate zero f = []
+tabulate (suc k) f = f 0 ∷ tabulate k (λ i. f (suc i))

@@ -3,8 +3,11 @@ use Prim.Native.Nat.{ℕ, _≤_, _<_}
 use mathlib.Core.Path.{_≡_}
 use mathlib.Core.Bool.{Bool, true, false}
 use mathlib.Core.List.{List}
-use lib.ListN.{length, getD}
-use Rattle.bits.specs.Digits.{has}
+use lib.Dec.{ltb}
+use lib.ListN.{length, getD, replicate}
+use Rattle.limits.specs.Limits.{mostLoops}
+use Rattle.lists.specs.Search.{if_then_else_, tabulate}
+use Rattle.bits.specs.Digits.{has, setOf}
 use Rattle.wcet.specs.Table.{around}
 use Rattle.loopsets.specs.declared.LoopSet.{LoopSet}
 
@@ -12,10 +15,10 @@ use Rattle.loopsets.specs.declared.LoopSet.{LoopSet}
 unfoldable pub member : LoopSet → ℕ → Bool
 member s k = has (s .word) k
 
--- l is the lowest loop in the set, and 64 where the set is empty
+-- l is the lowest loop in the set, and mostLoops where the set is empty
 pub record LowestOf (s : LoopSet) (l : ℕ) : Type 0 where
-  pub within : l ≤ 64
-  pub present : l < 64 → member s l ≡ true
+  pub within : l ≤ mostLoops
+  pub present : l < mostLoops → member s l ≡ true
   pub lower : (k : ℕ) → k < l → member s k ≡ false
 
 -- the set of loop l
@@ -27,7 +30,11 @@ pub record Parents (parents : List ℕ) : Type 0 where
   pub root : getD parents 0 0 ≡ 0
   pub below : (l : ℕ) → 0 < l → getD parents l 0 < l
 
--- the set of each loop has the loops around it
-pub record SetsAround (parents sets : List ℕ) : Type 0 where
-  pub size : length sets ≡ 64
-  pub each : (l k : ℕ) → l < length parents → member (setAt sets l) k ≡ around parents (length parents) l k
+-- Document 01: "The loops around a block fit one 64-bit set". The word of each loop's set: the loops around it, and none where the parent
+-- column has no loop l.
+unfoldable pub setsAround : List ℕ → List ℕ
+setsAround parents = tabulate mostLoops (λ l. if ltb l (length parents) then setOf mostLoops (around parents (length parents) l) else 0)
+
+-- every set is empty
+abbrev pub noSets : List ℕ
+noSets = replicate mostLoops 0

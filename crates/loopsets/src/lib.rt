@@ -6,11 +6,13 @@ ghost use mathlib.Core.Bool.{not, _&&_, _||_};
 ghost use Prim.Native.Nat.{ℕ, _≤_, _<_};
 ghost use lib.Dec.{eqb};
 ghost use lib.ListN.{length};
+ghost use Rattle.limits.specs.Limits.{mostLoops};
 ghost use Rattle.lists.specs.Search.{countBelow};
-ghost use Rattle.loopsets.specs.Sets.{member, setAt, LowestOf, Parents, SetsAround};
+ghost use Rattle.loopsets.specs.Sets.{member, setAt, LowestOf, Parents, setsAround};
+use limits::MOST_LOOPS;
 
 // A word for the set of each loop.
-pub type Sets = [u64; 64];
+pub type Sets = [u64; MOST_LOOPS];
 
 // A set of loops.
 pub struct LoopSet {
@@ -20,7 +22,7 @@ pub struct LoopSet {
 impl LoopSet {
     // Whether loop k is in the set.
     pub fn contains(self, k: usize) -> bool
-        requires { ⌜ k < 64 ⌝ }
+        requires { ⌜ k < mostLoops ⌝ }
         ensures { λ r. ⌜ r ≡ member self k ⌝ }
     {
         (self.word >> k) & 1 == 1
@@ -28,7 +30,7 @@ impl LoopSet {
 
     // The set with loop l in it.
     pub fn with(self, l: usize) -> LoopSet
-        requires { ⌜ l < 64 ⌝ }
+        requires { ⌜ l < mostLoops ⌝ }
         ensures { λ r. ⌜ ((k : ℕ) → member r k ≡ (eqb l k || member self k)) ⌝ }
     {
         LoopSet {
@@ -38,7 +40,7 @@ impl LoopSet {
 
     // The loops of the set that are not in the other.
     pub fn without(self, other: LoopSet) -> LoopSet
-        ensures { λ r. ⌜ ((k : ℕ) → k < 64 → member r k ≡ (member self k && not (member other k))) ⌝ }
+        ensures { λ r. ⌜ ((k : ℕ) → k < mostLoops → member r k ≡ (member self k && not (member other k))) ⌝ }
     {
         LoopSet {
             word: self.word & !other.word,
@@ -47,12 +49,12 @@ impl LoopSet {
 
     // How many loops are in the set.
     pub fn size(self) -> u32
-        ensures { λ r. ⌜ r ≡ countBelow 64 (member self) ⌝ }
+        ensures { λ r. ⌜ r ≡ countBelow mostLoops (member self) ⌝ }
     {
         u64::count_ones(self.word)
     }
 
-    // The lowest loop in the set; 64 where the set is empty.
+    // The lowest loop in the set; MOST_LOOPS where the set is empty.
     pub fn lowest(self) -> usize
         ensures { λ r. ⌜ LowestOf self r ⌝ }
     {
@@ -61,8 +63,8 @@ impl LoopSet {
 
     // The set without loop l.
     pub fn without_loop(self, l: usize) -> LoopSet
-        requires { ⌜ l < 64 ⌝ }
-        ensures { λ r. ⌜ ((k : ℕ) → k < 64 → member r k ≡ (member self k && not (eqb l k))) ⌝ }
+        requires { ⌜ l < mostLoops ⌝ }
+        ensures { λ r. ⌜ ((k : ℕ) → k < mostLoops → member r k ≡ (member self k && not (eqb l k))) ⌝ }
     {
         LoopSet {
             word: self.word & !(1u64 << l),
@@ -72,18 +74,20 @@ impl LoopSet {
 
 // The set of loop l.
 pub fn set_at(sets: &Sets, l: usize) -> LoopSet
-    requires { ⌜ l < 64 ⌝ }
+    requires { ⌜ l < mostLoops ⌝ }
     ensures { λ r. ⌜ r ≡ setAt (now (sets .entry)) l ⌝ }
 {
-    LoopSet { word: sets[l] }
+    let word = sets[l];
+    LoopSet { word }
 }
 
-// The loops around each loop of the parent column: around loop 0 itself alone, around any other loop itself and the loops around its parent.
+// The loops around each loop of the parent column: loop 0 around itself, and around any other loop itself and the loops around its parent.
+// The sets after the last loop are empty.
 pub fn sets_around(parent: &[u16]) -> Sets
-    requires { ⌜ (0 < length (now parent)) × (length (now parent) ≤ 64) × Parents (now parent) ⌝ }
-    ensures { λ r. ⌜ SetsAround (now (parent .entry)) r ⌝ }
+    requires { ⌜ (0 < length (now parent)) × (length (now parent) ≤ mostLoops) × Parents (now parent) ⌝ }
+    ensures { λ r. ⌜ r ≡ setsAround (now (parent .entry)) ⌝ }
 {
-    let mut around = [0u64; 64];
+    let mut around = [0u64; MOST_LOOPS];
     around[0] = 1;
     let mut l = 1;
     while l < parent.len() {

@@ -1,23 +1,26 @@
--- How the answers of the rules' functions make the reply: a place decides, none hands on. Assumes nothing.
+-- How the answers of the rules' functions make the reply: a place decides it, and none leaves it to the next rule. Assumes nothing.
 use mathlib.Core.Path.{_≡_, refl, sym, _∙_, ap}
 use mathlib.Core.Bool.{Bool, true, false, not, _||_}
 use mathlib.Core.List.{List, [], _∷_, _++_}
 use Prim.Native.Nat.{ℕ, _<_}
 use native.Mathlib.Omega.{arith}
 use lib.ListN.{drop}
+use Rattle.limits.specs.Limits.{mostBlocks, mostLoops}
 use Rattle.lists.specs.Search.{firstBelow}
 use Rattle.lists.proofs.Search.{not-found}
 use Rattle.lists.proofs.Tests.{or-false}
-use Rattle.wcet.specs.Rules.{Reply, accepted, refused, Rule, check, outOfRange, blockColumnsEqual, loopColumnsEqual, sizesWrong, tooDeep, entryOrExitEdge, entersPastHeader, structureRules}
+use Rattle.wcet.specs.Rules.{Reply, accepted, refused, Rule, check, outOfRange, blockColumnsEqual, loopColumnsEqual, sizesWrong, tooDeep, entryOrExitEdge, pastHeader, entersPastHeader, structureRules}
 use Rattle.wcet.specs.Table.{Routine, blockCount, loopCount, someEdge, inside}
 use Rattle.wcet.specs.Claim.{AllHold}
 use Rattle.wcet.proofs.Replies.{decides, hands-on, passes, refused-append}
+use Rattle.loopsets.specs.Sets.{setsAround, noSets}
 use Rattle.nesting.specs.Columns.{nestingColumns, blockSizesWrong, loopSizesWrong}
-use Rattle.nesting.specs.Answers.{placeOf, refusal, structureReply, StructureChecked, NestingChecked}
+use Rattle.nesting.specs.Answers.{placeOf, refusal, structureReply, setsBeside, RulesChecked, StructureChecked, NestingChecked}
 use Rattle.nesting.specs.declared.Place.{Place}
 use Rattle.nesting.specs.declared.Place.the-variants.{At, Nowhere}
 use Rattle.nesting.specs.declared.StructureFault.{StructureFault}
 use Rattle.nesting.specs.declared.StructureFault.the-variants.{Sizes, Loop, Block, Header, Depth, EntryOrExit, PastHeader}
+use Rattle.nesting.specs.declared.Structure.{Structure}
 use Rattle.nesting.specs.declared.Structure.the-variants.{Sound, Broken}
 use Rattle.nesting.specs.declared.Structured.{Structured}
 
@@ -44,7 +47,7 @@ none-left passed = refl
 module _ (t : Routine) where
   pub blocks-decide : blockSizesWrong t ≡ true → sizesWrong t ≡ true
   unfolding sizesWrong
-  blocks-decide e = go (outOfRange 2 1024 (blockCount t)) (outOfRange 1 64 (loopCount t)) (not (blockColumnsEqual t)) (not (loopColumnsEqual t)) e
+  blocks-decide e = go (outOfRange 2 mostBlocks (blockCount t)) (outOfRange 1 mostLoops (loopCount t)) (not (blockColumnsEqual t)) (not (loopColumnsEqual t)) e
     where
       go : (a b c d : Bool) → (a || c) ≡ true → (a || b || c || d) ≡ true
       go true b c d e = refl
@@ -53,7 +56,7 @@ module _ (t : Routine) where
 
   pub loops-decide : loopSizesWrong t ≡ true → sizesWrong t ≡ true
   unfolding sizesWrong
-  loops-decide e = go (outOfRange 2 1024 (blockCount t)) (outOfRange 1 64 (loopCount t)) (not (blockColumnsEqual t)) (not (loopColumnsEqual t)) e
+  loops-decide e = go (outOfRange 2 mostBlocks (blockCount t)) (outOfRange 1 mostLoops (loopCount t)) (not (blockColumnsEqual t)) (not (loopColumnsEqual t)) e
     where
       go : (a b c d : Bool) → (b || d) ≡ true → (a || b || c || d) ≡ true
       go true b c d e = refl
@@ -64,13 +67,13 @@ module _ (t : Routine) where
   pub neither-decides : blockSizesWrong t ≡ false → loopSizesWrong t ≡ false → sizesWrong t ≡ false
   unfolding sizesWrong
   neither-decides e f =
-      let p = or-false (outOfRange 2 1024 (blockCount t)) (not (blockColumnsEqual t)) e in
-      let q = or-false (outOfRange 1 64 (loopCount t)) (not (loopColumnsEqual t)) f in
+      let p = or-false (outOfRange 2 mostBlocks (blockCount t)) (not (blockColumnsEqual t)) e in
+      let q = or-false (outOfRange 1 mostLoops (loopCount t)) (not (loopColumnsEqual t)) f in
       rw (p .0, p .1, q .0, q .1)
 
 pub sizes-decide : {A : Type 0} (t : Routine) (passed : Reply A) → sizesWrong t ≡ true → refused 201 0 ≡ check (structureRules t) passed
 unfolding structureRules
-sizes-decide t passed e = sym (decides _ _ passed 0 (record { below = omega arith; passes = e; first = λ j h. absurd (omega arith) }))
+sizes-decide t passed e = sym (decides _ _ passed 0 (record { below = omega arith; passes = e; lower = λ j h. absurd (omega arith) }))
 
 pub sizes-clear : {A : Type 0} (t : Routine) (passed : Reply A) → sizesWrong t ≡ false → check (drop 1 (structureRules t)) passed ≡ check (structureRules t) passed
 unfolding structureRules
@@ -78,24 +81,19 @@ sizes-clear t passed e = sym (hands-on _ _ passed (λ p h. e))
 
 -- ---- the whole check
 
-never-sound : (r : Structured) (f : StructureFault) → r .answer ≡ Broken f → r .answer ≡ Sound → ⊥
-never-sound r f e s = let z : _≡_ {A = ℕ} 0 1 = cc in omega arith
+pub broken-checked : (rs : List Rule) (parents : List ℕ) (r : Structured) (f : StructureFault) → (r .answer ≡ Broken f) × (r .around ≡ noSets)
+    → refusal {A = Unit {0}} f ≡ check rs (accepted tt) → RulesChecked rs parents r
+broken-checked rs parents r f e q = record { replied = ap structureReply (e .0) ∙ q; sets = e .1 ∙ sym (ap (λ (a : Structure). setsBeside a parents) (e .0)) }
 
-pub broken-checked : (t : Routine) (r : Structured) (f : StructureFault) → r .answer ≡ Broken f → refusal {A = Unit {0}} f ≡ check (structureRules t) (accepted tt) → StructureChecked t r
-broken-checked t r f e q = record { replied = ap structureReply e ∙ q; sets = λ s. absurd (never-sound r f e s) }
-
-pub broken-nesting : (t : Routine) (r : Structured) (f : StructureFault) → r .answer ≡ Broken f → refusal {A = Unit {0}} f ≡ check (drop 4 (structureRules t)) (accepted tt) → NestingChecked t r
-broken-nesting t r f e q = record { replied = ap structureReply e ∙ q; sets = λ s. absurd (never-sound r f e s) }
-
--- what the nesting's columns are refused or accepted with, behind 201 to 204, the routine is
+-- after 201 to 204, the answer for the nesting's columns is the answer for the routine
 pub nesting-checked : (t : Routine) (r : Structured) → NestingChecked (nestingColumns (t .costs) (t .loops) (t .firsts) (t .seconds) (t .parents) (t .headers)) r
     → check (drop 4 (structureRules t)) (accepted (tt {0})) ≡ check (structureRules t) (accepted tt) → StructureChecked t r
-unfolding structureRules tooDeep entryOrExitEdge entersPastHeader someEdge inside
+unfolding structureRules tooDeep entryOrExitEdge pastHeader entersPastHeader someEdge inside
 nesting-checked t r N e = record { replied = N .replied ∙ e; sets = N .sets }
 
--- ---- for who goes on
+-- ---- for the checks that follow
 
--- what the structure check refuses, every list of rules refuses that begins with 201 to 207
+-- what the structure check refuses is refused by every list of rules that begins with 201 to 207
 pub refusal-stands : {A : Type 0} (t : Routine) (r : Structured) → StructureChecked t r → (f : StructureFault) → r .answer ≡ Broken f
     → (qs : List Rule) (passed : Reply A) → refusal f ≡ check (structureRules t ++ qs) passed
 refusal-stands t r C f e qs passed = go f (sym (ap structureReply e) ∙ C .replied)
@@ -112,6 +110,9 @@ refusal-stands t r C f e qs passed = go f (sym (ap structureReply e) ∙ C .repl
     go (EntryOrExit u) q = stands 206 u q
     go (PastHeader u) q = stands 207 u q
 
--- where its answer is Sound, 201 to 207 hold
+-- where its answer is Sound, 201 to 207 hold, and the sets are those of the loops around each loop
 pub sound-holds : (t : Routine) (r : Structured) → StructureChecked t r → r .answer ≡ Sound → AllHold (structureRules t)
 sound-holds t r C e = passes (structureRules t) (accepted tt) tt (sym (C .replied) ∙ ap structureReply e) .0
+
+pub sound-sets : (t : Routine) (r : Structured) → StructureChecked t r → r .answer ≡ Sound → r .around ≡ setsAround (t .parents)
+sound-sets t r C e = C .sets ∙ ap (λ (a : Structure). setsBeside a (t .parents)) e

@@ -10,27 +10,43 @@ use native.Mathlib.Omega.{arith}
 use lib.Dec.{eqb, ltb}
 use lib.ListN.{length, getD}
 use borrow.Author.Tests.{eqb-true, eq-eqb, ne-eqb}
+use Rattle.limits.specs.Limits.{mostLoops, mostDepth}
 use Rattle.lists.specs.Search.{anyBelow, countBelow, firstBelow}
 use Rattle.lists.proofs.Tests.{both}
 use Rattle.lists.proofs.Search.{any-none, none-of, any-at, first-ext, count-ext, count-beyond, count-none, none-counted, count-remove}
 use Rattle.wcet.specs.Table.{Routine, blockCount, loopCount, loopOf, header, someEdge, around, inside}
-use Rattle.wcet.specs.Rules.{tooDeep, enters, entersPastHeader, isHeader}
+use Rattle.wcet.specs.Rules.{tooDeep, enters, pastHeader, entersPastHeader, isHeader}
 use Rattle.wcet.proofs.Potential.{inside-own}
 use Rattle.wcet.proofs.Around.{around-above, entered-own}
-use Rattle.loopsets.specs.Sets.{member, setAt, SetsAround}
+use Rattle.loopsets.specs.Sets.{member, setAt, setsAround}
 use Rattle.loopsets.specs.declared.LoopSet.{LoopSet}
-use Rattle.nesting.specs.Columns.{Nestable, pastHeader, deepBySets, enteredBySets, pastBySets, anyPastBySets}
+use Rattle.loopsets.proofs.Laws.{member-around}
+use Rattle.nesting.specs.Columns.{Nestable, deepBySets, enteredBySets, pastBySets, anyPastBySets}
 use Rattle.nesting.proofs.Edges.{edges-ext}
 
--- what the code counts: the loops of the target's set that the source's has not
-pub entered-count : (sets loops : List ℕ) (u v : ℕ) (to from s : LoopSet) (n : ℕ) → to ≡ setAt sets (getD loops v 0) → from ≡ setAt sets (getD loops u 0)
-    → ((k : ℕ) → k < 64 → member s k ≡ (member to k && not (member from k))) → n ≡ countBelow 64 (member s) → n ≡ enteredBySets sets loops u v
-entered-count sets loops u v to from s n p q e size = size ∙ count-ext 64 (member s) _ (λ k b. e k b ∙ rw (p, q))
+-- an edge within one innermost loop enters none
+pub none-entered : (sets loops : List ℕ) (u v : ℕ) → getD loops u 0 ≡ getD loops v 0 → enteredBySets sets loops u v ≡ 0
+none-entered sets loops u v e = count-none mostLoops _ (λ l b. rw e (not-both (member (setAt sets (getD loops v 0)) l)))
+  where
+    not-both : (b : Bool) → (b && not b) ≡ false
+    not-both true = refl
+    not-both false = refl
 
-module _ (t : Routine) (sets : List ℕ) (N : Nestable t) (S : SetsAround (t .parents) sets) where
-  -- a count over all 64 numbers is one over the loops
-  few : (p : ℕ → Bool) → ((k : ℕ) → loopCount t ≤ k → p k ≡ false) → countBelow 64 p ≡ countBelow (loopCount t) p
-  few p none-above = count-beyond (loopCount t) 64 p (omega (arith, N .innermost .few, N .headers)) (λ k a b. none-above k a)
+-- what the code counts: the loops of the target's set that are not in the source's
+pub entered-count : (sets loops : List ℕ) (u v : ℕ) (to from s : LoopSet) (n : ℕ) → to ≡ setAt sets (getD loops v 0) → from ≡ setAt sets (getD loops u 0)
+    → ((k : ℕ) → k < mostLoops → member s k ≡ (member to k && not (member from k))) → n ≡ countBelow mostLoops (member s) → n ≡ enteredBySets sets loops u v
+entered-count sets loops u v to from s n p q e size = size ∙ count-ext mostLoops (member s) _ (λ k b. e k b ∙ rw (p, q))
+
+module _ (t : Routine) (sets : List ℕ) (N : Nestable t) (S : sets ≡ setsAround (t .parents)) where
+  few-loops : loopCount t ≤ mostLoops
+  few-loops = omega (arith, N .innermost .few, N .headers)
+
+  each : (l k : ℕ) → l < loopCount t → k < mostLoops → member (setAt sets l) k ≡ around (t .parents) (loopCount t) l k
+  each = member-around (t .parents) sets S few-loops
+
+  -- a count over all numbers below mostLoops is one over the loops
+  few : (p : ℕ → Bool) → ((k : ℕ) → loopCount t ≤ k → p k ≡ false) → countBelow mostLoops p ≡ countBelow (loopCount t) p
+  few p none-above = count-beyond (loopCount t) mostLoops p few-loops (λ k a b. none-above k a)
 
   above : (l k : ℕ) → l < loopCount t → loopCount t ≤ k → around (t .parents) (loopCount t) l k ≡ false
   above l k b h = around-above (t .parents) (N .parents .root) (N .parents .below) (loopCount t) l k (omega arith)
@@ -42,8 +58,8 @@ module _ (t : Routine) (sets : List ℕ) (N : Nestable t) (S : SetsAround (t .pa
   depth : (l : ℕ) → l < loopCount t → deepBySets sets l ≡ tooDeep t l
   unfolding tooDeep inside
   depth l b =
-      ap (ltb 16)
-      (count-ext 64 (member (setAt sets l)) (around (t .parents) (loopCount t) l) (λ k c. S .each l k b)
+      ap (ltb mostDepth)
+      (count-ext mostLoops (member (setAt sets l)) (around (t .parents) (loopCount t) l) (λ k c. each l k b c)
       ∙ few (around (t .parents) (loopCount t) l) (λ k h. above l k b h)
       ∙ sym (count-ext (loopCount t) (inside t (header t l)) (around (t .parents) (loopCount t) l) (λ k c. ap (λ (x : ℕ). around (t .parents) (loopCount t) x k) (N .own l b))))
 
@@ -55,11 +71,11 @@ module _ (t : Routine) (sets : List ℕ) (N : Nestable t) (S : SetsAround (t .pa
     own-below : loopOf t v < loopCount t
     own-below = loop-below v vb
 
-    -- how many loops the target's set has that the source's has not is how many are entered
+    -- the loops of the target's set that are not in the source's are the ones entered
     entered : enteredBySets sets (t .loops) u v ≡ countBelow (loopCount t) into
     unfolding inside
     entered =
-        count-ext 64 (λ k. member (setAt sets (loopOf t v)) k && not (member (setAt sets (loopOf t u)) k)) into (λ k b. rw (S .each (loopOf t v) k own-below, S .each (loopOf t u) k (loop-below u ub)))
+        count-ext mostLoops (λ k. member (setAt sets (loopOf t v)) k && not (member (setAt sets (loopOf t u)) k)) into (λ k b. rw (each (loopOf t v) k own-below b, each (loopOf t u) k (loop-below u ub) b))
         ∙ few into (λ k h. rw (above (loopOf t v) k own-below h))
 
     -- the target's innermost loop is entered if any is
@@ -151,7 +167,7 @@ module _ (t : Routine) (sets : List ℕ) (N : Nestable t) (S : SetsAround (t .pa
         go (no z) (no o) = rw (ne-eqb _ 0 z, ne-eqb _ 1 o) (sym (enters-more z o))
 
   any-past : (u : ℕ) → u < blockCount t → anyPastBySets sets (t .loops) (t .firsts) (t .seconds) (t .headers) u ≡ entersPastHeader t u
-  unfolding entersPastHeader pastHeader someEdge
+  unfolding entersPastHeader someEdge
   any-past u b = edges-ext t u (pastBySets sets (t .loops) (t .headers) u) (pastHeader t u) (λ h. past u _ b (N .linked .first-names u b h)) (λ h. past u _ b (N .linked .second-names u b h))
 
   -- ---- the places

@@ -1,4 +1,4 @@
--- What each rule leaves to the next: 201 fits the columns, 202 and 203 keep the ranges, 204 places the headers. Assumes nothing.
+-- What each rule ensures for the next: 201 the lengths of the columns, 202 and 203 the ranges, 204 the headers. Assumes nothing.
 use mathlib.Core.Path.{_≡_, refl, sym, _∙_}
 use mathlib.Core.Bool.{Bool, true, false, not, _&&_, _||_}
 use Prim.Native.Nat.{ℕ, zero, suc, _^_, _≤_, _<_}
@@ -8,6 +8,7 @@ use borrow.Author.Tests.{eqb-true, ltb-true, ltb-false, ne-eqb, not-false}
 use lib.IntN.{pos, negℤ}
 use lib.ListN.{getD, List·getD-eq-default}
 use lib.Signed.{_≤ℤ_, ltZ}
+use Rattle.limits.specs.Limits.{mostBlocks, mostLoops}
 use Rattle.lists.proofs.Tests.{or-false, and-true}
 use Rattle.integers.proofs.Laws.{ints}
 use Rattle.wcet.specs.Table.{Routine, blockCount, loopCount, missing, cost, loopOf, first, second, figure, parent, header, limit, multiplier}
@@ -28,11 +29,11 @@ module _ (t : Routine) where
   pub fits : sizesWrong t ≡ false → Sized t
   unfolding sizesWrong
   fits e =
-      let p = or-false (outOfRange 2 1024 (blockCount t) || outOfRange 1 64 (loopCount t) || not (blockColumnsEqual t)) (not (loopColumnsEqual t)) e in
-      let q = or-false (outOfRange 2 1024 (blockCount t) || outOfRange 1 64 (loopCount t)) (not (blockColumnsEqual t)) (p .0) in
-      let r = or-false (outOfRange 2 1024 (blockCount t)) (outOfRange 1 64 (loopCount t)) (q .0) in
-      let n = in-range 2 1024 (blockCount t) (r .0) in
-      let m = in-range 1 64 (loopCount t) (r .1) in
+      let p = or-false (outOfRange 2 mostBlocks (blockCount t) || outOfRange 1 mostLoops (loopCount t) || not (blockColumnsEqual t)) (not (loopColumnsEqual t)) e in
+      let q = or-false (outOfRange 2 mostBlocks (blockCount t) || outOfRange 1 mostLoops (loopCount t)) (not (blockColumnsEqual t)) (p .0) in
+      let r = or-false (outOfRange 2 mostBlocks (blockCount t)) (outOfRange 1 mostLoops (loopCount t)) (q .0) in
+      let n = in-range 2 mostBlocks (blockCount t) (r .0) in
+      let m = in-range 1 mostLoops (loopCount t) (r .1) in
       let b = and-true (sized (blockCount t) (t .loops) && sized (blockCount t) (t .firsts) && sized (blockCount t) (t .seconds)) (sized (blockCount t) (t .figures)) (not-false _ (q .1)) in
       let c = both₂ (sized (blockCount t) (t .loops)) (sized (blockCount t) (t .firsts)) (sized (blockCount t) (t .seconds)) (b .0) in
       let l = both₂ (sized (loopCount t) (t .headers)) (sized (loopCount t) (t .limits)) (sized (loopCount t) (t .multipliers)) (not-false _ (p .1)) in
@@ -50,7 +51,7 @@ module _ (t : Routine) where
         few-loops = m .1;
       }
 
-  -- of it, what the functions of 202 and 203 ask for
+  -- the part of it that the functions of 202 and 203 require
   pub loops-sized : Sized t → LoopsSized (loopColumns (t .costs) (t .parents) (t .headers) (t .limits) (t .multipliers))
   loops-sized S = record { headers = S .headers; limits = S .limits; multipliers = S .multipliers; some-loop = S .some-loop; few-loops = S .few-loops }
 
@@ -152,7 +153,7 @@ module _ (t : Routine) where
           go true e = loop l (ltb-true l (loopCount t) e) .parent-kept .1 z
           go false e = omega (arith, List·getD-eq-default (t .parents) 0 {n = l} (ltb-false l (loopCount t) e))
 
-  -- of it, what the functions of 204 to 208 ask for
+  -- the parts of it that the functions of 204 to 208 require
   pub headers-named : Ranged t → HeadersNamed (t .loops) (t .headers)
   headers-named R = record {
     few = omega (arith, R .sized .headers, R .sized .few-loops);
@@ -185,7 +186,7 @@ module _ (t : Routine) where
     own = H .own;
   }
 
-  -- all of them, for who goes on from tables that keep 201 to 207
+  -- all of them, of tables that keep 201 to 207
   pub headed : AllHold (structureRules t) → Headed t
   unfolding structureRules
   headed h = heads (keeps (fits (h .0 0 (omega arith))) (h .1 .0) (h .1 .1 .0)) (h .1 .1 .1 .0)

@@ -1,11 +1,12 @@
 -- What the answers of the structure check say: the paper's number and place of each case.
 use Prim.Native.Nat.{ℕ}
 use mathlib.Core.Path.{_≡_}
+use mathlib.Core.List.{List}
 use mathlib.Core.Option.{Option, none, some}
 use lib.ListN.{drop}
 use Rattle.wcet.specs.Table.{Routine}
-use Rattle.wcet.specs.Rules.{Reply, accepted, refused, check, structureRules}
-use Rattle.loopsets.specs.Sets.{SetsAround}
+use Rattle.wcet.specs.Rules.{Reply, accepted, refused, Rule, check, structureRules}
+use Rattle.loopsets.specs.Sets.{setsAround, noSets}
 use Rattle.nesting.specs.declared.Place.{Place}
 use Rattle.nesting.specs.declared.Place.the-variants.{At, Nowhere}
 use Rattle.nesting.specs.declared.StructureFault.{StructureFault}
@@ -33,12 +34,20 @@ abbrev pub structureReply : Structure → Reply Unit
 structureReply Sound = accepted tt
 structureReply (Broken f) = refusal f
 
--- what the structure check ensures: its answer is the rules' 201 to 207, and where they hold, its sets are those of the loops around each loop
-pub record StructureChecked (t : Routine) (r : Structured) : Type 0 where
-  pub replied : structureReply (r .answer) ≡ check (structureRules t) (accepted tt)
-  pub sets : r .answer ≡ Sound → SetsAround (t .parents) (r .around)
+-- the sets beside the answer: those of the loops around each loop where the rules hold, empty ones beside a refusal
+abbrev pub setsBeside : Structure → (parents : List ℕ) → List ℕ
+setsBeside Sound parents = setsAround parents
+setsBeside (Broken f) parents = noSets
+
+-- a check of these rules: its answer is theirs, and the sets are the ones beside that answer
+pub record RulesChecked (rules : List Rule) (parents : List ℕ) (r : Structured) : Type 0 where
+  pub replied : structureReply (r .answer) ≡ check rules (accepted tt)
+  pub sets : r .around ≡ setsBeside (r .answer) parents
+
+-- what the structure check ensures
+abbrev pub StructureChecked : Routine → Structured → Type 0
+StructureChecked t = RulesChecked (structureRules t) (t .parents)
 
 -- the same of 205 to 207, where 201 to 204 hold
-pub record NestingChecked (t : Routine) (r : Structured) : Type 0 where
-  pub replied : structureReply (r .answer) ≡ check (drop 4 (structureRules t)) (accepted tt)
-  pub sets : r .answer ≡ Sound → SetsAround (t .parents) (r .around)
+abbrev pub NestingChecked : Routine → Structured → Type 0
+NestingChecked t = RulesChecked (drop 4 (structureRules t)) (t .parents)

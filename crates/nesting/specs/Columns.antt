@@ -1,5 +1,5 @@
--- The routine of the nine columns that a caller lends, and for functions that are no public entry: the routine of some of its columns,
--- what one rule leaves to the next, and 205 and 207 as they are read off the loop sets.
+-- The routine of the nine columns that a caller lends. For functions that are no public entry: the routine of some of its columns, what each
+-- rule ensures for the next, and 205 and 207 as they are read off the loop sets.
 use Prim.Native.Nat.{ℕ, _^_, _≤_, _<_}
 use mathlib.Core.Path.{_≡_}
 use mathlib.Core.Bool.{Bool, not, _&&_, _||_}
@@ -8,9 +8,10 @@ use lib.Dec.{eqb, ltb}
 use lib.IntN.{ℤ, pos, negℤ}
 use lib.ListN.{length, getD}
 use lib.Signed.{_≤ℤ_}
-use Rattle.lists.specs.Search.{anyBelow, countBelow}
+use Rattle.limits.specs.Limits.{mostBlocks, mostLoops, mostDepth}
+use Rattle.lists.specs.Search.{countBelow}
 use Rattle.wcet.specs.Table.{Routine, blockCount, loopCount, missing, cost, loopOf, first, second, figure, header, limit, multiplier, someEdge}
-use Rattle.wcet.specs.Rules.{outOfRange, blockColumnsEqual, loopColumnsEqual, enters}
+use Rattle.wcet.specs.Rules.{outOfRange, blockColumnsEqual, loopColumnsEqual}
 use Rattle.loopsets.specs.Sets.{member, setAt, Parents}
 
 -- the routine of nine columns, in the order in which every function takes them
@@ -27,8 +28,8 @@ routine costs loops firsts seconds figures parents headers limits multipliers = 
   multipliers = multipliers;
 }
 
--- The columns that a rule reads, the others left empty: of such a routine the rule says what it says of the whole one. Of the costs 202
--- and 206 read the number of blocks alone, of the parents 203 the number of loops.
+-- The columns that a rule reads; the others are empty. The rule says the same of this routine as of the whole one. 202 and 206 use the costs
+-- only for the number of blocks, and 203 uses the parents only for the number of loops.
 abbrev pub loopColumns : (costs parents headers limits multipliers : List ℕ) → Routine
 loopColumns costs parents headers limits multipliers = routine costs [] [] [] [] parents headers limits multipliers
 
@@ -46,26 +47,26 @@ nestingColumns costs loops firsts seconds parents headers = routine costs loops 
 
 -- 201, of either table
 abbrev pub blockSizesWrong : Routine → Bool
-blockSizesWrong t = outOfRange 2 1024 (blockCount t) || not (blockColumnsEqual t)
+blockSizesWrong t = outOfRange 2 mostBlocks (blockCount t) || not (blockColumnsEqual t)
 
 abbrev pub loopSizesWrong : Routine → Bool
-loopSizesWrong t = outOfRange 1 64 (loopCount t) || not (loopColumnsEqual t)
+loopSizesWrong t = outOfRange 1 mostLoops (loopCount t) || not (loopColumnsEqual t)
 
--- what 201 leaves: columns that fit each other, and counts within their limits
+-- what 201 ensures: columns of equal length, and counts within their limits
 pub record BlocksSized (t : Routine) : Type 0 where
   pub loops : length (t .loops) ≡ blockCount t
   pub firsts : length (t .firsts) ≡ blockCount t
   pub seconds : length (t .seconds) ≡ blockCount t
   pub figures : length (t .figures) ≡ blockCount t
   pub some-block : 0 < blockCount t
-  pub few-blocks : blockCount t ≤ 1024
+  pub few-blocks : blockCount t ≤ mostBlocks
 
 pub record LoopsSized (t : Routine) : Type 0 where
   pub headers : length (t .headers) ≡ loopCount t
   pub limits : length (t .limits) ≡ loopCount t
   pub multipliers : length (t .multipliers) ≡ loopCount t
   pub some-loop : 0 < loopCount t
-  pub few-loops : loopCount t ≤ 64
+  pub few-loops : loopCount t ≤ mostLoops
 
 pub record Sized (t : Routine) : Type 0 where
   pub loops : length (t .loops) ≡ blockCount t
@@ -77,18 +78,18 @@ pub record Sized (t : Routine) : Type 0 where
   pub multipliers : length (t .multipliers) ≡ loopCount t
   pub some-block : 0 < blockCount t
   pub some-loop : 0 < loopCount t
-  pub few-blocks : blockCount t ≤ 1024
-  pub few-loops : loopCount t ≤ 64
+  pub few-blocks : blockCount t ≤ mostBlocks
+  pub few-loops : loopCount t ≤ mostLoops
 
--- a successor that is present, and of which the test p holds
+-- the successor is present and passes the test p
 abbrev pub ofEdge : ℕ → (ℕ → Bool) → Bool
 ofEdge v p = not (eqb v missing) && p v
 
--- a successor that is one of n blocks where it is present
+-- the successor, where it is present, is one of n blocks
 abbrev pub Names : ℕ → ℕ → Type 0
 Names n v = (v ≡ missing → ⊥) → v < n
 
--- what 202 and 203 leave: every value in its range
+-- what 202 and 203 ensure: every value is in its range
 pub record Ranged (t : Routine) : Type 0 where
   pub sized : Sized t
   pub parents : Parents (t .parents)
@@ -103,30 +104,30 @@ pub record Ranged (t : Routine) : Type 0 where
   pub figure-least : (u : ℕ) → u < blockCount t → negℤ (pos (2 ^ 60)) ≤ℤ figure t u
   pub figure-most : (u : ℕ) → u < blockCount t → figure t u ≤ℤ pos (2 ^ 60)
 
--- and what 204 leaves: the header of each loop has that loop for its innermost
+-- and what 204 ensures: the innermost loop of each header is its own
 pub record Headed (t : Routine) : Type 0 where
   pub ranged : Ranged t
   pub own : (l : ℕ) → l < loopCount t → loopOf t (header t l) ≡ l
 
--- of these, for who reads some of the columns: each header is a block
+-- of these, for functions that read only some of the columns: each header is a block
 pub record HeadersNamed (loops headers : List ℕ) : Type 0 where
-  pub few : length headers ≤ 64
+  pub few : length headers ≤ mostLoops
   pub below : (l : ℕ) → l < length headers → getD headers l 0 < length loops
 
 -- each block's innermost loop is a loop
 pub record Innermost (loops headers : List ℕ) : Type 0 where
-  pub few : length headers ≤ 64
+  pub few : length headers ≤ mostLoops
   pub below : (u : ℕ) → u < length loops → getD loops u 0 < length headers
 
 -- each successor of n blocks that is present is a block
 pub record Linked (n : ℕ) (firsts seconds : List ℕ) : Type 0 where
-  pub few : n ≤ 1024
+  pub few : n ≤ mostBlocks
   pub first-size : length firsts ≡ n
   pub second-size : length seconds ≡ n
   pub first-names : (u : ℕ) → u < n → Names n (getD firsts u 0)
   pub second-names : (u : ℕ) → u < n → Names n (getD seconds u 0)
 
--- what 205 to 207 ask for
+-- what the checks of 205 to 207 require
 pub record Nestable (t : Routine) : Type 0 where
   pub some-block : 0 < blockCount t
   pub some-loop : 0 < loopCount t
@@ -137,17 +138,13 @@ pub record Nestable (t : Routine) : Type 0 where
   pub linked : Linked (blockCount t) (t .firsts) (t .seconds)
   pub own : (l : ℕ) → l < loopCount t → loopOf t (header t l) ≡ l
 
--- 207, of an edge from u to v
-unfoldable pub pastHeader : Routine → ℕ → ℕ → Bool
-pastHeader t u v = anyBelow (loopCount t) (λ l. enters t u v l && not (eqb (header t l) v))
-
--- 205, read off the sets: the set of loop l has more than 16 loops
+-- 205, read off the sets: the set of loop l has more than mostDepth loops
 abbrev pub deepBySets : List ℕ → ℕ → Bool
-deepBySets sets l = ltb 16 (countBelow 64 (member (setAt sets l)))
+deepBySets sets l = ltb mostDepth (countBelow mostLoops (member (setAt sets l)))
 
 -- 207, of an edge from u to v, read off the sets: it enters a loop, and not only its target's innermost one at its header
 abbrev pub enteredBySets : (sets loops : List ℕ) → ℕ → ℕ → ℕ
-enteredBySets sets loops u v = countBelow 64 (λ l. member (setAt sets (getD loops v 0)) l && not (member (setAt sets (getD loops u 0)) l))
+enteredBySets sets loops u v = countBelow mostLoops (λ l. member (setAt sets (getD loops v 0)) l && not (member (setAt sets (getD loops u 0)) l))
 
 unfoldable pub pastBySets : (sets loops headers : List ℕ) → ℕ → ℕ → Bool
 pastBySets sets loops headers u v =

@@ -1,5 +1,5 @@
-// Rules 201 to 207: whether two tables have the sizes, the ranges and the loop nesting that everything above leans on. One function for each
-// rule finds the lowest place that breaks it.
+// Rules 201 to 207: whether two tables have the sizes, the ranges and the loop nesting that the later checks rely on. For each rule a function
+// finds the lowest place that breaks it.
 ghost use mathlib.Core.Path.{_≡_};
 ghost use mathlib.Core.Bool.{not, _&&_, _||_};
 ghost use mathlib.Core.List.{[]};
@@ -8,11 +8,16 @@ ghost use lib.Dec.{eqb, ltb};
 ghost use lib.IntN.{pos, negℤ};
 ghost use lib.Signed.{ltZ};
 ghost use lib.ListN.{length};
+ghost use Rattle.limits.specs.Limits.{mostLoops};
 ghost use Rattle.lists.specs.Search.{if_then_else_, firstBelow};
 ghost use Rattle.wcet.specs.Rules.{outOfRange, loopWrong, blockWrong, headerElsewhere, entryOrExitEdge};
+ghost use Rattle.loopsets.specs.Sets.{noSets};
 ghost use Rattle.nesting.specs.Columns.{routine, loopColumns, blockColumns, headerColumns, edgeColumns, nestingColumns, blockSizesWrong, loopSizesWrong, BlocksSized, LoopsSized, HeadersNamed, Innermost, Linked, Nestable, Names, ofEdge, deepBySets, pastBySets, anyPastBySets};
 ghost use Rattle.nesting.specs.Answers.{placeOf, StructureChecked, NestingChecked};
 ghost use Rattle.nesting.specs.declared.Structure.the-variants.{Broken};
+use limits::MOST_BLOCKS;
+use limits::MOST_DEPTH;
+use limits::MOST_LOOPS;
 use loopsets::Sets;
 
 // The lowest place that breaks a rule, or none.
@@ -37,7 +42,7 @@ pub enum Structure {
     Broken(StructureFault),
 }
 
-// The answer, and beside it the sets of the loops around each loop, made once for whoever goes on.
+// The answer, and beside it the sets of the loops around each loop, made once for the checks that follow. Beside a refusal they are empty.
 pub struct Structured {
     pub answer: Structure,
     pub around: Sets,
@@ -64,7 +69,7 @@ fn block_sizes_wrong(
     ensures { λ r. ⌜ r ≡ blockSizesWrong (blockColumns (now (cost .entry)) (now (loops .entry)) (now (first .entry)) (now (second .entry)) (now (figure .entry)) []) ⌝ }
 {
     let n = cost.len();
-    if out_of_range(2, 1024, n) {
+    if out_of_range(2, MOST_BLOCKS, n) {
         return true;
     }
     if loops.len() != n {
@@ -83,7 +88,7 @@ fn loop_sizes_wrong(parent: &[u16], header: &[u16], limit: &[u32], multiplier: &
     ensures { λ r. ⌜ r ≡ loopSizesWrong (loopColumns [] (now (parent .entry)) (now (header .entry)) (now (limit .entry)) (now (multiplier .entry))) ⌝ }
 {
     let m = parent.len();
-    if out_of_range(1, 64, m) {
+    if out_of_range(1, MOST_LOOPS, m) {
         return true;
     }
     if header.len() != m {
@@ -97,7 +102,7 @@ fn loop_sizes_wrong(parent: &[u16], header: &[u16], limit: &[u32], multiplier: &
 
 // ---- 202
 
-// Whether loop 0 is something else than the whole routine, entered once.
+// Whether a value of loop 0 differs from that of the whole routine, entered once.
 fn root_wrong(parent: u16, header: u16, limit: u32, multiplier: u64) -> bool
     ensures { λ r. ⌜ r ≡ not (eqb parent 0 && eqb header 0 && eqb limit 1 && eqb multiplier 0) ⌝ }
 {
@@ -249,13 +254,13 @@ fn first_header_elsewhere(loops: &[u16], header: &[u16]) -> Place
 // ---- 205
 
 fn first_too_deep(around: &Sets, m: usize) -> Place
-    requires { ⌜ m ≤ 64 ⌝ }
+    requires { ⌜ m ≤ mostLoops ⌝ }
     ensures { λ r. ⌜ placeOf r ≡ firstBelow m (deepBySets (now (around .entry))) ⌝ }
 {
     let mut l = 0;
     while l < m {
         let set = loopsets::set_at(around, l);
-        if 16 < set.size() {
+        if MOST_DEPTH < set.size() {
             return Place::At(l);
         }
         l += 1;
@@ -299,8 +304,8 @@ fn first_entry_or_exit_edge(cost: &[u32], first: &[u16], second: &[u16]) -> Plac
 
 // ---- 207
 
-// Whether an edge from block u to v enters a loop elsewhere than at its header. It enters its target's innermost loop if it enters any, so
-// it may enter that one, at its header, and no second.
+// Whether an edge from block u to v enters a loop elsewhere than at its header. Within one innermost loop it enters none, and no set is
+// looked at. Else it enters its target's innermost loop if it enters any, so it may enter that one, at its header, and no other.
 fn past_header(around: &Sets, loops: &[u16], header: &[u16], u: usize, v: u16) -> bool
     requires { ⌜ Innermost (now loops) (now header) × (u < length (now loops)) × Names (length (now loops)) v ⌝ }
     ensures { λ r. ⌜ r ≡ ofEdge v (pastBySets (now (around .entry)) (now (loops .entry)) (now (header .entry)) u) ⌝ }
@@ -310,6 +315,9 @@ fn past_header(around: &Sets, loops: &[u16], header: &[u16], u: usize, v: u16) -
     }
     let from = loops[u] as usize;
     let to = loops[v as usize] as usize;
+    if from == to {
+        return false;
+    }
     let target = loopsets::set_at(around, to);
     let entered = target.without(loopsets::set_at(around, from)).size();
     if entered == 0 {
@@ -347,13 +355,13 @@ fn first_past_header(
 
 // ---- 201 to 207
 
-// A refusal has no sets beside it.
+// A refusal has empty sets beside it.
 fn broken(fault: StructureFault) -> Structured
-    ensures { λ r. ⌜ r .answer ≡ Broken fault ⌝ }
+    ensures { λ r. ⌜ (r .answer ≡ Broken fault) × (r .around ≡ noSets) ⌝ }
 {
     Structured {
         answer: Structure::Broken(fault),
-        around: [0u64; 64],
+        around: [0u64; MOST_LOOPS],
     }
 }
 

@@ -1,3 +1,4 @@
 -- What the proofs of several functions use.
+pub mod Digits
 pub mod Numbers
-pub mod Runs
+pub mod Numerals

@@ -1,27 +1,51 @@
--- What the functions answer on a part of a field, and at a position of the text, by the definitions of Number.
-use Prim.Native.Nat.{ℕ, _-_, _≤_}
-use mathlib.Core.Path.{_≡_}
-use mathlib.Core.Bool.{true, cond, _&&_}
+-- What the functions answer at a position of a text: the digits there, and what they say once their number is known.
+-- Assumes nothing: these are definitions.
+use Prim.Native.Nat.{ℕ, suc, _+_, _-_, _^_}
+use mathlib.Core.Bool.{cond}
 use mathlib.Core.List.{List, [], _∷_}
 use lib.Dec.{leb, eqb}
-use lib.ListN.{length, take, drop}
-use Rattle.numbers.specs.Number.{digits, decimal}
+use lib.ListN.{take}
+use Rattle.numbers.specs.Number.{digit, decimal, plus, minus}
 use Rattle.numbers.specs.declared.Value.{Value}
-use Rattle.numbers.specs.declared.Value.the-variants.{Number, Bad}
+use Rattle.numbers.specs.declared.Value.the-variants.{Number, Missing, Bad}
+use Rattle.numbers.specs.declared.SignedValue.{SignedValue}
+use Rattle.numbers.specs.declared.SignedValue.the-variants.{Missing as NoSigned}
 use Rattle.numbers.specs.declared.DigitRun.{DigitRun}
 
--- a field without its quote marks, where doubled marks stay doubled: a text with a quote mark in it is no number either way
-unfoldable pub inner : List ℕ → List ℕ
-inner [] = []
-inner (b ∷ s) = cond (eqb b 34) (take (length s - 1) s) (b ∷ s)
+-- how many digits stand at the start of s
+unfoldable pub digitCount : List ℕ → ℕ
+digitCount [] = 0
+digitCount (b ∷ s) = cond (digit b) (suc (digitCount s)) 0
 
--- a number of at most `limit` that s writes behind the digits of n
-abbrev pub gathered : ℕ → ℕ → List ℕ → Value
-gathered limit n s = cond (digits s && leb (decimal n s) limit) (Number (decimal n s)) Bad
+-- the number that the digits of s write after those of n, if it fits 64 bits
+abbrev pub wideAfter : ℕ → List ℕ → Value
+wideAfter n s = cond (leb (decimal n s) (2 ^ 64 - 1)) (Number (decimal n s)) Bad
 
--- a run of at most 19 digits from `at` on
-pub record RunAt (s : List ℕ) (at : ℕ) (r : DigitRun) : Type 0 where
-  pub from : at ≤ r .end
-  pub short : r .end - at ≤ 19
-  pub digit : digits (take (r .end - at) (drop at s)) ≡ true
-  pub value : decimal 0 (take (r .end - at) (drop at s)) ≡ r .value
+abbrev pub wideNumber : List ℕ → Value
+wideNumber s = wideAfter 0 s
+
+-- the digits at `at`, where s is the rest of the text from `at` on
+abbrev pub runAt : ℕ → List ℕ → DigitRun
+runAt at s = record { value = wideNumber (take (digitCount s) s); end = at + digitCount s }
+
+-- whether a minus sign stands at the start of s, as a count of bytes
+unfoldable pub signCount : List ℕ → ℕ
+signCount [] = 0
+signCount (b ∷ s) = cond (eqb b 45) 1 0
+
+-- a value held to a width that ends at `greatest`
+abbrev pub atMost : ℕ → Value → Value
+atMost greatest (Number n) = cond (leb n greatest) (Number n) Bad
+atMost greatest Missing = Missing
+atMost greatest Bad = Bad
+
+-- What digits alone say, where v is the number that they write. Nothing at all is missing; and "no leading zero other than 0 alone".
+unfoldable pub naturalBy : ℕ → List ℕ → Value → Value
+naturalBy greatest [] v = Missing
+naturalBy greatest (b ∷ []) v = atMost greatest v
+naturalBy greatest (b ∷ c ∷ s) v = cond (eqb b 48) Bad (atMost greatest v)
+
+-- the same of digits that may follow a minus sign
+unfoldable pub integerBy : List ℕ → Value → SignedValue
+integerBy [] v = NoSigned
+integerBy (b ∷ s) v = cond (eqb b 45) (minus (naturalBy (2 ^ 63) s v)) (plus (naturalBy (2 ^ 63 - 1) (b ∷ s) v))

@@ -1,11 +1,12 @@
-// What a field of comma-separated text says as a number, and the digits that stand at a place of a text.
+// Decimal numbers as plain bytes: the digits that stand at a place of a text, and what a whole text says as a number.
 ghost use mathlib.Core.Path.{_≡_};
-ghost use Prim.Native.Nat.{_-_, _^_, _≤_};
-ghost use lib.ListN.{length};
-ghost use Rattle.numbers.specs.Number.{natural, integer, unsigned, signed};
-ghost use Rattle.numbers.specs.Digits.{inner, gathered, RunAt};
+ghost use Prim.Native.Nat.{_+_, _-_, _*_, _^_, _≤_};
+ghost use lib.Dec.{ltb};
+ghost use lib.ListN.{drop};
+ghost use Rattle.numbers.specs.Number.{natural, integer};
+ghost use Rattle.numbers.specs.Digits.{digitCount, runAt, signCount, atMost, naturalBy, integerBy};
 
-// What a field says: a number, nothing, or something else.
+// What a text says: a number, nothing, or something else.
 pub enum Value {
     Number(u64),
     Missing,
@@ -19,138 +20,125 @@ pub enum SignedValue {
     Bad,
 }
 
-// The digits at a place of the text: the number that they write, and where they end.
+// The digits at a place of a text: the number that they write, Bad where it does not fit 64 bits, and where they end.
 pub struct DigitRun {
-    pub value: u64,
+    pub value: Value,
     pub end: usize,
 }
 
-// The number of at most `limit` that at most 19 digits write: it fits 64 bits, whatever they are.
-fn few_digits(s: &[u8], limit: u64) -> Value
-    requires { ⌜ length (now s) ≤ 19 ⌝ }
-    ensures { λ r. ⌜ r ≡ gathered limit 0 (now (s .entry)) ⌝ }
+// Where the digits that start at `at` end.
+fn digits_end(text: &[u8], at: usize) -> usize
+    ensures { λ r. ⌜ r ≡ at + digitCount (drop at (now (text .entry))) ⌝ }
 {
-    let mut n: u64 = 0;
-    let mut i = 0;
-    while i < s.len() {
-        let b = s[i];
+    let mut i = at;
+    while i < text.len() {
+        let b = text[i];
         if b < b'0' {
-            return Value::Bad;
+            return i;
         }
         if b > b'9' {
-            return Value::Bad;
+            return i;
         }
-        n = n * 10 + (b - b'0') as u64;
         i += 1;
     }
-    if n <= limit {
-        Value::Number(n)
-    } else {
-        Value::Bad
-    }
+    i
 }
 
-// The same of any count of digits, with the overflow tested before each digit.
-fn many_digits(s: &[u8], limit: u64) -> Value
-    ensures { λ r. ⌜ r ≡ gathered limit 0 (now (s .entry)) ⌝ }
+// Whether the digit d after those of n leads past 64 bits. The usual case, at most 18 digits before it, is decided by one test.
+fn overflows(n: u64, d: u64) -> bool
+    requires { ⌜ d ≤ 9 ⌝ }
+    ensures { λ r. ⌜ r ≡ ltb (2 ^ 64 - 1) (n * 10 + d) ⌝ }
+{
+    if n < 1844674407370955161 {
+        return false;
+    }
+    if n > 1844674407370955161 {
+        return true;
+    }
+    d > 5
+}
+
+// The digits that stand at `at`, with the overflow tested before each digit.
+pub fn digit_run(text: &[u8], at: usize) -> DigitRun
+    ensures { λ r. ⌜ r ≡ runAt at (drop at (now (text .entry))) ⌝ }
 {
     let mut n: u64 = 0;
-    let mut i = 0;
-    while i < s.len() {
-        let b = s[i];
+    let mut i = at;
+    while i < text.len() {
+        let b = text[i];
         if b < b'0' {
-            return Value::Bad;
+            let value = Value::Number(n);
+            return DigitRun { value, end: i };
         }
         if b > b'9' {
-            return Value::Bad;
+            let value = Value::Number(n);
+            return DigitRun { value, end: i };
         }
-        if n > limit / 10 {
-            return Value::Bad;
-        }
-        let d = (b - b'0') as u64;
-        if d > limit - n * 10 {
-            return Value::Bad;
+        let d = b as u64 - 48;
+        if overflows(n, d) {
+            let value = Value::Bad;
+            let end = digits_end(text, i);
+            return DigitRun { value, end };
         }
         n = n * 10 + d;
         i += 1;
     }
-    Value::Number(n)
+    let value = Value::Number(n);
+    DigitRun { value, end: i }
 }
 
-// The number of at most `limit` that s writes.
-fn natural_of(s: &[u8], limit: u64) -> Value
-    ensures { λ r. ⌜ r ≡ natural limit (now (s .entry)) ⌝ }
+// Where the digits of a number at `at` start: after a minus sign, if one stands there.
+pub fn digits_start(text: &[u8], at: usize) -> usize
+    ensures { λ r. ⌜ r ≡ at + signCount (drop at (now (text .entry))) ⌝ }
 {
-    if s.len() == 0 {
+    if at >= text.len() {
+        return at;
+    }
+    if text[at] == b'-' { at + 1 } else { at }
+}
+
+// A value held to the width that ends at `greatest`.
+fn at_most(value: Value, greatest: u64) -> Value
+    ensures { λ r. ⌜ r ≡ atMost greatest value ⌝ }
+{
+    match value {
+        Value::Number(n) => {
+            if n <= greatest {
+                Value::Number(n)
+            } else {
+                Value::Bad
+            }
+        }
+        Value::Missing => Value::Missing,
+        Value::Bad => Value::Bad,
+    }
+}
+
+// What the digits `written` say, whose number is `value`.
+pub fn natural_by(written: &[u8], value: Value, greatest: u64) -> Value
+    ensures { λ r. ⌜ r ≡ naturalBy greatest (now (written .entry)) value ⌝ }
+{
+    if written.len() == 0 {
         return Value::Missing;
     }
-    if s[0] == b'0' {
-        if s.len() == 1 {
-            return Value::Number(0);
-        }
-        return Value::Bad;
+    if written[0] != b'0' {
+        return at_most(value, greatest);
     }
-    if s.len() <= 19 {
-        few_digits(s, limit)
-    } else {
-        many_digits(s, limit)
+    if written.len() == 1 {
+        return at_most(value, greatest);
     }
+    Value::Bad
 }
 
-// A field without its quote marks, as a part of the text. Doubled marks stay as they are.
-fn inner_part(w: &[u8]) -> &[u8]
-    ensures { λ r. ⌜ now r ≡ inner (now (w .entry)) ⌝ }
+// What the digits `written` say, with a minus sign allowed, where `value` is the number that the digits write.
+pub fn integer_by(written: &[u8], value: Value) -> SignedValue
+    ensures { λ r. ⌜ r ≡ integerBy (now (written .entry)) value ⌝ }
 {
-    if w.len() == 0 {
-        return w;
-    }
-    if w[0] != b'"' {
-        return w;
-    }
-    if w.len() == 1 {
-        return &w[..0];
-    }
-    let last = w.len() - 1;
-    &w[1..last]
-}
-
-// What a field says, up to 65,535.
-pub fn u16_of(w: &[u8]) -> Value
-    ensures { λ r. ⌜ r ≡ unsigned 65535 (now (w .entry)) ⌝ }
-{
-    natural_of(inner_part(w), 65535)
-}
-
-// What a successor's field says, up to 65,534.
-pub fn successor_of(w: &[u8]) -> Value
-    ensures { λ r. ⌜ r ≡ unsigned 65534 (now (w .entry)) ⌝ }
-{
-    natural_of(inner_part(w), 65534)
-}
-
-// What a field says, up to 2^32 - 1.
-pub fn u32_of(w: &[u8]) -> Value
-    ensures { λ r. ⌜ r ≡ unsigned (2 ^ 32 - 1) (now (w .entry)) ⌝ }
-{
-    natural_of(inner_part(w), 4294967295)
-}
-
-// What a field says, up to 2^64 - 1.
-pub fn u64_of(w: &[u8]) -> Value
-    ensures { λ r. ⌜ r ≡ unsigned (2 ^ 64 - 1) (now (w .entry)) ⌝ }
-{
-    natural_of(inner_part(w), 18446744073709551615)
-}
-
-// What the text of a field says, with a minus sign allowed.
-fn integer_of(s: &[u8]) -> SignedValue
-    ensures { λ r. ⌜ r ≡ integer (now (s .entry)) ⌝ }
-{
-    if s.len() == 0 {
+    if written.len() == 0 {
         return SignedValue::Missing;
     }
-    if s[0] == b'-' {
-        let Value::Number(n) = natural_of(&s[1..], 9223372036854775808) else {
+    if written[0] == b'-' {
+        let Value::Number(n) = natural_by(&written[1..], value, 9223372036854775808) else {
             return SignedValue::Bad;
         };
         if n == 0 {
@@ -159,47 +147,34 @@ fn integer_of(s: &[u8]) -> SignedValue
         let m = (n - 1) as i64;
         return SignedValue::Number(-1 - m);
     }
-    match natural_of(s, 9223372036854775807) {
+    match natural_by(written, value, 9223372036854775807) {
         Value::Number(n) => SignedValue::Number(n as i64),
         Value::Missing => SignedValue::Missing,
         Value::Bad => SignedValue::Bad,
     }
 }
 
-// What a field says, from -2^63 to 2^63 - 1.
-pub fn i64_of(w: &[u8]) -> SignedValue
-    ensures { λ r. ⌜ r ≡ signed (now (w .entry)) ⌝ }
+// What s says as a number of at most `greatest`.
+pub fn natural_of(s: &[u8], greatest: u64) -> Value
+    ensures { λ r. ⌜ r ≡ natural greatest (now (s .entry)) ⌝ }
 {
-    integer_of(inner_part(w))
+    let run = digit_run(s, 0);
+    let value = run.value;
+    if run.end < s.len() {
+        return Value::Bad;
+    }
+    natural_by(s, value, greatest)
 }
 
-// Where a run of digits from `at` on stops at the latest: at the end of the text, or behind 19 digits.
-fn run_limit(length: usize, at: usize) -> usize
-    ensures { λ r. ⌜ (r ≤ length) × (r - at ≤ 19) ⌝ }
+// What s says as a number from -2^63 to 2^63 - 1.
+pub fn integer_of(s: &[u8]) -> SignedValue
+    ensures { λ r. ⌜ r ≡ integer (now (s .entry)) ⌝ }
 {
-    if at >= length {
-        return length;
+    let from = digits_start(s, 0);
+    let run = digit_run(s, from);
+    let value = run.value;
+    if run.end < s.len() {
+        return SignedValue::Bad;
     }
-    if length - at <= 19 { length } else { at + 19 }
-}
-
-// The digits that stand at `at`: no more than 19, so that their number fits.
-pub fn digit_run(text: &[u8], at: usize) -> DigitRun
-    ensures { λ r. ⌜ RunAt (now (text .entry)) at r ⌝ }
-{
-    let limit = run_limit(text.len(), at);
-    let mut n: u64 = 0;
-    let mut i = at;
-    while i < limit {
-        let b = text[i];
-        if b < b'0' {
-            return DigitRun { value: n, end: i };
-        }
-        if b > b'9' {
-            return DigitRun { value: n, end: i };
-        }
-        n = n * 10 + (b as u64 - 48);
-        i += 1;
-    }
-    DigitRun { value: n, end: i }
+    integer_by(s, value)
 }

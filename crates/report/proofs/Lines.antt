@@ -13,7 +13,7 @@ use mir.Val.{Fits, SFits}
 use lib.ListN.{length, length-append, getD, take, set}
 use lib.Seq.{length-take-le, take-all, take-suc, take-suc-set}
 use Rattle.integers.proofs.Laws.{ints, diff}
-use Rattle.csv.specs.Write.{numeralIn, numeralOf}
+use Rattle.numbers.specs.Number.{numeralIn, numeralOf}
 use Rattle.report.specs.Line.{stageWord, integerOf, lineOf, textOf, lineRoom, Room, Wrote, Ready}
 use Rattle.report.specs.declared.Stage.{Stage}
 use Rattle.report.specs.declared.Stage.the-variants.{Setting, Blocks, Loops, Table}

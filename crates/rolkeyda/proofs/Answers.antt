@@ -12,7 +12,7 @@ use Rattle.integers.proofs.Laws.{ints}
 use Rattle.wcet.specs.Table.{Routine}
 use Rattle.wcet.specs.Rules.{Reply as Answer, accepted, refused, tableReply}
 use Rattle.wcet.specs.Walk.{Walked, walked, walkReply}
-use Rattle.wcet.specs.Claim.{WcetBound, Checked}
+use Rattle.wcet.specs.Claim.{WcetBound, Checked, WalkChecked}
 use Rattle.wcet.proofs.Walks.{walks-exactly}
 use Rattle.nesting.specs.Answers.{refusal}
 use Rattle.nesting.specs.declared.StructureFault.{StructureFault}
@@ -20,7 +20,7 @@ use Rattle.nesting.specs.declared.StructureFault.the-variants.{Sizes, Loop, Blo
 use Rattle.certificate.specs.Answers.{tableMeaning}
 use Rattle.certificate.specs.declared.TableReply.{TableReply}
 use Rattle.certificate.specs.declared.TableReply.the-variants as table
-use Rattle.walk.specs.Reply.{meaning, WalkAnswered}
+use Rattle.walk.specs.Reply.{meaning}
 use Rattle.walk.specs.declared.WalkReply.{WalkReply}
 use Rattle.walk.specs.declared.WalkReply.the-variants as walk
 use Rattle.tables.specs.Columns.{BlockColumns, LoopColumns, shortestBlock, shortestLoop, BlocksRead, LoopsRead}
@@ -148,7 +148,7 @@ record Acceptance (y : Answer Walked) : Type 0 where
   walked : Walked
   is : y ≡ accepted walked
 
-module _ (t : Routine) (w : List ℕ) (a : WalkReply) (C : WalkAnswered t w (meaning a)) where
+module _ (t : Routine) (w : List ℕ) (a : WalkReply) (C : WalkChecked t w (meaning a)) where
   walk-small : Small (ofWalk (meaning a))
   walk-small = go (meaning a) (C .replied)
     where
@@ -181,7 +181,7 @@ module _ (t : Routine) (w : List ℕ) (a : WalkReply) (C : WalkAnswered t w (mea
     replied = ap ofWalk (C .replied);
     accepts = λ h k. (
       λ z. finished (accepting a z (meaning a) refl) .run,
-      λ f. ap (λ (x : Answer Walked). ofWalk x .number) (C .replied ∙ walks-exactly t h w k (walked t w) .1 (f, refl)),
+      λ f. ap (λ (x : Answer Walked). ofWalk x .number) (C .replied ∙ walks-exactly t w h k (walked t w) .1 (f, refl)),
     );
     cost = λ z.
         let x : Acceptance (meaning a) = accepting a z (meaning a) refl in

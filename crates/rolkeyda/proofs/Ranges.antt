@@ -16,7 +16,8 @@ use Rattle.integers.proofs.Laws.{ints}
 use Rattle.wcet.specs.Table.{Routine, blockCount, exit, cost, edge}
 use Rattle.wcet.specs.Rules.{Reply as Answer, accepted, refused, Rule, refusedAt, check, sizesWrong, structureRules, tableRules, bound, tableReply}
 use Rattle.wcet.specs.Run.{State, start, next, passesLimit, runCost}
-use Rattle.wcet.specs.Walk.{Walked, walked, longestWalk, lengthRule, walkFrom, walkBlocks, walkReply}
+use Rattle.limits.specs.Limits.{longestWalk}
+use Rattle.wcet.specs.Walk.{Walked, walked, lengthRule, walkFrom, walkBlocks, walkReply}
 use Rattle.wcet.specs.Claim.{AllHold, FinishedRun}
 use Rattle.wcet.proofs.Replies.{decides, hands-on, all-append, passes}
 use Rattle.wcet.proofs.Walks.{walks-exactly}
@@ -69,7 +70,7 @@ sized-within {A} t m rs passed n p W rest e = go (sizesWrong t) refl
 
     go : (b : Bool) → sizesWrong t ≡ b → p ≤ m
     go true s =
-        let at-0 : _≡_ {A = Answer A} (refused 201 0) (refused n p) = sym (decides sizes rs passed 0 (record { below = omega arith; passes = s; first = λ j h. absurd (omega arith) })) ∙ e in
+        let at-0 : _≡_ {A = Answer A} (refused 201 0) (refused n p) = sym (decides sizes rs passed 0 (record { below = omega arith; passes = s; lower = λ j h. absurd (omega arith) })) ∙ e in
         let there : 0 ≡ p = cc in
         omega arith
     go false s = within m rs passed n p (W (fits t s)) rest (sym (hands-on sizes rs passed (λ q h. s)) ∙ e)
@@ -162,7 +163,7 @@ unfolding walkReply
 walk-finished t w x e =
     let h = all-append (structureRules t) (lengthRule w ∷ []) (passes (structureRules t ++ lengthRule w ∷ []) _ x e .0) in
     let few : length w ≤ longestWalk = length-kept w (h .1) in
-    let q : FinishedRun t w × (walked t w ≡ x) = walks-exactly t (h .0) w few x .0 e in
+    let q : FinishedRun t w × (walked t w ≡ x) = walks-exactly t w (h .0) few x .0 e in
     let total : runCost t w ≡ x .total = ap (λ (y : Walked). y .total) (q .1) in
     record { run = q .0; same = sym (q .1); most = omega (arith, run-most t (headed t (h .0) .ranged) w) }
 

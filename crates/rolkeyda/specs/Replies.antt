@@ -10,7 +10,8 @@ use lib.Signed.{_<ℤ_}
 use Rattle.wcet.specs.Table.{Routine}
 use Rattle.wcet.specs.Rules.{Reply as Answer, accepted, refused, structureRules, tableReply}
 use Rattle.wcet.specs.Run.{runCost}
-use Rattle.wcet.specs.Walk.{Walked, longestWalk, walkReply}
+use Rattle.limits.specs.Limits.{longestWalk}
+use Rattle.wcet.specs.Walk.{Walked, walkReply}
 use Rattle.wcet.specs.Claim.{WcetBound, AllHold, FinishedRun}
 use Rattle.tables.specs.Columns.{BlockColumns, LoopColumns, BlocksRead, LoopsRead}
 use Rattle.tables.specs.declared.ReadReply.{ReadReply}

@@ -25,7 +25,7 @@ use Rattle.numbers.specs.declared.SignedValue.the-variants.{Number as Signed, M
 use Rattle.numbers.proofs.Value.{the-type}
 use Rattle.numbers.proofs.SignedValue as signed-enum
 use Rattle.cells.specs.Cell.{unsigned, signed}
-use Rattle.numbers.proofs.Numbers.{unsigned-fits, signed-fits}
+use Rattle.cells.proofs.Fields.{unsigned-fits, signed-fits}
 use Rattle.rows.specs.Row.{blockFields, loopFields, Verdict, taken, fault, needed, neededSigned, orMissing, turnOf, inTurn, blockCells, blockRow, loopCells, loopRow}
 use Rattle.rows.specs.Judge.{fieldOf, judgeBlock, judgeLoop}
 use Rattle.rows.specs.Place.{blockVerdict, blockStep, loopVerdict, loopStep, AtMost, SignedFits, BlockFits, LoopFits}

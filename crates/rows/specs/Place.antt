@@ -81,15 +81,17 @@ abbrev pub CommaAt : List ℕ → ℕ → ℕ → CommaCell → Type 0
 CommaAt s at greatest (Field v e) = CommaField s at e greatest v
 CommaAt s at greatest Other = Unit {0}
 
-pub record LastField (s : List ℕ) (at next : ℕ) (v : SignedValue) : Type 0 where
+-- the last field of a record, which ends before `next`
+pub record FigureField (s : List ℕ) (at next : ℕ) (v : SignedValue) : Type 0 where
   pub ending : Ending
   pub size : ℕ
+  pub inside : next ≤ length s
   pub field : field (drop at s) ≡ ends ending size
   pub value : v ≡ signed (take size (drop at s))
   pub after : next ≡ at + size + width ending
 
 abbrev pub LastAt : List ℕ → ℕ → LastCell → Type 0
-LastAt s at (Last v next) = LastField s at next v
+LastAt s at (Last v next) = FigureField s at next v
 LastAt s at NoLast = Unit {0}
 
 -- what is known of a block whose fields are found so

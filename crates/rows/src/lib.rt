@@ -1,11 +1,13 @@
 // What one record says where a row of a table is due: the row, or the number of its lowest fault.
 ghost use mathlib.Core.Path.{_≡_};
-ghost use lib.ListN.{drop};
+ghost use Prim.Native.Nat.{_≤_};
+ghost use lib.ListN.{length, drop};
 ghost use Rattle.csv.specs.Grammar.{recordOf};
 ghost use Rattle.csv.specs.Place.{fieldAt};
 ghost use Rattle.cells.specs.Cell.{unsigned, signed};
 ghost use Rattle.rows.specs.Row.{orMissing, turnOf, blockCells, blockRow, loopCells, loopRow};
 ghost use Rattle.rows.specs.Place.{blockVerdict, blockStep, loopVerdict, loopStep, BlockFits, LoopFits, CommaAt, LastAt, ShortAt};
+use csv::Found;
 use numbers::SignedValue;
 use numbers::Value;
 
@@ -307,8 +309,75 @@ pub fn loop_at(text: &[u8], at: usize, k: usize, room: usize) -> LoopStep
 
 // ---- the short way: one scan finds and reads each field
 
+// A field of digits alone that a comma follows.
+fn comma_cell(text: &[u8], at: usize, greatest: u64) -> CommaCell
+    ensures { λ r. ⌜ CommaAt (now (text .entry)) at greatest r ⌝ }
+{
+    let cell = cells::number_cell(text, at, greatest);
+    let value = cell.value;
+    let found = cell.found;
+    let Found::Comma(end) = found else {
+        return CommaCell::Other;
+    };
+    CommaCell::Field(value, end)
+}
+
+// The last field of a record, where it is digits alone, or a minus sign and digits.
+fn last_cell(text: &[u8], at: usize) -> LastCell
+    requires { ⌜ at ≤ length (now text) ⌝ }
+    ensures { λ r. ⌜ LastAt (now (text .entry)) at r ⌝ }
+{
+    let cell = cells::integer_cell(text, at);
+    let value = cell.value;
+    let found = cell.found;
+    let Found::Ends(ending, end) = found else {
+        return LastCell::Other;
+    };
+    LastCell::Field(value, end + csv::width_of(ending))
+}
+
+// The cells of a block whose fields are found so.
+fn short_block(text: &[u8], at: usize) -> ShortBlock
+    ensures { λ r. ⌜ ShortAt (now (text .entry)) at r ⌝ }
+{
+    let CommaCell::Field(number, a) = comma_cell(text, at, 65535) else {
+        return ShortBlock::Other;
+    };
+    let CommaCell::Field(cost, b) = comma_cell(text, a + 1, 4294967295) else {
+        return ShortBlock::Other;
+    };
+    let CommaCell::Field(innermost, c) = comma_cell(text, b + 1, 65535) else {
+        return ShortBlock::Other;
+    };
+    let CommaCell::Field(first, d) = comma_cell(text, c + 1, 65534) else {
+        return ShortBlock::Other;
+    };
+    let CommaCell::Field(second, e) = comma_cell(text, d + 1, 65534) else {
+        return ShortBlock::Other;
+    };
+    let LastCell::Field(figure, next) = last_cell(text, e + 1) else {
+        return ShortBlock::Other;
+    };
+    let cells = BlockCells {
+        number,
+        cost,
+        innermost,
+        first,
+        second,
+        figure,
+    };
+    ShortBlock::Cells(cells, next)
+}
+
+// The record that starts at `at`, where block k is due and `room` blocks have a place.
 pub fn block_at(text: &[u8], at: usize, k: usize, room: usize) -> BlockStep
     ensures { λ r. ⌜ r ≡ blockStep room k at (recordOf (drop at (now (text .entry)))) ⌝ }
 {
-    scanned_block(text, at, k, room)
+    match short_block(text, at) {
+        ShortBlock::Cells(cells, next) => {
+            let verdict = block_row(cells, k, room);
+            BlockStep { verdict, next }
+        }
+        ShortBlock::Other => scanned_block(text, at, k, room),
+    }
 }

@@ -10,11 +10,11 @@ use lib.Dec.{eqb, ltb}
 use borrow.Author.Tests.{eq-eqb, ne-eqb, lt-ltb, le-ltb, eqb-false, ltb-true, ltb-false}
 use lib.ListN.{length, List·getD-eq-default, replicate}
 use denote.Enum.Declared.{tagOf}
+use Rattle.limits.specs.Limits.{mostBlocks, mostLoops, longestWalk}
 use Rattle.lists.specs.Search.{if_then_else_}
 use Rattle.wcet.specs.Table.{Routine, blockCount, loopCount, exit, missing, cost, loopOf, first, second, header, limit, someEdge, edge, inside}
 use Rattle.wcet.specs.Rules.{isHeader}
 use Rattle.wcet.specs.Run.{State, leaves, nextCount, next, passesLimit, start}
-use Rattle.wcet.specs.Walk.{longestWalk}
 use Rattle.wcet.proofs.Potential.{inside-own}
 use Rattle.wcet.proofs.Around.{header-of}
 use Rattle.wcet.proofs.Limits.{limits-kept}
@@ -24,10 +24,10 @@ use Rattle.loopsets.specs.declared.LoopSet.{LoopSet}
 use Rattle.walk.specs.declared.Run.{Run}
 use Rattle.walk.specs.declared.Answer.{Answer}
 use Rattle.walk.specs.declared.Answer.the-variants.{Moved, NoBlock, AfterExit, NoEdge, OverLimit}
-use Rattle.walk.specs.Step.{Outcome, refusing, stepped, edgeAnswer, Walkable, Standing, stateOf}
-use Rattle.counts.specs.Counts.{countIn, headerVisits, countAfter}
+use Rattle.walk.specs.Step.{Outcome, unmoved, stepped, edgeAnswer, Walkable, Standing, stateOf}
+use Rattle.counts.specs.Counts.{countWords, countIn, headerVisits, countAfter}
 use Rattle.walk.proofs.Answer.{the-type}
-use Rattle.walk.proofs.Facts.{nesting, not-entry}
+use Rattle.walk.proofs.Facts.{nesting, not-entry, member-inside}
 use Rattle.counts.proofs.Counts.{first-counts, past-loops}
 
 -- ---- the edge
@@ -51,7 +51,7 @@ abbrev pub visitsTo : Routine → State → ℕ → ℕ
 visitsTo t s v = headerVisits (s .count (loopOf t v)) (eqb (header t (loopOf t v)) v) (inside t (s .block) (loopOf t v))
 
 module _ (t : Routine) (sets : List ℕ) (S : Walkable t sets) (u v : ℕ) (block : u < blockCount t) (there : edge t u v ≡ true) where
-  -- another loop is not entered, and its header not visited: a loop by 204, a number that is none by 206
+  -- no other loop has v as its header: for a loop by 204, for a number that is no loop by 206
   other-header : (l : ℕ) → (l ≡ loopOf t v → ⊥) → header t l ≡ v → ⊥
   other-header l ne e = go (ltb l (loopCount t)) refl
     where
@@ -66,15 +66,12 @@ module _ (t : Routine) (sets : List ℕ) (S : Walkable t sets) (u v : ℕ) (bloc
   other-next l c ne = rw (ne-eqb (header t l) v (other-header l ne))
 
   module _ (here next left : LoopSet) (p : here ≡ setAt sets (loopOf t u)) (q : next ≡ setAt sets (loopOf t v))
-      (left-is : (k : ℕ) → k < 64 → member left k ≡ (member here k && not (member next k))) where
-    left-leaves : (l : ℕ) → l < 64 → member left l ≡ leaves t u v l
-    unfolding inside
-    left-leaves l h =
-        left-is l h
-        ∙ rw (p, q, S .sets-around .each (loopOf t u) l (nesting t sets S .innermost u block), S .sets-around .each (loopOf t v) l (nesting t sets S .innermost v (nesting t sets S .target u v block there)))
+      (left-is : (k : ℕ) → k < mostLoops → member left k ≡ (member here k && not (member next k))) where
+    left-leaves : (l : ℕ) → l < mostLoops → member left l ≡ leaves t u v l
+    left-leaves l h = left-is l h ∙ rw (p, q, member-inside t sets S u l block h, member-inside t sets S v l (nesting t sets S .target u v block there) h)
 
     -- the loop that the step ends in is not left
-    own-next : (c k : ℕ) → k ≡ headerVisits c (eqb (header t (loopOf t v)) v) (inside t u (loopOf t v)) → loopOf t v < 64
+    own-next : (c k : ℕ) → k ≡ headerVisits c (eqb (header t (loopOf t v)) v) (inside t u (loopOf t v)) → loopOf t v < mostLoops
         → countAfter left (loopOf t v) k (loopOf t v) c ≡ nextCount t u v (loopOf t v) c
     unfolding nextCount
     own-next c k e h =
@@ -88,7 +85,7 @@ module _ (t : Routine) (sets : List ℕ) (S : Walkable t sets) (u v : ℕ) (bloc
         go false b = refl
 
     -- a number that is no loop stands at 0 and stays there
-    past-next : (l : ℕ) → 64 ≤ l → 0 ≡ nextCount t u v l 0
+    past-next : (l : ℕ) → mostLoops ≤ l → 0 ≡ nextCount t u v l 0
     past-next l h =
         none (leaves t u v l)
         ∙ other-next l 0 (λ q. let into : loopOf t v < loopCount t = nesting t sets S .innermost v (nesting t sets S .target u v block there) in omega (arith, S .ranged .sized .few-loops))
@@ -98,23 +95,23 @@ module _ (t : Routine) (sets : List ℕ) (S : Walkable t sets) (u v : ℕ) (bloc
         none false = refl
 
     -- k are the visits to the header of the loop that the step ends in
-    pub counts-next : (words after : List ℕ) (k : ℕ) → length words ≡ 16 → length after ≡ 16
+    pub counts-next : (words after : List ℕ) (k : ℕ) → length words ≡ countWords → length after ≡ countWords
         → k ≡ headerVisits (countIn words (loopOf t v)) (eqb (header t (loopOf t v)) v) (inside t u (loopOf t v))
-        → ((j : ℕ) → j < 64 → countIn after j ≡ countAfter left (loopOf t v) k j (countIn words j))
+        → ((j : ℕ) → j < mostLoops → countIn after j ≡ countAfter left (loopOf t v) k j (countIn words j))
         → (j : ℕ) → countIn after j ≡ nextCount t u v j (countIn words j)
-    counts-next words after k size still e each j = go (ltb j 64) refl (ℕ-discrete j (loopOf t v))
+    counts-next words after k size still e each j = go (ltb j mostLoops) refl (ℕ-discrete j (loopOf t v))
       where
-        go : (b : Bool) → ltb j 64 ≡ b → Dec (j ≡ loopOf t v) → countIn after j ≡ nextCount t u v j (countIn words j)
-        go false p d = rw (past-loops after j still (ltb-false j 64 p), past-loops words j size (ltb-false j 64 p)) (past-next j (ltb-false j 64 p))
-        go true p (yes z) = each j (ltb-true j 64 p) ∙ rw z (own-next (countIn words (loopOf t v)) k e (omega (arith, ltb-true j 64 p)))
+        go : (b : Bool) → ltb j mostLoops ≡ b → Dec (j ≡ loopOf t v) → countIn after j ≡ nextCount t u v j (countIn words j)
+        go false p d = rw (past-loops after j still (ltb-false j mostLoops p), past-loops words j size (ltb-false j mostLoops p)) (past-next j (ltb-false j mostLoops p))
+        go true p (yes z) = each j (ltb-true j mostLoops p) ∙ rw z (own-next (countIn words (loopOf t v)) k e (omega (arith, ltb-true j mostLoops p)))
         go true p (no ne) =
-            each j (ltb-true j 64 p)
-            ∙ rw (ne-eqb (loopOf t v) j (λ q. ne (sym q)), and-false (not (eqb k 0)), left-leaves j (ltb-true j 64 p)) (other-next j (countIn words j) ne)
+            each j (ltb-true j mostLoops p)
+            ∙ rw (ne-eqb (loopOf t v) j (λ q. ne (sym q)), and-false (not (eqb k 0)), left-leaves j (ltb-true j mostLoops p)) (other-next j (countIn words j) ne)
 
 -- ---- the limit
 
 module _ (t : Routine) (sets : List ℕ) (S : Walkable t sets) (s : State) (v : ℕ) (block : s .block < blockCount t) (there : edge t (s .block) v ≡ true) where
-  -- 313 is asked of the loop that the step ends in alone, and only where its header is visited
+  -- 313 asks only about the loop that the step ends in, and only where its header is visited
   pub limit-next : passesLimit t s ≡ false → passesLimit t (next t s v) ≡ ltb (limit t (loopOf t v)) (visitsTo t s v)
   unfolding next nextCount
   limit-next kept =
@@ -134,8 +131,10 @@ module _ (t : Routine) (sets : List ℕ) (S : Walkable t sets) (s : State) (v : 
   -- the visits as the code finds them: by the set of the present block's loop
   pub visits-found : (here : LoopSet) (b : Bool) (k : ℕ) → here ≡ setAt sets (loopOf t (s .block)) → b ≡ member here (loopOf t v)
       → k ≡ headerVisits (s .count (loopOf t v)) (eqb (header t (loopOf t v)) v) b → k ≡ visitsTo t s v
-  unfolding inside
-  visits-found here b k p q e = e ∙ rw (q, p, S .sets-around .each (loopOf t (s .block)) (loopOf t v) (nesting t sets S .innermost (s .block) block))
+  visits-found here b k p q e = e ∙ rw (q, p, member-inside t sets S (s .block) (loopOf t v) block (omega (arith, into, S .ranged .sized .few-loops)))
+    where
+      into : loopOf t v < loopCount t
+      into = nesting t sets S .innermost v (nesting t sets S .target (s .block) v block there)
 
 -- ---- the five answers
 
@@ -145,7 +144,7 @@ pub record OnEdge (t : Routine) (u v : ℕ) : Type 0 where
   pub on : u ≡ exit t → ⊥
   pub there : edge t u v ≡ true
 
--- the variant of an answer is another than `Moved`, in the code's numbers
+-- the answer's variant, as the code numbers it, is not `Moved`
 abbrev pub Refuses : ℕ → Type 0
 Refuses n = (n ≡ 1) ⊎ ((n ≡ 2) ⊎ ((n ≡ 3) ⊎ (n ≡ 4)))
 
@@ -155,7 +154,7 @@ not-moved n (inr (inl e)) z = omega arith
 not-moved n (inr (inr (inl e))) z = omega arith
 not-moved n (inr (inr (inr e))) z = omega arith
 
-module _ (t : Routine) (few : blockCount t ≤ 1024) (s : State) (c v : ℕ) where
+module _ (t : Routine) (few : blockCount t ≤ mostBlocks) (s : State) (c v : ℕ) where
   pub on-edge : edgeAnswer (blockCount t) (first t (s .block)) (second t (s .block)) (s .block) v ≡ Moved → OnEdge t (s .block) v
   unfolding edgeAnswer
   on-edge = go (ltb v (blockCount t)) refl (eqb (s .block) (exit t)) refl (eqb (first t (s .block)) v || eqb (second t (s .block)) v) refl
@@ -171,16 +170,16 @@ module _ (t : Routine) (few : blockCount t ≤ 1024) (s : State) (c v : ℕ) whe
       go true p true q d r e = absurd (let z : _≡_ {A = ℕ} 0 1 = cc in omega arith)
       go true p false q false r e = absurd (let z : _≡_ {A = ℕ} 0 1 = cc in omega arith)
 
-  pub step-refused : (a : Answer) → a ≡ edgeAnswer (blockCount t) (first t (s .block)) (second t (s .block)) (s .block) v → Refuses (tagOf the-type a) → refusing s c a ≡ stepped t s c v
+  pub step-refused : (a : Answer) → a ≡ edgeAnswer (blockCount t) (first t (s .block)) (second t (s .block)) (s .block) v → Refuses (tagOf the-type a) → unmoved s c a ≡ stepped t s c v
   unfolding edgeAnswer stepped
   step-refused a e f = go (ltb v (blockCount t)) refl (eqb (s .block) (exit t)) (eqb (first t (s .block)) v || eqb (second t (s .block)) v) refl e
     where
       further : Outcome
-      further = if passesLimit t (next t s v) then refusing s c OverLimit else record { state = next t s v; spent = c + cost t v; answer = Moved }
+      further = if passesLimit t (next t s v) then unmoved s c OverLimit else record { state = next t s v; spent = c + cost t v; answer = Moved }
 
       go : (x : Bool) → ltb v (blockCount t) ≡ x → (b d : Bool) → (eqb (first t (s .block)) v || eqb (second t (s .block)) v) ≡ d
           → a ≡ (if not x then NoBlock else if b then AfterExit else if not d then NoEdge else Moved)
-          → refusing s c a ≡ (if not x then refusing s c NoBlock else if b then refusing s c AfterExit else if not (edge t (s .block) v) then refusing s c NoEdge else further)
+          → unmoved s c a ≡ (if not x then unmoved s c NoBlock else if b then unmoved s c AfterExit else if not (edge t (s .block) v) then unmoved s c NoEdge else further)
       go false p b d r e = rw e
       go true p true d r e = rw e
       go true p false false r e = rw (e, edge-is t (s .block) v (omega (arith, ltb-true v (blockCount t) p)), r)
@@ -192,8 +191,8 @@ pub record InStep (t : Routine) (r : Run) (v : ℕ) : Type 0 where
   pub loops : length (t .loops) ≡ blockCount t
   pub headers : length (t .headers) ≡ loopCount t
   pub limits : length (t .limits) ≡ loopCount t
-  pub few-blocks : blockCount t ≤ 1024
-  pub few-loops : loopCount t ≤ 64
+  pub few-blocks : blockCount t ≤ mostBlocks
+  pub few-loops : loopCount t ≤ mostLoops
   pub into : loopOf t v < loopCount t
   pub from : loopOf t (r .at) < loopCount t
   pub limit-most : limit t (loopOf t v) ≤ 65535
@@ -216,7 +215,7 @@ in-step t sets S r v stands E = record {
 }
 
 module _ (t : Routine) (s : State) (c v : ℕ) (E : OnEdge t (s .block) v) where
-  pub step-over-limit : passesLimit t (next t s v) ≡ true → refusing s c OverLimit ≡ stepped t s c v
+  pub step-over-limit : passesLimit t (next t s v) ≡ true → unmoved s c OverLimit ≡ stepped t s c v
   unfolding stepped
   step-over-limit e = rw (lt-ltb v (blockCount t) (E .block), ne-eqb (s .block) (exit t) (E .on), E .there, e)
 
@@ -225,6 +224,6 @@ module _ (t : Routine) (s : State) (c v : ℕ) (E : OnEdge t (s .block) v) where
   unfolding stepped next
   step-moved e a m counts each = rw (lt-ltb v (blockCount t) (E .block), ne-eqb (s .block) (exit t) (E .on), E .there, e, m) (ap (λ (f : ℕ → ℕ). record { state = record { block = v; count = f }; spent = c + cost t v; answer = Moved }) (fun-ext each))
 
-pub start-is : (c : ℕ) → stateOf (record { at = 0; cost = c; counts = 1 ∷ replicate 15 0 }) ≡ start
+pub start-is : (c : ℕ) → stateOf (record { at = 0; cost = c; counts = 1 ∷ replicate (countWords - 1) 0 }) ≡ start
 unfolding start
 start-is c = ap (λ (f : ℕ → ℕ). record { block = 0; count = f }) (fun-ext first-counts)

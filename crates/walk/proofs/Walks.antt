@@ -9,11 +9,12 @@ use lib.Dec.{eqb, ltb}
 use borrow.Author.Tests.{ltb-true}
 use lib.ListN.{length, getD, drop, drop-of-length-le}
 use lib.Seq.{drop-cons}
+use Rattle.limits.specs.Limits.{longestWalk}
 use Rattle.lists.specs.Search.{if_then_else_}
 use Rattle.wcet.specs.Table.{Routine, blockCount, exit, cost, edge}
 use Rattle.wcet.specs.Rules.{Reply, accepted, refused}
 use Rattle.wcet.specs.Run.{State, start, next, passesLimit, runCost}
-use Rattle.wcet.specs.Walk.{Walked, walked, longestWalk, walkFrom}
+use Rattle.wcet.specs.Walk.{Walked, walked, walkFrom}
 use Rattle.wcet.proofs.Walks.{start-kept}
 use Rattle.walk.specs.declared.Run.{Run}
 use Rattle.walk.specs.declared.Answer.{Answer}
@@ -21,7 +22,7 @@ use Rattle.walk.specs.declared.Answer.the-variants.{Moved, NoBlock, Afte
 use Rattle.walk.specs.declared.Stepped.{Stepped}
 use Rattle.walk.specs.declared.WalkReply.{WalkReply}
 use Rattle.walk.specs.declared.WalkReply.the-variants.{Accepted, Unfinished}
-use Rattle.walk.specs.Step.{stateOf, Outcome, outcome, refusing, stepped, Walkable, Standing}
+use Rattle.walk.specs.Step.{stateOf, Outcome, outcome, unmoved, stepped, Walkable, Standing}
 use Rattle.walk.specs.Reply.{meaning, endOf}
 use Rattle.walk.proofs.Facts.{nesting}
 
@@ -49,7 +50,7 @@ step-decides t s c v i w passed = go (not (ltb v (blockCount t))) (eqb (s .block
 
     go : (a b d e : Bool)
         → (if a then refused 302 i else if b then refused 311 i else if d then refused 312 i else if e then refused 313 i else rest)
-        ≡ decided ((if a then refusing s c NoBlock else if b then refusing s c AfterExit else if d then refusing s c NoEdge else if e then refusing s c OverLimit else going t s c v) .answer) i rest
+        ≡ decided ((if a then unmoved s c NoBlock else if b then unmoved s c AfterExit else if d then unmoved s c NoEdge else if e then unmoved s c OverLimit else going t s c v) .answer) i rest
     go true b d e = refl
     go false true d e = refl
     go false false true e = refl
@@ -69,9 +70,9 @@ moves t s c v e =
     record { block = m .0; within = m .1; on = m .2 }
   where
     go : (a : Bool) → ltb v (blockCount t) ≡ a → (b d f : Bool) → passesLimit t (next t s v) ≡ f
-        → (if not a then refusing s c NoBlock else if b then refusing s c AfterExit else if not d then refusing s c NoEdge else if f then refusing s c OverLimit else going t s c v) .answer ≡ Moved
+        → (if not a then unmoved s c NoBlock else if b then unmoved s c AfterExit else if not d then unmoved s c NoEdge else if f then unmoved s c OverLimit else going t s c v) .answer ≡ Moved
         → (v < blockCount t) × (passesLimit t (next t s v) ≡ false)
-        × ((if not a then refusing s c NoBlock else if b then refusing s c AfterExit else if not d then refusing s c NoEdge else if f then refusing s c OverLimit else going t s c v) ≡ going t s c v)
+        × ((if not a then unmoved s c NoBlock else if b then unmoved s c AfterExit else if not d then unmoved s c NoEdge else if f then unmoved s c OverLimit else going t s c v) ≡ going t s c v)
     go true isBlock false true false within e = (ltb-true v (blockCount t) isBlock, within, refl)
     go false p b d f x e = absurd (let z : _≡_ {A = ℕ} 0 1 = cc in omega arith)
     go true p true d f x e = absurd (let z : _≡_ {A = ℕ} 0 1 = cc in omega arith)
@@ -100,13 +101,13 @@ standing U h = record { at-block = U .at-block; within = U .within; room = omega
 module _ (t : Routine) (sets : List ℕ) (S : Walkable t sets) (w : List ℕ) where
   pub underway-first : (r : Run) → 0 < length w → getD w 0 0 ≡ 0 → stateOf r ≡ start → r .cost ≡ cost t 0 → Underway t w r 1
   unfolding start
-  underway-first r some first e c = record {
+  underway-first r some entry e c = record {
     some = omega arith;
     in-walk = some;
     at-block = omega (arith, S .ranged .sized .some-block, ap (λ (s : State). s .block) e);
     within = rw e (start-kept t (nesting t sets S));
     room = omega (arith, S .ranged .cost-most 0 (omega (arith, S .ranged .sized .some-block)));
-    spent = rw (c, ap (cost t) (sym first)) (sym (spent-next t w 0 some));
+    spent = rw (c, ap (cost t) (sym entry)) (sym (spent-next t w 0 some));
     same = rw e;
   }
 

@@ -1,17 +1,16 @@
--- The number, the place and the values that document 01 gives each reply to a walk, and what the reply says of the walk.
+-- The number, the place and the values that document 01 gives each reply to a walk.
 use Prim.Native.Nat.{ℕ, _-_, _≤_, _<_}
 use mathlib.Core.Bool.{not}
 use mathlib.Core.Path.{_≡_}
-use mathlib.Core.Logic.{_↔_}
 use mathlib.Core.List.{List}
 use lib.Dec.{eqb, ltb}
 use lib.ListN.{length, getD, drop}
+use Rattle.limits.specs.Limits.{longestWalk}
 use Rattle.lists.specs.Search.{if_then_else_}
 use Rattle.wcet.specs.Table.{Routine}
-use Rattle.wcet.specs.Rules.{Reply, accepted, refused, outOfRange, structureRules}
+use Rattle.wcet.specs.Rules.{Reply, accepted, refused, outOfRange}
 use Rattle.wcet.specs.Run.{start}
-use Rattle.wcet.specs.Walk.{Walked, walked, longestWalk, walkFrom, walkReply}
-use Rattle.wcet.specs.Claim.{AllHold, FinishedRun}
+use Rattle.wcet.specs.Walk.{Walked, walked, walkFrom}
 use Rattle.nesting.specs.Answers.{refusal}
 use Rattle.walk.specs.declared.Run.{Run}
 use Rattle.walk.specs.declared.Entry.{Entry}
@@ -20,7 +19,7 @@ use Rattle.walk.specs.declared.WalkReply.{WalkReply}
 use Rattle.walk.specs.declared.WalkReply.the-variants.{Accepted, Structure, Length, NoBlock, NotEntry, AfterExit, NoEdge, OverLimit, Unfinished}
 use Rattle.walk.specs.Step.{Walkable, Unread}
 
--- 201 to 207 are those of the structure check
+-- 201 to 207 are the refusals of the structure check
 abbrev pub meaning : WalkReply → Reply Walked
 meaning (Accepted cost steps) = accepted (record { total = cost; steps = steps })
 meaning (Structure fault) = refusal fault
@@ -44,20 +43,14 @@ entryAnswer n w =
     if not (eqb (getD w 0 0) 0) then entry.NotEntry else
     entry.Entered
 
--- what the loop over the blocks requires: the walk w is as long as a walk may be and starts at block 0
+-- what the loop over the blocks requires: the walk w is no longer than a walk may be and starts at block 0
 pub record Enters (t : Unread → Routine) (sets w : List ℕ) : Type 0 where
   pub unread : Unread
   pub walkable : Walkable (t unread) sets
   pub some : 0 < length w
   pub short : length w ≤ longestWalk
-  pub first : getD w 0 0 ≡ 0
+  pub entry : getD w 0 0 ≡ 0
 
--- what it ensures: with any columns that it does not read, its reply is that of the definition behind the first block
+-- what it ensures: with any columns that it does not read, its reply is that of the definition after the first block
 abbrev pub Follows : (Unread → Routine) → (sets w : List ℕ) → Reply Walked → Type 0
 Follows t sets w r = (x : Unread) → Walkable (t x) sets → r ≡ walkFrom (t x) start 1 (drop 1 w) (accepted (walked (t x) w))
-
--- Demand 2, of the reply r to the walk w over t: it is the one of the definition; and "A walk within the length limit, over tables that keep
--- those ranges and rules, is accepted exactly when it is a finished counted run, with its true cost".
-pub record WalkAnswered (t : Routine) (w : List ℕ) (r : Reply Walked) : Type 0 where
-  pub replied : r ≡ walkReply t w
-  pub accepts : AllHold (structureRules t) → length w ≤ longestWalk → (x : Walked) → (r ≡ accepted x) ↔ (FinishedRun t w × (walked t w ≡ x))

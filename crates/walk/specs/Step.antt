@@ -5,14 +5,14 @@ use mathlib.Core.Bool.{not, _||_, false}
 use mathlib.Core.List.{List}
 use lib.Dec.{eqb, ltb}
 use lib.IntN.{ℤ}
+use Rattle.limits.specs.Limits.{longestWalk}
 use Rattle.lists.specs.Search.{if_then_else_}
 use Rattle.wcet.specs.Table.{Routine, blockCount, exit, cost, edge}
 use Rattle.wcet.specs.Rules.{structureRules}
 use Rattle.wcet.specs.Run.{State, next, passesLimit}
-use Rattle.wcet.specs.Walk.{longestWalk}
 use Rattle.wcet.specs.Claim.{AllHold}
 use Rattle.nesting.specs.Columns.{routine, Ranged}
-use Rattle.loopsets.specs.Sets.{SetsAround}
+use Rattle.loopsets.specs.Sets.{setsAround}
 use Rattle.counts.specs.Counts.{countIn}
 use Rattle.walk.specs.declared.Run.{Run}
 use Rattle.walk.specs.declared.Answer.{Answer}
@@ -33,20 +33,20 @@ abbrev pub outcome : Stepped → Outcome
 outcome s = record { state = stateOf (s .run); spent = s .run .cost; answer = s .answer }
 
 -- a refused step leaves the state as it was
-abbrev pub refusing : State → ℕ → Answer → Outcome
-refusing s c a = record { state = s; spent = c; answer = a }
+abbrev pub unmoved : State → ℕ → Answer → Outcome
+unmoved s c a = record { state = s; spent = c; answer = a }
 
--- What block v makes of the state s, the run's cost being c: "at one index 302, 303, 311, 312, 313" (303 is asked of the first block only,
--- which is no step).
+-- What block v makes of the state s, where the run's cost is c: "at one index 302, 303, 311, 312, 313" (303 is about the first
+-- block, which is no step).
 unfoldable pub stepped : Routine → State → ℕ → ℕ → Outcome
 stepped t s c v =
-    if not (ltb v (blockCount t)) then refusing s c NoBlock else
-    if eqb (s .block) (exit t) then refusing s c AfterExit else
-    if not (edge t (s .block) v) then refusing s c NoEdge else
-    if passesLimit t (next t s v) then refusing s c OverLimit else
+    if not (ltb v (blockCount t)) then unmoved s c NoBlock else
+    if eqb (s .block) (exit t) then unmoved s c AfterExit else
+    if not (edge t (s .block) v) then unmoved s c NoEdge else
+    if passesLimit t (next t s v) then unmoved s c OverLimit else
     record { state = next t s v; spent = c + cost t v; answer = Moved }
 
--- ---- what a step is asked to do in turn
+-- ---- the first tests of a step
 
 -- 302, 311 and 312 of a step from u, with these two successors, to v, in a routine of n blocks
 unfoldable pub edgeAnswer : ℕ → ℕ → ℕ → ℕ → ℕ → Answer
@@ -58,11 +58,11 @@ edgeAnswer n first second u v =
 
 -- ---- what a step may rely on
 
--- the tables keep 201 to 207, with what 201 to 203 say of lengths and ranges by name, and `sets` has the loops around each loop
+-- the tables keep 201 to 207, with the lengths and ranges of 201 to 203 by name, and `sets` has the loops around each loop
 pub record Walkable (t : Routine) (sets : List ℕ) : Type 0 where
   pub rules : AllHold (structureRules t)
   pub ranged : Ranged t
-  pub sets-around : SetsAround (t .parents) sets
+  pub sets-around : sets ≡ setsAround (t .parents)
 
 -- the run stands at a block, within the limits, and has room for the cost of the longest walk
 pub record Standing (t : Routine) (r : Run) : Type 0 where
@@ -78,10 +78,10 @@ pub record Unread : Type 0 where
   pub multipliers : List ℕ
 
 -- the routine of the columns that a walk reads, whatever the others are
-abbrev pub reading : (costs loops firsts seconds headers limits : List ℕ) → Unread → Routine
-reading costs loops firsts seconds headers limits x = routine costs loops firsts seconds (x .figures) (x .parents) headers limits (x .multipliers)
+abbrev pub walkColumns : (costs loops firsts seconds headers limits : List ℕ) → Unread → Routine
+walkColumns costs loops firsts seconds headers limits x = routine costs loops firsts seconds (x .figures) (x .parents) headers limits (x .multipliers)
 
--- what a step requires: some such columns there are
+-- what a step requires: there are such columns
 pub record Stands (t : Unread → Routine) (sets : List ℕ) (r : Run) : Type 0 where
   pub unread : Unread
   pub walkable : Walkable (t unread) sets

@@ -1,21 +1,21 @@
 // A walk (a trace of blocks) through a routine: accepted exactly where it is a finished counted run, with its cost. A step is a few word
-// operations: of the 64 counts only those of the loops that are left, and of the loop that is stepped into, are touched.
+// operations: it touches only the counts of the loops that it leaves and of the loop that it ends in.
 ghost use mathlib.Core.Path.{_≡_};
-ghost use mathlib.Core.Bool.{not, _||_};
+ghost use mathlib.Core.Bool.{_||_};
 ghost use Prim.Native.Nat.{_<_};
 ghost use lib.Dec.{eqb};
 ghost use lib.ListN.{length, getD};
 ghost use Rattle.wcet.specs.Run.{start};
+ghost use Rattle.wcet.specs.Claim.{WalkChecked};
 ghost use Rattle.nesting.specs.Columns.{routine};
-ghost use Rattle.walk.specs.Step.{stateOf, edgeAnswer, reading, Stands, Steps};
-ghost use Rattle.walk.specs.Reply.{meaning, endOf, entryAnswer, Enters, Follows, WalkAnswered};
+ghost use Rattle.walk.specs.Step.{stateOf, edgeAnswer, walkColumns, Stands, Steps};
+ghost use Rattle.walk.specs.Reply.{meaning, endOf, entryAnswer, Enters, Follows};
+use counts::COUNT_WORDS;
 use counts::Counts;
+use limits::LONGEST_WALK;
 use loopsets::Sets;
 use nesting::Structure;
 use nesting::StructureFault;
-
-// The longest walk that is accepted, in blocks.
-const LONGEST_WALK: usize = 1048576;
 
 // The state of a run: the block it stands at, the cost of its blocks, and for each loop the visits to its header in the present stay.
 struct Run {
@@ -92,7 +92,7 @@ impl Run {
     fn start(cost: u32) -> Run
         ensures { λ r. ⌜ (stateOf r ≡ start) × (r .cost ≡ cost) ⌝ }
     {
-        let mut counts = [0u64; 16];
+        let mut counts = [0u64; COUNT_WORDS];
         counts[0] = 1;
         Run {
             at: 0,
@@ -115,7 +115,7 @@ impl Run {
         WalkReply::Accepted { cost, steps }
     }
 
-    // One block more. What it promises holds whatever the columns are that it does not take.
+    // One block more. The contract holds for any columns that it does not take.
     fn step(
         mut self,
         cost: &[u32],
@@ -127,8 +127,8 @@ impl Run {
         around: &Sets,
         v: u16,
     ) -> Stepped
-        requires { ⌜ Stands (reading (now cost) (now loops) (now first) (now second) (now header) (now limit)) (now around) self ⌝ }
-        ensures { λ r. ⌜ Steps (reading (now (cost .entry)) (now (loops .entry)) (now (first .entry)) (now (second .entry)) (now (header .entry)) (now (limit .entry))) (now (around .entry)) self v r ⌝ }
+        requires { ⌜ Stands (walkColumns (now cost) (now loops) (now first) (now second) (now header) (now limit)) (now around) self ⌝ }
+        ensures { λ r. ⌜ Steps (walkColumns (now (cost .entry)) (now (loops .entry)) (now (first .entry)) (now (second .entry)) (now (header .entry)) (now (limit .entry))) (now (around .entry)) self v r ⌝ }
     {
         let from = self.at as usize;
         let to = v as usize;
@@ -182,8 +182,8 @@ fn follow(
     around: &Sets,
     blocks: &[u16],
 ) -> WalkReply
-    requires { ⌜ Enters (reading (now cost) (now loops) (now first) (now second) (now header) (now limit)) (now around) (now blocks) ⌝ }
-    ensures { λ r. ⌜ Follows (reading (now (cost .entry)) (now (loops .entry)) (now (first .entry)) (now (second .entry)) (now (header .entry)) (now (limit .entry))) (now (around .entry)) (now (blocks .entry)) (meaning r) ⌝ }
+    requires { ⌜ Enters (walkColumns (now cost) (now loops) (now first) (now second) (now header) (now limit)) (now around) (now blocks) ⌝ }
+    ensures { λ r. ⌜ Follows (walkColumns (now (cost .entry)) (now (loops .entry)) (now (first .entry)) (now (second .entry)) (now (header .entry)) (now (limit .entry))) (now (around .entry)) (now (blocks .entry)) (meaning r) ⌝ }
 {
     let run = Run::start(cost[0]);
     let answer = Answer::Moved;
@@ -219,7 +219,7 @@ pub fn walk(
     multiplier: &[u64],
     blocks: &[u16],
 ) -> WalkReply
-    ensures { λ r. ⌜ WalkAnswered (routine (now (cost .entry)) (now (loops .entry)) (now (first .entry)) (now (second .entry)) (now (figure .entry)) (now (parent .entry)) (now (header .entry)) (now (limit .entry)) (now (multiplier .entry))) (now (blocks .entry)) (meaning r) ⌝ }
+    ensures { λ r. ⌜ WalkChecked (routine (now (cost .entry)) (now (loops .entry)) (now (first .entry)) (now (second .entry)) (now (figure .entry)) (now (parent .entry)) (now (header .entry)) (now (limit .entry)) (now (multiplier .entry))) (now (blocks .entry)) (meaning r) ⌝ }
 {
     let checked = nesting::check_structure(
         cost,

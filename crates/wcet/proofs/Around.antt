@@ -1,6 +1,6 @@
--- The loops around a loop: itself and the loops around its parent (`around-parent`), which builds the loop sets; none above it; and with a
--- loop the loops around that one. An edge that enters loops enters its target's innermost one (`enters-own`), and where it keeps 207 no
--- other (`enters-one`). Assumes nothing.
+-- The loops around a loop are itself and the loops around its parent (`around-parent`: so the loop sets are built). None of them is above it,
+-- and a loop around one of them is one of them. An edge that enters a loop enters its target's innermost one (`entered-own`), and where it
+-- keeps 207 no other (`enters-one`). Assumes nothing.
 use mathlib.Core.Path.{_≡_, refl, sym, _∙_, ap}
 use mathlib.Core.Bool.{Bool, true, false, not, _&&_, _||_, or-true}
 use mathlib.Core.List.{List}

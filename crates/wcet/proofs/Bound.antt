@@ -1,5 +1,5 @@
--- Demand 3: an accepted pair of tables bounds every counted run (`wcet-bound`), and so a checker whose reply is the rules' has demand 3
--- with it (`checked`). A negative bound says that no counted run is finished (`none-finished`). Assumes nothing.
+-- Demand 3: an accepted pair of tables bounds every counted run (`wcet-bound`), so demand 3 holds of a checker whose reply is that of
+-- the rules (`checked`). A negative bound says that no counted run is finished (`none-finished`). Assumes nothing.
 use mathlib.Core.Path.{_≡_, sym, _∙_, ap}
 use mathlib.Core.Bool.{true, not, _&&_, false≢true}
 use mathlib.Core.List.{List, [], _∷_}
@@ -17,7 +17,7 @@ use Rattle.integers.specs.Parts.{up, dn}
 use Rattle.integers.proofs.Laws.{ints, sum, diff, times, leZ-le}
 use Rattle.integers.proofs.Direction.{atMost}
 use Rattle.wcet.specs.Table.{Routine, blockCount, exit, cost, figure, limit, multiplier, edge}
-use Rattle.wcet.specs.Rules.{Reply, accepted, edgeHolds, inequalityBroken, inequalityRule, structureRules, tableRules, bound, tableReply}
+use Rattle.wcet.specs.Rules.{Reply, accepted, inequality, edgeHolds, inequalityBroken, inequalityRule, structureRules, tableRules, bound, tableReply}
 use Rattle.wcet.specs.Run.{path, run, State, start, next, after, passesLimit, keepsLimits, countedRun, runCost}
 use Rattle.wcet.specs.Claim.{AllHold, BoundedAt, WcetBound, Checked, FinishedRun, NegativeBound}
 use Rattle.wcet.proofs.Replies.{all-append, replies-exactly}
@@ -57,7 +57,7 @@ module _ (t : Routine) (F : Facts t) where
 
   sound : (s : State) (v : ℕ) → s .block < blockCount t → WithinLimits t s → edge t (s .block) v ≡ true
       → Sound t _≤ℤ_ (certificate t) s v (pos (stepCost t (s .block) v))
-  unfolding edgeHolds
+  unfolding inequality edgeHolds
   sound s v b W e = record {
     loop = innermost v (target (s .block) v b e);
     own = own;
@@ -81,7 +81,7 @@ module _ (t : Routine) (F : Facts t) where
       let q : keepsLimits t (next t s v) w ≡ true = and-true (not (passesLimit t s)) _ k .1 in
       (sound s v b (keeps-each t (v ∷ w) s k 0 (omega arith)) (p .0), all-sound w (next t s v) (target (s .block) v b (p .0)) (p .1) q)
 
-  -- the cost behind block 0 and the figure, along any list that a counted run can follow
+  -- the cost after block 0 plus the figure, along any list that a counted run can follow
   so-far : (w : List ℕ) → path t 0 w ≡ true → keepsLimits t start w ≡ true → (pos (runCost t w) +ℤ figure t (after t start w .block)) ≤ℤ figure t 0
   unfolding start
   so-far w h k =
@@ -127,7 +127,7 @@ wcet-bound t b e (v ∷ w) k h c =
     let z : v ≡ 0 = eqb-true v 0 (q .0) in
     rw z (from-entry t b (facts t (a .0)) (a .1) w k (omega arith) (rw z at (q .1)) (p .1))
 
--- a checker whose reply is the rules' has demand 3 with it
+-- demand 3 holds of a checker whose reply is that of the rules
 pub checked : (t : Routine) (r : Reply ℤ) → r ≡ tableReply t → Checked t r
 checked t r e = record { replied = e; bounded = λ b q. wcet-bound t b (sym e ∙ q) }
 

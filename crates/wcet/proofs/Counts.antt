@@ -1,6 +1,6 @@
--- The counts that the steps of a run keep are the visits to the headers in the stays under way, counted over the list; and a counted run is
--- a run of which no beginning ends in a stay with more visits than the loop's limit (`counts-exactly`). This reads "visits to its header ..
--- within one stay" without a step, for every pair of tables that keeps 201 to 207. Assumes nothing.
+-- The counts that the steps of a run keep are the visits to the headers in the present stays, counted over the list; and a run is counted
+-- exactly where at each of its blocks no present stay has more visits than the loop's limit (`counts-exactly`). So "visits to its header ..
+-- within one stay" is stated without steps, for every pair of tables that keeps 201 to 207. Assumes nothing.
 use mathlib.Core.Path.{_≡_, refl, sym, _∙_, ap}
 use mathlib.Core.Logic.{_↔_}
 use mathlib.Core.Bool.{Bool, true, false, not, _&&_, false≢true}

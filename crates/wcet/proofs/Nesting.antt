@@ -5,11 +5,11 @@ use Prim.Native.Nat.{ℕ, _≤_, _<_}
 use native.Mathlib.Omega.{arith}
 use lib.Dec.{eqb, ltb}
 use borrow.Author.Tests.{eqb-true, eqb-false, ltb-true, ltb-false, not-false, ne-eqb}
-use Rattle.lists.specs.Search.{anyBelow}
+use Rattle.limits.specs.Limits.{mostBlocks, mostLoops}
 use Rattle.lists.proofs.Tests.{or-false, and-true}
 use Rattle.lists.proofs.Search.{none-of}
 use Rattle.wcet.specs.Table.{Routine, blockCount, loopCount, exit, missing, cost, loopOf, first, second, parent, header, limit, multiplier, someEdge, edge, inside}
-use Rattle.wcet.specs.Rules.{outOfRange, sizesWrong, loopWrong, blockWrong, headerElsewhere, entryOrExitEdge, enters, entersPastHeader, structureRules}
+use Rattle.wcet.specs.Rules.{outOfRange, sizesWrong, loopWrong, blockWrong, headerElsewhere, entryOrExitEdge, pastHeader, entersPastHeader, structureRules}
 use Rattle.wcet.specs.Claim.{AllHold}
 
 -- a test that holds at no edge out of u fails at each
@@ -48,7 +48,7 @@ pub record Nested (t : Routine) : Type 0 where
   pub at-header : (u v l : ℕ) → u < blockCount t → edge t u v ≡ true → l < loopCount t → inside t v l ≡ true → inside t u l ≡ false → header t l ≡ v
 
 pub nested : (t : Routine) → AllHold (structureRules t) → Nested t
-unfolding structureRules sizesWrong loopWrong blockWrong headerElsewhere entryOrExitEdge entersPastHeader
+unfolding structureRules sizesWrong loopWrong blockWrong headerElsewhere entryOrExitEdge pastHeader entersPastHeader
 nested t h = record {
   two-blocks = blocks;
   some-loop = loops;
@@ -61,13 +61,10 @@ nested t h = record {
   target = λ u v b e. ltb-true v (blockCount t) (not-false _ (no-edge t u v (λ x. not (ltb x (blockCount t))) (block u b .1) e));
   own = λ l b. eqb-true (loopOf t (header t l)) l (not-false _ (h .1 .1 .1 .0 l b));
   exit-ends = λ v e. eqb-false (exit t) (exit t) (or-false (eqb v 0) _ (no-edge t (exit t) v (λ x. eqb x 0 || eqb (exit t) (exit t)) (h .1 .1 .1 .1 .1 .0 (exit t) (omega (arith, blocks))) e) .1) refl;
-  at-header = λ u v l b e k iv iu. eqb-true (header t l) v (not-false _ (rw (iv, iu) at (none-of (loopCount t) (past u v) (no-edge t u v (λ x. anyBelow (loopCount t) (past u x)) (h .1 .1 .1 .1 .1 .1 .0 u b) e) l k)));
+  at-header = λ u v l b e k iv iu. eqb-true (header t l) v (not-false _ (rw (iv, iu) at (none-of (loopCount t) _ (no-edge t u v (pastHeader t u) (h .1 .1 .1 .1 .1 .1 .0 u b) e) l k)));
 }
   where
-    past : ℕ → ℕ → ℕ → Bool
-    past u v l = enters t u v l && not (eqb (header t l) v)
-
-    sizes : (outOfRange 2 1024 (blockCount t) ≡ false) × (outOfRange 1 64 (loopCount t) ≡ false)
+    sizes : (outOfRange 2 mostBlocks (blockCount t) ≡ false) × (outOfRange 1 mostLoops (loopCount t) ≡ false)
     sizes = or-false _ _ (or-false _ _ (or-false _ _ (h .0 0 (omega arith)) .0) .0)
 
     blocks : 2 ≤ blockCount t

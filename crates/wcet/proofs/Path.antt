@@ -41,7 +41,7 @@ module _ (R : ℤ → ℤ → Type 0) (O : Direction R) (t : Routine) (C : Certi
       z : ℤ
       z = potential t C (after t (next t s v) w)
 
-  -- where what is left of each loop around the present block has its sign, the potential is on that side of the figure
+  -- where the rest of each loop around the present block is on one side of 0, the potential is on that side of the figure
   pub at-end : (s : State) → ((l : ℕ) → l < loopCount t → inside t (s .block) l ≡ true → R (pos 0) (remaining (C .multiplier l) (C .visits l) (s .count l)))
       → R (C .figure (s .block)) (potential t C s)
   unfolding potential

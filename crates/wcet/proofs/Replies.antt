@@ -33,10 +33,10 @@ pub append-all : (rs qs : List Rule) → AllHold rs → AllHold qs → AllHold (
 append-all [] qs h k = k
 append-all (r ∷ rs) qs h k = (h .0, append-all rs qs (h .1) k)
 
--- where the rules before hold, those behind them decide
-pub behind-all : {A : Type 0} (rs qs : List Rule) (passed : Reply A) → AllHold rs → check (rs ++ qs) passed ≡ check qs passed
-behind-all [] qs passed h = refl
-behind-all (r ∷ rs) qs passed h = hands-on r (rs ++ qs) passed (h .0) ∙ behind-all rs qs passed (h .1)
+-- where these rules hold, the later ones decide
+pub past-all : {A : Type 0} (rs qs : List Rule) (passed : Reply A) → AllHold rs → check (rs ++ qs) passed ≡ check qs passed
+past-all [] qs passed h = refl
+past-all (r ∷ rs) qs passed h = hands-on r (rs ++ qs) passed (h .0) ∙ past-all rs qs passed (h .1)
 
 unrefused : {A : Type 0} (n : ℕ) (o : Option ℕ) (rest : Reply A) (a : A) → refusedAt n o rest ≡ accepted a → (o ≡ none) × (rest ≡ accepted a)
 unrefused n none rest a e = (refl, e)
@@ -69,19 +69,19 @@ first-broken (r ∷ rs) passed n p e = go (firstBelow (r .places) (r .broken)) r
         inl (record {
           before = [];
           rule = r;
-          behind = rs;
+          later = rs;
           order = refl;
           earlier = tt;
           named = cc;
           there = l .below;
           breaks = l .passes;
-          lowest = l .first;
+          lowest = l .lower;
         })
     go none o e rest =
         ⊎-elim (λ b. inl (record {
           before = r ∷ b .before;
           rule = b .rule;
-          behind = b .behind;
+          later = b .later;
           order = ap (λ (qs : List Rule). r ∷ qs) (b .order);
           earlier = (not-found (r .places) (r .broken) o, b .earlier);
           named = b .named;
@@ -93,11 +93,11 @@ first-broken (r ∷ rs) passed n p e = go (firstBelow (r .places) (r .broken)) r
 pub broken-refuses : {A : Type 0} (rs : List Rule) (passed : Reply A) (n p : ℕ) → FirstBroken rs n p → check rs passed ≡ refused n p
 broken-refuses rs passed n p b =
     rw (b .order)
-    (behind-all (b .before) (b .rule ∷ b .behind) passed (b .earlier)
-    ∙ decides (b .rule) (b .behind) passed p (record { below = b .there; passes = b .breaks; first = b .lowest })
+    (past-all (b .before) (b .rule ∷ b .later) passed (b .earlier)
+    ∙ decides (b .rule) (b .later) passed p (record { below = b .there; passes = b .breaks; lower = b .lowest })
     ∙ ap (λ (k : ℕ). refused k p) (b .named))
 
--- a refusal stands whatever rules come behind
+-- a refusal stands whatever rules follow
 pub refused-append : {A B : Type 0} (rs qs : List Rule) (a : A) (passed : Reply B) (n p : ℕ) → check rs (accepted a) ≡ refused n p → check (rs ++ qs) passed ≡ refused n p
 refused-append rs qs a passed n p e = ⊎-elim (λ b. go b) (λ q. absurd (let z : _≡_ {A = ℕ} 0 1 = cc in omega arith)) (first-broken rs (accepted a) n p e)
   where
@@ -105,8 +105,8 @@ refused-append rs qs a passed n p e = ⊎-elim (λ b. go b) (λ q. absurd (let z
     go b = broken-refuses (rs ++ qs) passed n p (record {
       before = b .before;
       rule = b .rule;
-      behind = b .behind ++ qs;
-      order = ap (λ (xs : List Rule). xs ++ qs) (b .order) ∙ append-assoc (b .before) (b .rule ∷ b .behind) qs;
+      later = b .later ++ qs;
+      order = ap (λ (xs : List Rule). xs ++ qs) (b .order) ∙ append-assoc (b .before) (b .rule ∷ b .later) qs;
       earlier = b .earlier;
       named = b .named;
       there = b .there;

@@ -12,13 +12,14 @@ use lib.IntN.{ℤ, pos}
 use lib.ListN.{length, getD}
 use lib.Seq.{take-length}
 use lib.Signed.{_≤ℤ_}
+use Rattle.limits.specs.Limits.{longestWalk}
 use Rattle.lists.specs.Search.{if_then_else_}
 use Rattle.lists.proofs.Tests.{or-false, and-true, both, neither}
 use Rattle.wcet.specs.Table.{Routine, blockCount, exit, limit, edge}
 use Rattle.wcet.specs.Rules.{Reply, accepted, refused, structureRules, tableReply}
 use Rattle.wcet.specs.Run.{path, run, State, start, next, after, passesLimit, keepsLimits, countedRun}
-use Rattle.wcet.specs.Walk.{Walked, walked, longestWalk, lengthRule, walkFrom, walkBlocks, walkReply}
-use Rattle.wcet.specs.Claim.{AllHold, FinishedRun, WalksExactly}
+use Rattle.wcet.specs.Walk.{Walked, walked, lengthRule, walkFrom, walkBlocks, walkReply}
+use Rattle.wcet.specs.Claim.{AllHold, FinishedRun, AcceptsExactly, WalkChecked}
 use Rattle.wcet.proofs.Replies.{passes, all-append, append-all, all-pass}
 use Rattle.wcet.proofs.Nesting.{Nested, nested}
 use Rattle.wcet.proofs.Path.{after-block}
@@ -116,9 +117,9 @@ unfolding countedRun
 run-some t [] f = absurd (false≢true (f .counted))
 run-some t (v ∷ w) f = omega arith
 
-pub walks-exactly : (t : Routine) → WalksExactly t
+pub walks-exactly : (t : Routine) (w : List ℕ) → AcceptsExactly t w (walkReply t w)
 unfolding walkReply
-walks-exactly t h w high r = (
+walks-exactly t w h high r = (
   walk-run t w r,
   λ f.
       let length-rule : (p : ℕ) → p < 1 → lengthRule w .broken p ≡ false
@@ -127,6 +128,10 @@ walks-exactly t h w high r = (
       ∙ run-accepted t (nested t h) w (accepted (walked t w)) (f .0)
       ∙ ap accepted (f .1),
 )
+
+-- the reply of the definition is checked
+pub walk-checked : (t : Routine) (w : List ℕ) (r : Reply Walked) → r ≡ walkReply t w → WalkChecked t w r
+walk-checked t w r e = record { replied = e; accepts = λ h k x. rw e (walks-exactly t w h k x) }
 
 -- an accepted walk over an accepted pair of tables
 pub walk-bounded : (t : Routine) (b : ℤ) (w : List ℕ) (r : Walked) → tableReply t ≡ accepted b → walkReply t w ≡ accepted r → pos (r .total) ≤ℤ b

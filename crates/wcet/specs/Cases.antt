@@ -20,7 +20,7 @@ unfoldable pub answer : Question → Answer
 answer (table t) = toTable (tableReply t)
 answer (walk t w) = toWalk (walkReply t w)
 
--- Routine A, at these values of what the cases change: block 0's second successor and figure, block 2's loop, loop 1's limit and multiplier.
+-- Routine A, with the values that the cases change: block 0's second successor and figure, block 2's loop, loop 1's limit and multiplier.
 abbrev pub routineA : (second0 : ℕ) (figure0 : ℤ) (loop2 limit1 multiplier1 : ℕ) → Routine
 routineA second0 figure0 loop2 limit1 multiplier1 = record {
   costs = 2 ∷ 3 ∷ 5 ∷ 1 ∷ [];
@@ -37,7 +37,7 @@ routineA second0 figure0 loop2 limit1 multiplier1 = record {
 abbrev pub A : Routine
 A = routineA missing (pos 28) 1 4 8
 
--- blocks in loop 0 only, which is the one loop
+-- a routine whose only loop is loop 0
 abbrev pub oneLoop : (costs firsts seconds : List ℕ) (figures : List ℤ) → Routine
 oneLoop costs firsts seconds figures = record {
   costs = costs;
@@ -64,25 +64,25 @@ pub record Case : Type 0 where
   pub asked : Question
   pub reply : Answer
 
-abbrev pub says : Question → Answer → Case
-says q a = record { asked = q; reply = a }
+abbrev pub marked : Question → Answer → Case
+marked q a = record { asked = q; reply = a }
 
 unfoldable pub markedCases : List Case
 markedCases =
-    says (table A) (toTable (accepted (pos 30)))
-    ∷ says (table (routineA missing (pos 27) 1 4 8)) (toTable (refused 208 0))
-    ∷ says (table (routineA missing (pos 28) 1 4 7)) (toTable (refused 208 2))
-    ∷ says (table (routineA missing (pos 28) 1 65535 8)) (toTable (refused 208 0))
-    ∷ says (table (routineA missing (pos 28) 1 0 8)) (toTable (refused 202 1))
-    ∷ says (table (routineA missing (pos 28) 1 65536 8)) (toTable (refused 202 1))
-    ∷ says (table (routineA missing (pos 28) 0 4 8)) (toTable (refused 208 2))
-    ∷ says (table (routineA 2 (pos 28) 1 4 8)) (toTable (refused 207 0))
-    ∷ says (walk A (0 ∷ 1 ∷ 2 ∷ 1 ∷ 2 ∷ 1 ∷ 2 ∷ 1 ∷ 3 ∷ [])) (toWalk (accepted (record { total = 30; steps = 8 })))
-    ∷ says (walk A (0 ∷ 1 ∷ 2 ∷ 1 ∷ 2 ∷ 1 ∷ 2 ∷ 1 ∷ 2 ∷ 1 ∷ [])) (toWalk (refused 313 9))
-    ∷ says (walk A (0 ∷ 1 ∷ [])) (toWalk (refused 314 2))
-    ∷ says (table noEdges) (toTable (accepted (negℤ (pos 3))))
-    ∷ says (table (cycle (1 ∷ 1 ∷ 1 ∷ 1 ∷ []) (pos 3 ∷ pos 2 ∷ pos 1 ∷ pos 0 ∷ []))) (toTable (refused 208 2))
-    ∷ says (table (cycle (1 ∷ 0 ∷ 0 ∷ 1 ∷ []) (pos 1 ∷ pos 1 ∷ pos 1 ∷ pos 0 ∷ []))) (toTable (accepted (pos 2)))
+    marked (table A) (toTable (accepted (pos 30)))
+    ∷ marked (table (routineA missing (pos 27) 1 4 8)) (toTable (refused 208 0))
+    ∷ marked (table (routineA missing (pos 28) 1 4 7)) (toTable (refused 208 2))
+    ∷ marked (table (routineA missing (pos 28) 1 65535 8)) (toTable (refused 208 0))
+    ∷ marked (table (routineA missing (pos 28) 1 0 8)) (toTable (refused 202 1))
+    ∷ marked (table (routineA missing (pos 28) 1 65536 8)) (toTable (refused 202 1))
+    ∷ marked (table (routineA missing (pos 28) 0 4 8)) (toTable (refused 208 2))
+    ∷ marked (table (routineA 2 (pos 28) 1 4 8)) (toTable (refused 207 0))
+    ∷ marked (walk A (0 ∷ 1 ∷ 2 ∷ 1 ∷ 2 ∷ 1 ∷ 2 ∷ 1 ∷ 3 ∷ [])) (toWalk (accepted (record { total = 30; steps = 8 })))
+    ∷ marked (walk A (0 ∷ 1 ∷ 2 ∷ 1 ∷ 2 ∷ 1 ∷ 2 ∷ 1 ∷ 2 ∷ 1 ∷ [])) (toWalk (refused 313 9))
+    ∷ marked (walk A (0 ∷ 1 ∷ [])) (toWalk (refused 314 2))
+    ∷ marked (table noEdges) (toTable (accepted (negℤ (pos 3))))
+    ∷ marked (table (cycle (1 ∷ 1 ∷ 1 ∷ 1 ∷ []) (pos 3 ∷ pos 2 ∷ pos 1 ∷ pos 0 ∷ []))) (toTable (refused 208 2))
+    ∷ marked (table (cycle (1 ∷ 0 ∷ 0 ∷ 1 ∷ []) (pos 1 ∷ pos 1 ∷ pos 1 ∷ pos 0 ∷ []))) (toTable (accepted (pos 2)))
     ∷ []
 
 -- the one claim: the definitions give each marked case the reply that document 01 gives it

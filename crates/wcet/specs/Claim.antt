@@ -7,10 +7,11 @@ use mathlib.Core.List.{List, [], _∷_, _++_}
 use lib.IntN.{ℤ, pos, _+ℤ_}
 use lib.ListN.{length, getD, take}
 use lib.Signed.{_≤ℤ_, _<ℤ_}
+use Rattle.limits.specs.Limits.{longestWalk}
 use Rattle.wcet.specs.Table.{Routine, exit, cost, figure}
 use Rattle.wcet.specs.Rules.{Reply, accepted, refused, Rule, structureRules, tableRules, bound, tableReply}
 use Rattle.wcet.specs.Run.{countedRun, runCost}
-use Rattle.wcet.specs.Walk.{Walked, walked, longestWalk, walkReply}
+use Rattle.wcet.specs.Walk.{Walked, walked, walkReply}
 
 -- ---- demand 3
 
@@ -45,8 +46,8 @@ AllHold (r ∷ rs) = Holds r × AllHold rs
 pub record FirstBroken (rs : List Rule) (number place : ℕ) : Type 0 where
   pub before : List Rule
   pub rule : Rule
-  pub behind : List Rule
-  pub order : rs ≡ before ++ rule ∷ behind
+  pub later : List Rule
+  pub order : rs ≡ before ++ rule ∷ later
   pub earlier : AllHold before
   pub named : rule .number ≡ number
   pub there : place < rule .places
@@ -66,10 +67,15 @@ pub record FinishedRun (t : Routine) (w : List ℕ) : Type 0 where
   pub counted : countedRun t w ≡ true
   pub at-exit : getD w (length w - 1) 0 ≡ exit t
 
--- Demand 2: "A walk within the length limit, over tables that keep those ranges and rules, is accepted exactly when it is a finished
--- counted run, with its true cost", and its length less one for the step count
-abbrev pub WalksExactly : Routine → Type 0
-WalksExactly t = AllHold (structureRules t) → (w : List ℕ) → length w ≤ longestWalk → (r : Walked) → (walkReply t w ≡ accepted r) ↔ (FinishedRun t w × (walked t w ≡ r))
+-- Demand 2, of the reply r to the walk w over t: "A walk within the length limit, over tables that keep those ranges and rules, is accepted
+-- exactly when it is a finished counted run, with its true cost", and its length less one for the step count
+abbrev pub AcceptsExactly : Routine → List ℕ → Reply Walked → Type 0
+AcceptsExactly t w r = AllHold (structureRules t) → length w ≤ longestWalk → (x : Walked) → (r ≡ accepted x) ↔ (FinishedRun t w × (walked t w ≡ x))
+
+-- what the checker of a walk ensures of its reply
+pub record WalkChecked (t : Routine) (w : List ℕ) (r : Reply Walked) : Type 0 where
+  pub replied : r ≡ walkReply t w
+  pub accepts : AcceptsExactly t w r
 
 -- "It may be negative; then no finished counted run exists."
 abbrev pub NegativeBound : Routine → Type 0

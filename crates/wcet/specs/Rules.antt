@@ -8,6 +8,7 @@ use lib.Dec.{eqb, ltb}
 use lib.IntN.{ℤ, pos, negℤ, _+ℤ_, _-ℤ_, _*ℤ_}
 use lib.ListN.{length}
 use lib.Signed.{leZ, ltZ}
+use Rattle.limits.specs.Limits.{mostBlocks, mostLoops, mostDepth}
 use Rattle.lists.specs.Search.{if_then_else_, anyBelow, countBelow, firstBelow}
 use Rattle.wcet.specs.Table.{Routine, blockCount, loopCount, exit, cost, loopOf, figure, parent, header, limit, multiplier, someEdge, inside}
 
@@ -22,7 +23,7 @@ pub record Rule : Type 0 where
   pub places : ℕ
   pub broken : ℕ → Bool
 
--- the reply where a rule of this number is first broken at this place, or at none
+-- refused with this number where a place is given, and else the other reply
 abbrev pub refusedAt : {A : Type 0} → ℕ → Option ℕ → Reply A → Reply A
 refusedAt number (some place) otherwise = refused number place
 refusedAt number none otherwise = otherwise
@@ -48,7 +49,7 @@ loopColumnsEqual t = sized (loopCount t) (t .headers) && sized (loopCount t) (t 
 
 -- 201: "n not 2 to 1,024, m not 1 to 64, or columns of one table unequal in length"
 unfoldable pub sizesWrong : Routine → Bool
-sizesWrong t = outOfRange 2 1024 (blockCount t) || outOfRange 1 64 (loopCount t) || not (blockColumnsEqual t) || not (loopColumnsEqual t)
+sizesWrong t = outOfRange 2 mostBlocks (blockCount t) || outOfRange 1 mostLoops (loopCount t) || not (blockColumnsEqual t) || not (loopColumnsEqual t)
 
 -- 202: "loop 0 is not parent 0, header 0, limit 1, multiplier 0; or another loop has a parent not below its own number,
 -- a header not below n, a limit not 1 to 65,535, or a multiplier over 2^40"
@@ -72,7 +73,7 @@ headerElsewhere t l = not (eqb (loopOf t (header t l)) l)
 
 -- 205: "more than 16 loops around a header, loop 0 and its own counted"
 unfoldable pub tooDeep : Routine → ℕ → Bool
-tooDeep t l = ltb 16 (countBelow (loopCount t) (inside t (header t l)))
+tooDeep t l = ltb mostDepth (countBelow (loopCount t) (inside t (header t l)))
 
 -- 206: "an edge into block 0 or out of block n−1"
 unfoldable pub entryOrExitEdge : Routine → ℕ → Bool
@@ -82,38 +83,42 @@ entryOrExitEdge t u = someEdge t u (λ v. eqb v 0 || eqb u (exit t))
 abbrev pub enters : Routine → ℕ → ℕ → ℕ → Bool
 enters t u v l = inside t v l && not (inside t u l)
 
--- 207: "an edge ends inside a loop that its source is outside of, and not at that loop's header"
+-- 207: "an edge ends inside a loop that its source is outside of, and not at that loop's header": of an edge from u to v
+unfoldable pub pastHeader : Routine → ℕ → ℕ → Bool
+pastHeader t u v = anyBelow (loopCount t) (λ l. enters t u v l && not (eqb (header t l) v))
+
+-- of either edge of block u
 unfoldable pub entersPastHeader : Routine → ℕ → Bool
-entersPastHeader t u = someEdge t u (λ v. anyBelow (loopCount t) (λ l. enters t u v l && not (eqb (header t l) v)))
+entersPastHeader t u = someEdge t u (pastHeader t u)
 
 -- v is a header: by 203 and 204 it is then the header of its innermost loop, and of no other
 abbrev pub isHeader : Routine → ℕ → Bool
 isHeader t v = eqb (header t (loopOf t v)) v
 
+-- The inequality of an edge from u to v, on numbers: v is a header or not, u is inside its loop or not, the cost of v, the figures of u and
+-- of v, the multiplier and the limit of v's loop.
 -- "For an edge from u to v let D be the figure of u less the figure of v.
 --  v is no header: cost of v ≤ D.
 --  v is the header of a loop that u is inside: cost of v ≤ D + multiplier.
 --  v is the header of a loop that u is outside: cost of v + multiplier × (limit − 1) ≤ D."
-unfoldable pub edgeHolds : Routine → ℕ → ℕ → Bool
-edgeHolds t u v =
-    if not (isHeader t v) then leZ c d else
-    if inside t u l then leZ c (d +ℤ pos (multiplier t l)) else
-    leZ (c +ℤ pos (multiplier t l) *ℤ (pos (limit t l) -ℤ pos 1)) d
+unfoldable pub inequality : (headed inner : Bool) (c : ℕ) (from to : ℤ) (k b : ℕ) → Bool
+inequality headed inner c from to k b =
+    if not headed then leZ (pos c) d else
+    if inner then leZ (pos c) (d +ℤ pos k) else
+    leZ (pos c +ℤ pos k *ℤ (pos b -ℤ pos 1)) d
   where
-    l : ℕ
-    l = loopOf t v
-
-    c : ℤ
-    c = pos (cost t v)
-
     d : ℤ
-    d = figure t u -ℤ figure t v
+    d = from -ℤ to
+
+-- the inequality of an edge from u to v of the tables holds
+unfoldable pub edgeHolds : Routine → ℕ → ℕ → Bool
+edgeHolds t u v = inequality (isHeader t v) (inside t u (loopOf t v)) (cost t v) (figure t u) (figure t v) (multiplier t (loopOf t v)) (limit t (loopOf t v))
 
 -- 208: "an edge breaks its inequality"
 unfoldable pub inequalityBroken : Routine → ℕ → Bool
 inequalityBroken t u = someEdge t u (λ v. not (edgeHolds t u v))
 
--- 201 to 207: what a walk, too, asks of the tables
+-- 201 to 207, which the tables of a walk must keep too
 unfoldable pub structureRules : Routine → List Rule
 structureRules t =
     record { number = 201; places = 1; broken = λ _. sizesWrong t }

@@ -55,7 +55,7 @@ after t s (v ∷ w) = after t (next t s v) w
 unfoldable pub passesLimit : Routine → State → Bool
 passesLimit t s = anyBelow (loopCount t) (λ l. ltb (limit t l) (s .count l))
 
--- no limit is passed in state s, nor at any block of w behind it
+-- no limit is passed in state s, nor at any later block of w
 unfoldable pub keepsLimits : Routine → State → List ℕ → Bool
 keepsLimits t s [] = not (passesLimit t s)
 keepsLimits t s (v ∷ w) = not (passesLimit t s) && keepsLimits t (next t s v) w

@@ -1,5 +1,5 @@
--- Document 01, "Counted runs", read without a step: the visits to a header within one stay, counted over the list; and the claim that the
--- counts of `Run.antt` are these.
+-- Document 01, "Counted runs", without steps: the visits to a header within one stay, counted over the list; and the claim that the counts
+-- of `Run.antt` are these.
 use mathlib.Core.Path.{_≡_}
 use mathlib.Core.Logic.{_↔_}
 use mathlib.Core.Bool.{Bool, true, _&&_}
@@ -16,8 +16,8 @@ unfoldable pub allInside : Routine → ℕ → List ℕ → Bool
 allInside t l [] = true
 allInside t l (v ∷ w) = inside t v l && allInside t l w
 
--- the stay in loop l that is under way where the list w ends: its longest end that is inside l throughout, empty where the last block is
--- outside of l
+-- the present stay in loop l at the end of the list w: the longest end of w that is inside l throughout, and empty where the last block is
+-- outside l
 unfoldable pub currentStay : Routine → ℕ → List ℕ → List ℕ
 currentStay t l [] = []
 currentStay t l (v ∷ w) = if allInside t l (v ∷ w) then v ∷ w else currentStay t l w
@@ -27,12 +27,12 @@ unfoldable pub visits : ℕ → List ℕ → ℕ
 visits h [] = 0
 visits h (v ∷ w) = (if eqb h v then 1 else 0) + visits h w
 
--- "For each loop the visits to its header are counted within one stay": the visits to loop l's header in the stay under way at the end of w
+-- "For each loop the visits to its header are counted within one stay": the visits to loop l's header in the present stay
 abbrev pub stayVisits : Routine → ℕ → List ℕ → ℕ
 stayVisits t l w = visits (header t l) (currentStay t l w)
 
--- for a pair of tables: the counts that the steps of a run keep are these visits, and a counted run is a run of which no beginning ends in a
--- stay with more visits than the loop's limit
+-- for a pair of tables: the counts that the steps of a run keep are these visits; and a run is counted exactly where at each of its blocks no
+-- loop has more visits in the present stay than its limit
 pub record CountsExactly (t : Routine) : Type 0 where
   pub stepped : (w : List ℕ) (l : ℕ) → l < loopCount t → after t start w .count l ≡ stayVisits t l (0 ∷ w)
   pub counted : (w : List ℕ)

@@ -33,8 +33,8 @@ exit t = blockCount t - 1
 abbrev pub missing : ℕ
 missing = 65535
 
--- The columns' entries, and 0 behind a column's end. Of a table that passes 201 to 203 no reply and no counted run depends on that 0.
--- Of a block: its cost, its innermost loop, its two successors, and its figure, the solver's potential of the block (a dual variable).
+-- The entries of the columns, and 0 after a column's end. For a table that passes 201 to 203, no reply and no counted run depends on that 0.
+-- Of a block: its cost, its innermost loop, its two successors and its figure, the solver's potential for the block (a dual variable).
 abbrev pub cost : Routine → ℕ → ℕ
 cost t u = getD (t .costs) u 0
 
@@ -50,8 +50,8 @@ second t u = getD (t .seconds) u 0
 abbrev pub figure : Routine → ℕ → ℤ
 figure t u = getD (t .figures) u (pos 0)
 
--- Of a loop: its parent, its header block, its limit, the loop bound (header visits per entry), and its multiplier, the dual variable of
--- that bound.
+-- Of a loop: its parent, its header block, its limit (the loop bound: header visits per entry) and its multiplier (the dual variable of
+-- that bound).
 abbrev pub parent : Routine → ℕ → ℕ
 parent t l = getD (t .parents) l 0
 

@@ -4,6 +4,7 @@ use mathlib.Core.Bool.{not}
 use mathlib.Core.List.{List, [], _∷_, _++_}
 use lib.Dec.{eqb, ltb}
 use lib.ListN.{length}
+use Rattle.limits.specs.Limits.{longestWalk}
 use Rattle.lists.specs.Search.{if_then_else_}
 use Rattle.wcet.specs.Table.{Routine, blockCount, exit, edge}
 use Rattle.wcet.specs.Rules.{Reply, accepted, refused, Rule, check, outOfRange, structureRules}
@@ -16,10 +17,6 @@ pub record Walked : Type 0 where
 
 abbrev pub walked : Routine → List ℕ → Walked
 walked t w = record { total = runCost t w; steps = length w - 1 }
-
--- the longest walk that is accepted, in blocks
-abbrev pub longestWalk : ℕ
-longestWalk = 1048576
 
 -- 301: "walk of 0 or of more than 1,048,576 blocks"
 abbrev pub lengthRule : List ℕ → Rule

@@ -1,6 +1,6 @@
 use borrow.Author.Tests.{not-true, not-false}
 use mir.Facts.{toZ-ofZ}
-use Rattle.certificate.specs.Figures.{inequality}
+use Rattle.wcet.specs.Rules.{inequality}
 use Rattle.certificate.proofs.inequality_holds.Statement.{statement}
 use Rattle.certificate.proofs.inequality_holds.Tie as tie
 use Rattle.certificate.proofs.inequality_holds.Reads as reads

@@ -3,6 +3,7 @@ use Prim.Native.Nat.{_-_, _≤_, _<_}
 use mathlib.Core.Path.{_≡_, refl, _∙_}
 use native.Mathlib.Omega.{arith}
 use lib.ListN.{set}
+use Rattle.counts.specs.Counts.{countWords}
 use borrow.Author.Needs.{needs}
 use Rattle.counts.proofs.put_word.Statement.{statement}
 use Rattle.counts.proofs.put_word.Tie as tie
@@ -10,10 +11,10 @@ use Rattle.counts.proofs.put_word.Reads as reads
 use Rattle.counts.proofs.put_word.Lts as lts
 
 abbrev Inv-loop : tie.InvT-loop
-Inv-loop counts₀ k word j₀ counts j = (j ≤ 16) × (j ≤ k → counts ≡ counts₀) × (k < j → counts ≡ set counts₀ k word)
+Inv-loop counts₀ k word j₀ counts j = (j ≤ countWords) × (j ≤ k → counts ≡ counts₀) × (k < j → counts ≡ set counts₀ k word)
 
 abbrev μ-loop : tie.MeasureT-loop
-μ-loop counts₀ k word j₀ counts j = 16 - j
+μ-loop counts₀ k word j₀ counts j = countWords - j
 
 loop-holds : tie.Need-loop-holds Inv-loop μ-loop
 loop-holds c = (omega arith, λ h. refl, λ h. absurd (omega arith))

@@ -1,10 +1,11 @@
+use Rattle.limits.specs.Limits.{mostLoops}
 use Rattle.lists.specs.Search.{if_then_else_}
 use lib.Dec.{eqb}
 use borrow.Author.Tests.{eq-eqb, ne-eqb}
 use mathlib.Core.Logic.{⊎-elim}
 use Prim.Native.Nat.{ℕ, _-_, _≤_, _<_}
 use Rattle.counts.proofs.Recounts.{newCount, none-left, one-less, rises, all-changed}
-use Rattle.counts.specs.Counts.{countIn}
+use Rattle.counts.specs.Counts.{countWords, countIn}
 use Rattle.loopsets.specs.Sets.{LowestOf}
 use lib.ListN.{length}
 use native.Mathlib.Omega.{arith}
@@ -17,10 +18,10 @@ use Rattle.counts.proofs.recount.Lts as lts
 
 abbrev Inv-loop : tie.InvT-loop
 Inv-loop counts₀ l visits rest₀ k₀ counts rest k =
-    (length counts ≡ 16) × LowestOf rest k × ((j : ℕ) → j < 64 → newCount l visits rest₀ j (countIn counts₀ j) ≡ newCount l visits rest j (countIn counts j))
+    (length counts ≡ countWords) × LowestOf rest k × ((j : ℕ) → j < mostLoops → newCount l visits rest₀ j (countIn counts₀ j) ≡ newCount l visits rest j (countIn counts j))
 
 abbrev μ-loop : tie.MeasureT-loop
-μ-loop counts₀ l visits rest₀ k₀ counts rest k = 64 - k
+μ-loop counts₀ l visits rest₀ k₀ counts rest k = mostLoops - k
 
 -- the count that is stored
 count-is : (c : tie.Joined1 Inv-loop μ-loop) → let s = c .before .before .before .before .before in

@@ -16,6 +16,9 @@ shared-slice-read-if2 c = search needs
 add-inside-quotes : tie.Need-add-inside-quotes
 add-inside-quotes c = search needs
 
+sub-inside-quotes : tie.Need-sub-inside-quotes
+sub-inside-quotes c = search needs
+
 inside-quotes-requires : tie.Need-inside-quotes-requires
 inside-quotes-requires c κs = search needs
 
@@ -41,6 +44,7 @@ field-close-spec =
     returns
     shared-slice-read-if2
     add-inside-quotes
+    sub-inside-quotes
     inside-quotes-requires
     returns-2
     plain-end-requires

@@ -20,7 +20,7 @@ Inv-loop text at starts₀ ends₀ count₀ p₀ starts ends count p = (count �
 abbrev μ-loop : tie.MeasureT-loop
 μ-loop text at starts₀ ends₀ count₀ p₀ starts ends count p = length text - p
 
--- the field lies in the text, with the comma behind it
+-- the field lies in the text, with the comma after it
 range : (c : tie.After-note-bounds Inv-loop μ-loop) → (c .before .before .before .before .before .before .before .loop .p ≤ c .before .before .before .before .e .given .0 .0) × (c .before .before .before .before .e .given .0 .0 < length (c .before .before .before .before .before .before .before .before .before .args .text .now))
 range c = comma-range (c .before .before .before .before .before .before .before .before .before .args .text .now) (c .before .before .before .before .before .before .before .loop .p) (c .before .before .before .before .before .before .field-end .ensures) (c .before .before .before .before .e .given .0 .0) (c .before .before .before .before .e .given .1)
 

@@ -1,8 +1,9 @@
 use Rattle.loopsets.specs.Sets.{setAt}
 use Prim.Native.Nat.{_-_, _≤_}
+use mathlib.Core.Path.{_≡_}
 use native.Mathlib.Omega.{arith}
 use lib.ListN.{length}
-use Rattle.loopsets.proofs.Laws.{Filled, filled-first, filled-next}
+use Rattle.loopsets.proofs.Laws.{Filled, filled-first, filled-next, filled-all}
 use borrow.Author.Needs.{needs}
 use Rattle.loopsets.proofs.sets_around.Statement.{statement}
 use Rattle.loopsets.proofs.sets_around.Tie as tie
@@ -59,11 +60,15 @@ loop-again c =
     let start = c .before .before .before .before .before in (
       search needs,
       search needs,
-      filled-next (start .args .parent .now) (loop .around) (start .pre .2) (loop .l) (omega arith) (omega arith) (omega arith) (loop .inv .2) (c .with .result) (c .with .ensures),
+      filled-next (start .args .parent .now) (loop .around) (start .pre .2) (loop .l) (omega arith) (omega arith) (omega arith) (loop .inv .2) (c .with .result) (omega arith) (c .with .ensures),
     )
 
 returns : tie.Need-returns Inv-loop μ-loop
-returns c = record { size = c .before .loop .inv .2 .size; each = λ l k h. c .before .loop .inv .2 .each l k (omega arith) }
+returns c =
+    let loop = c .before .loop in
+    let p = c .before .before .before .args .parent .now in
+    let all : loop .l ≡ length p = omega arith in
+    filled-all p (loop .around) (rw all at (loop .inv .2))
 
 pub sets-around-spec : {M : Type 1} → statement M
 sets-around-spec =

@@ -6,7 +6,7 @@ use Rattle.wcet.specs.Rules.{accepted, check, tooDeep, entryOrExitEdge, entersP
 use Rattle.nesting.specs.Columns.{nestingColumns}
 use Rattle.nesting.specs.Answers.{placeOf}
 use Rattle.nesting.proofs.Entered.{deep-places, past-places}
-use Rattle.nesting.proofs.Chain.{place-decides, place-clear, none-left, broken-nesting}
+use Rattle.nesting.proofs.Chain.{place-decides, place-clear, none-left, broken-checked}
 use borrow.Author.Needs.{needs}
 use Rattle.nesting.proofs.check_nesting.Statement.{statement}
 use Rattle.nesting.proofs.check_nesting.Tie as tie
@@ -34,14 +34,14 @@ ends c = c .first-entry-or-exit-edge .ensures
 past : (c : tie.After-first-past-header) → placeOf (c .first-past-header .result) ≡ firstBelow (blockCount (at-entry (c .before .before .before .before .before .before .before .before .before .before .before .before .before .before .before .before))) (entersPastHeader (at-entry (c .before .before .before .before .before .before .before .before .before .before .before .before .before .before .before .before)))
 past c = c .first-past-header .ensures ∙ past-places (at-entry (c .before .before .before .before .before .before .before .before .before .before .before .before .before .before .before .before)) _ (c .before .before .before .before .before .before .before .before .before .before .before .before .before .before .before .before .pre) (c .before .before .before .before .before .before .before .before .before .sets-around .ensures)
 
--- the rules behind 205 and behind 206
-behind-205 : (c : tie.After-enum-told) → check (drop 5 (structureRules (at-entry (c .before .before .before .before .before .before .before .before .before .before .before)))) (accepted (tt {0})) ≡ check (drop 4 (structureRules (at-entry (c .before .before .before .before .before .before .before .before .before .before .before)))) (accepted tt)
+-- the rules after 205 and after 206
+after-205 : (c : tie.After-enum-told) → check (drop 5 (structureRules (at-entry (c .before .before .before .before .before .before .before .before .before .before .before)))) (accepted (tt {0})) ≡ check (drop 4 (structureRules (at-entry (c .before .before .before .before .before .before .before .before .before .before .before)))) (accepted tt)
 unfolding structureRules
-behind-205 c = place-clear _ _ _ (deep (c .before .before)) 205 _ _ (c .enum-told .given .1)
+after-205 c = place-clear _ _ _ (deep (c .before .before)) 205 _ _ (c .enum-told .given .1)
 
-behind-206 : (c : tie.After-enum-told2) → check (drop 6 (structureRules (at-entry (c .before .before .before .before .before .before .before .before .before .before .before .before .before .before)))) (accepted (tt {0})) ≡ check (drop 4 (structureRules (at-entry (c .before .before .before .before .before .before .before .before .before .before .before .before .before .before)))) (accepted tt)
+after-206 : (c : tie.After-enum-told2) → check (drop 6 (structureRules (at-entry (c .before .before .before .before .before .before .before .before .before .before .before .before .before .before)))) (accepted (tt {0})) ≡ check (drop 4 (structureRules (at-entry (c .before .before .before .before .before .before .before .before .before .before .before .before .before .before)))) (accepted tt)
 unfolding structureRules
-behind-206 c = place-clear _ _ _ (ends (c .before .before)) 206 _ _ (c .enum-told2 .given .1) ∙ behind-205 (c .before .before .before)
+after-206 c = place-clear _ _ _ (ends (c .before .before)) 206 _ _ (c .enum-told2 .given .1) ∙ after-205 (c .before .before .before)
 
 sets-around-requires : tie.Need-sets-around-requires
 sets-around-requires c κs = search needs
@@ -57,7 +57,7 @@ broken-requires c κs = search needs
 
 returns : tie.Need-returns
 unfolding structureRules
-returns c = broken-nesting (at-entry (c .before .before .before .before .before .before .before .before .before .before .before .before .before)) _ _ (c .broken .ensures) (place-decides _ _ _ (deep (c .before .before .before .before)) 205 _ _ _ (c .before .before .deep .given .1))
+returns c = broken-checked _ _ _ _ (c .broken .ensures) (place-decides _ _ _ (deep (c .before .before .before .before)) 205 _ _ _ (c .before .before .deep .given .1))
 
 enum-told : tie.Need-enum-told
 enum-told c = search needs
@@ -73,7 +73,7 @@ broken-requires-2 c κs = search needs
 
 returns-2 : tie.Need-returns-2
 unfolding structureRules
-returns-2 c = broken-nesting (at-entry (c .before .before .before .before .before .before .before .before .before .before .before .before .before .before .before .before)) _ _ (c .broken2 .ensures) (place-decides _ _ _ (ends (c .before .before .before .before)) 206 _ _ _ (c .before .before .ends .given .1) ∙ behind-205 (c .before .before .before .before .before))
+returns-2 c = broken-checked _ _ _ _ (c .broken2 .ensures) (place-decides _ _ _ (ends (c .before .before .before .before)) 206 _ _ _ (c .before .before .ends .given .1) ∙ after-205 (c .before .before .before .before .before))
 
 enum-told-2 : tie.Need-enum-told-2
 enum-told-2 c = search needs
@@ -89,14 +89,14 @@ broken-requires-3 c κs = search needs
 
 returns-3 : tie.Need-returns-3
 unfolding structureRules
-returns-3 c = broken-nesting (at-entry (c .before .before .before .before .before .before .before .before .before .before .before .before .before .before .before .before .before .before .before .before)) _ _ (c .broken3 .ensures) (place-decides _ _ _ (past (c .before .before .before .before)) 207 _ _ _ (c .before .before .past .given .1) ∙ behind-206 (c .before .before .before .before .before .before))
+returns-3 c = broken-checked _ _ _ _ (c .broken3 .ensures) (place-decides _ _ _ (past (c .before .before .before .before)) 207 _ _ _ (c .before .before .past .given .1) ∙ after-206 (c .before .before .before .before .before .before))
 
 enum-told-3 : tie.Need-enum-told-3
 enum-told-3 c = search needs
 
 returns-4 : tie.Need-returns-4
 unfolding structureRules
-returns-4 c = record { replied = none-left (accepted tt) ∙ place-clear _ _ _ (past (c .before .before)) 207 _ _ (c .enum-told3 .given .1) ∙ behind-206 (c .before .before .before .before); sets = λ s. c .before .before .before .before .before .before .before .before .before .before .before .sets-around .ensures }
+returns-4 c = record { replied = none-left (accepted tt) ∙ place-clear _ _ _ (past (c .before .before)) 207 _ _ (c .enum-told3 .given .1) ∙ after-206 (c .before .before .before .before); sets = c .before .before .before .before .before .before .before .before .before .before .before .sets-around .ensures }
 
 pub check-nesting-spec : {M : Type 1} → statement M
 check-nesting-spec =

@@ -28,11 +28,11 @@ at-entry start =
     routine (a .cost .now) (a .loops .now) (a .first .now) (a .second .now) (a .figure .now) (a .parent .now) (a .header .now) (a .limit .now) (a .multiplier .now)
 
 -- 201 holds
-behind-201 : (c : tie.Else2) → sizesWrong (at-entry (c .before .before .before .before .before .before .before .before .before .before .before .before)) ≡ false
-behind-201 c = neither-decides (at-entry (c .before .before .before .before .before .before .before .before .before .before .before .before)) (sym (c .before .before .before .block-sizes-wrong .ensures) ∙ c .before .before .if1 .left) (sym (c .before .loop-sizes-wrong .ensures) ∙ c .if2 .left)
+after-201 : (c : tie.Else2) → sizesWrong (at-entry (c .before .before .before .before .before .before .before .before .before .before .before .before)) ≡ false
+after-201 c = neither-decides (at-entry (c .before .before .before .before .before .before .before .before .before .before .before .before)) (sym (c .before .before .before .block-sizes-wrong .ensures) ∙ c .before .before .if1 .left) (sym (c .before .loop-sizes-wrong .ensures) ∙ c .if2 .left)
 
 sized : (c : tie.Else2) → Sized (at-entry (c .before .before .before .before .before .before .before .before .before .before .before .before))
-sized c = fits (at-entry (c .before .before .before .before .before .before .before .before .before .before .before .before)) (behind-201 c)
+sized c = fits (at-entry (c .before .before .before .before .before .before .before .before .before .before .before .before)) (after-201 c)
 
 -- what the functions found, as places of the rules
 loop-place : (c : tie.After-first-wrong-loop) → placeOf (c .first-wrong-loop .result) ≡ firstBelow (loopCount (at-entry (c .before .before .before .before .before .before .before .before .before .before .before .before .before))) (loopWrong (at-entry (c .before .before .before .before .before .before .before .before .before .before .before .before .before)))
@@ -47,18 +47,18 @@ header-place : (c : tie.After-first-header-elsewhere) → placeOf (c .first-head
 unfolding headerElsewhere
 header-place c = c .first-header-elsewhere .ensures ∙ ap (λ (m : ℕ). firstBelow m (headerElsewhere (at-entry (c .before .before .before .before .before .before .before .before .before .before .before .before .before .before .before .before .before .before .before)))) (sized (c .before .before .before .before .before .before .before) .headers)
 
--- the rules behind 202, 203 and 204, and what these leave
-behind-202 : (c : tie.After-enum-told) → check (drop 2 (structureRules (at-entry (c .before .before .before .before .before .before .before .before .before .before .before .before .before .before .before)))) (accepted (tt {0})) ≡ check (structureRules (at-entry (c .before .before .before .before .before .before .before .before .before .before .before .before .before .before .before))) (accepted tt)
+-- the rules after 202, 203 and 204, and what these ensure
+after-202 : (c : tie.After-enum-told) → check (drop 2 (structureRules (at-entry (c .before .before .before .before .before .before .before .before .before .before .before .before .before .before .before)))) (accepted (tt {0})) ≡ check (structureRules (at-entry (c .before .before .before .before .before .before .before .before .before .before .before .before .before .before .before))) (accepted tt)
 unfolding structureRules
-behind-202 c = place-clear _ _ _ (loop-place (c .before .before)) 202 _ _ (c .enum-told .given .1) ∙ sizes-clear (at-entry (c .before .before .before .before .before .before .before .before .before .before .before .before .before .before .before)) _ (behind-201 (c .before .before .before))
+after-202 c = place-clear _ _ _ (loop-place (c .before .before)) 202 _ _ (c .enum-told .given .1) ∙ sizes-clear (at-entry (c .before .before .before .before .before .before .before .before .before .before .before .before .before .before .before)) _ (after-201 (c .before .before .before))
 
-behind-203 : (c : tie.After-enum-told2) → check (drop 3 (structureRules (at-entry (c .before .before .before .before .before .before .before .before .before .before .before .before .before .before .before .before .before .before)))) (accepted (tt {0})) ≡ check (structureRules (at-entry (c .before .before .before .before .before .before .before .before .before .before .before .before .before .before .before .before .before .before))) (accepted tt)
+after-203 : (c : tie.After-enum-told2) → check (drop 3 (structureRules (at-entry (c .before .before .before .before .before .before .before .before .before .before .before .before .before .before .before .before .before .before)))) (accepted (tt {0})) ≡ check (structureRules (at-entry (c .before .before .before .before .before .before .before .before .before .before .before .before .before .before .before .before .before .before))) (accepted tt)
 unfolding structureRules
-behind-203 c = place-clear _ _ _ (block-place (c .before .before)) 203 _ _ (c .enum-told2 .given .1) ∙ behind-202 (c .before .before .before)
+after-203 c = place-clear _ _ _ (block-place (c .before .before)) 203 _ _ (c .enum-told2 .given .1) ∙ after-202 (c .before .before .before)
 
-behind-204 : (c : tie.After-enum-told3) → check (drop 4 (structureRules (at-entry (c .before .before .before .before .before .before .before .before .before .before .before .before .before .before .before .before .before .before .before .before .before)))) (accepted (tt {0})) ≡ check (structureRules (at-entry (c .before .before .before .before .before .before .before .before .before .before .before .before .before .before .before .before .before .before .before .before .before))) (accepted tt)
+after-204 : (c : tie.After-enum-told3) → check (drop 4 (structureRules (at-entry (c .before .before .before .before .before .before .before .before .before .before .before .before .before .before .before .before .before .before .before .before .before)))) (accepted (tt {0})) ≡ check (structureRules (at-entry (c .before .before .before .before .before .before .before .before .before .before .before .before .before .before .before .before .before .before .before .before .before))) (accepted tt)
 unfolding structureRules
-behind-204 c = place-clear _ _ _ (header-place (c .before .before)) 204 _ _ (c .enum-told3 .given .1) ∙ behind-203 (c .before .before .before)
+after-204 c = place-clear _ _ _ (header-place (c .before .before)) 204 _ _ (c .enum-told3 .given .1) ∙ after-203 (c .before .before .before)
 
 ranged : (c : tie.After-enum-told2) → Ranged (at-entry (c .before .before .before .before .before .before .before .before .before .before .before .before .before .before .before .before .before .before))
 ranged c = keeps (at-entry (c .before .before .before .before .before .before .before .before .before .before .before .before .before .before .before .before .before .before)) (sized (c .before .before .before .before .before .before)) (place-holds _ _ _ (loop-place (c .before .before .before .before .before)) (c .before .before .before .enum-told .given .1)) (place-holds _ _ _ (block-place (c .before .before)) (c .enum-told2 .given .1))
@@ -73,7 +73,7 @@ broken-requires : tie.Need-broken-requires
 broken-requires c κs = search needs
 
 returns : tie.Need-returns
-returns c = broken-checked (at-entry (c .before .before .before .before .before .before .before .before .before .before .before)) _ _ (c .broken .ensures) (sizes-decide (at-entry (c .before .before .before .before .before .before .before .before .before .before .before)) _ (blocks-decide (at-entry (c .before .before .before .before .before .before .before .before .before .before .before)) (sym (c .before .before .block-sizes-wrong .ensures) ∙ c .before .if1 .taken)))
+returns c = broken-checked _ _ _ _ (c .broken .ensures) (sizes-decide (at-entry (c .before .before .before .before .before .before .before .before .before .before .before)) _ (blocks-decide (at-entry (c .before .before .before .before .before .before .before .before .before .before .before)) (sym (c .before .before .block-sizes-wrong .ensures) ∙ c .before .if1 .taken)))
 
 loop-sizes-wrong-requires : tie.Need-loop-sizes-wrong-requires
 loop-sizes-wrong-requires c κs = search needs
@@ -82,7 +82,7 @@ broken-requires-2 : tie.Need-broken-requires-2
 broken-requires-2 c κs = search needs
 
 returns-2 : tie.Need-returns-2
-returns-2 c = broken-checked (at-entry (c .before .before .before .before .before .before .before .before .before .before .before .before .before)) _ _ (c .broken2 .ensures) (sizes-decide (at-entry (c .before .before .before .before .before .before .before .before .before .before .before .before .before)) _ (loops-decide (at-entry (c .before .before .before .before .before .before .before .before .before .before .before .before .before)) (sym (c .before .before .loop-sizes-wrong .ensures) ∙ c .before .if2 .taken)))
+returns-2 c = broken-checked _ _ _ _ (c .broken2 .ensures) (sizes-decide (at-entry (c .before .before .before .before .before .before .before .before .before .before .before .before .before)) _ (loops-decide (at-entry (c .before .before .before .before .before .before .before .before .before .before .before .before .before)) (sym (c .before .before .loop-sizes-wrong .ensures) ∙ c .before .if2 .taken)))
 
 first-wrong-loop-requires : tie.Need-first-wrong-loop-requires
 first-wrong-loop-requires c κs = loops-sized (at-entry (c .before .before .before .before .before .before .before .before .before .before .before .before)) (sized c)
@@ -95,7 +95,7 @@ broken-requires-3 c κs = search needs
 
 returns-3 : tie.Need-returns-3
 unfolding structureRules
-returns-3 c = broken-checked (at-entry (c .before .before .before .before .before .before .before .before .before .before .before .before .before .before .before .before .before)) _ _ (c .broken3 .ensures) (place-decides _ _ _ (loop-place (c .before .before .before .before)) 202 _ _ _ (c .before .before .l .given .1) ∙ sizes-clear (at-entry (c .before .before .before .before .before .before .before .before .before .before .before .before .before .before .before .before .before)) _ (behind-201 (c .before .before .before .before .before)))
+returns-3 c = broken-checked _ _ _ _ (c .broken3 .ensures) (place-decides _ _ _ (loop-place (c .before .before .before .before)) 202 _ _ _ (c .before .before .l .given .1) ∙ sizes-clear (at-entry (c .before .before .before .before .before .before .before .before .before .before .before .before .before .before .before .before .before)) _ (after-201 (c .before .before .before .before .before)))
 
 enum-told : tie.Need-enum-told
 enum-told c = search needs
@@ -111,7 +111,7 @@ broken-requires-4 c κs = search needs
 
 returns-4 : tie.Need-returns-4
 unfolding structureRules
-returns-4 c = broken-checked (at-entry (c .before .before .before .before .before .before .before .before .before .before .before .before .before .before .before .before .before .before .before .before)) _ _ (c .broken4 .ensures) (place-decides _ _ _ (block-place (c .before .before .before .before)) 203 _ _ _ (c .before .before .u .given .1) ∙ behind-202 (c .before .before .before .before .before))
+returns-4 c = broken-checked _ _ _ _ (c .broken4 .ensures) (place-decides _ _ _ (block-place (c .before .before .before .before)) 203 _ _ _ (c .before .before .u .given .1) ∙ after-202 (c .before .before .before .before .before))
 
 enum-told-2 : tie.Need-enum-told-2
 enum-told-2 c = search needs
@@ -127,7 +127,7 @@ broken-requires-5 c κs = search needs
 
 returns-5 : tie.Need-returns-5
 unfolding structureRules
-returns-5 c = broken-checked (at-entry (c .before .before .before .before .before .before .before .before .before .before .before .before .before .before .before .before .before .before .before .before .before .before .before)) _ _ (c .broken5 .ensures) (place-decides _ _ _ (header-place (c .before .before .before .before)) 204 _ _ _ (c .before .before .h .given .1) ∙ behind-203 (c .before .before .before .before .before))
+returns-5 c = broken-checked _ _ _ _ (c .broken5 .ensures) (place-decides _ _ _ (header-place (c .before .before .before .before)) 204 _ _ _ (c .before .before .h .given .1) ∙ after-203 (c .before .before .before .before .before))
 
 enum-told-3 : tie.Need-enum-told-3
 enum-told-3 c = search needs
@@ -136,7 +136,7 @@ check-nesting-requires : tie.Need-check-nesting-requires
 check-nesting-requires c κs = nestable (at-entry (c .before .before .before .before .before .before .before .before .before .before .before .before .before .before .before .before .before .before .before .before .before)) (headed c)
 
 returns-6 : tie.Need-returns-6
-returns-6 c = nesting-checked (at-entry (c .before .before .before .before .before .before .before .before .before .before .before .before .before .before .before .before .before .before .before .before .before .before)) _ (c .check-nesting .ensures) (behind-204 (c .before))
+returns-6 c = nesting-checked (at-entry (c .before .before .before .before .before .before .before .before .before .before .before .before .before .before .before .before .before .before .before .before .before .before)) _ (c .check-nesting .ensures) (after-204 (c .before))
 
 pub check-structure-spec : {M : Type 1} → statement M
 check-structure-spec =

@@ -1,47 +1,55 @@
-use Rattle.numbers.specs.Digits.{RunAt}
-use Rattle.numbers.proofs.Numbers.{short-digits}
-use Rattle.numbers.proofs.Runs.{run-start, run-on, short-start, short-next}
-use Prim.Native.Nat.{_<_, _-_, _^_}
+use Rattle.numbers.proofs.Digits.{runAfter, none-over, none-low, none-high, run-here, run-on, run-wide, no-overflow}
+use Prim.Native.Nat.{_≤_, _-_, _^_}
+use mathlib.Core.Path.{_≡_}
 use native.Mathlib.Omega.{arith}
+use lib.ListN.{length, drop, getD}
+use Rattle.numbers.specs.Digits.{runAt}
 use borrow.Author.Needs.{needs}
 use Rattle.numbers.proofs.digit_run.Statement.{statement}
 use Rattle.numbers.proofs.digit_run.Tie as tie
 use Rattle.numbers.proofs.digit_run.Reads as reads
 use Rattle.numbers.proofs.digit_run.Lts as lts
-use Rattle.numbers.proofs.run_limit.Reads as run-limit-reads
+use Rattle.numbers.proofs.digits_end.Reads as digits-end-reads
+use Rattle.numbers.proofs.overflows.Reads as overflows-reads
 
 abbrev Inv-loop : tie.InvT-loop
-Inv-loop text at limit n₀ i₀ n i = (n < 10 ^ (i - at)) × RunAt text at (record { value = n; end = i })
+Inv-loop text at n₀ i₀ n i = (n ≤ 2 ^ 64 - 1) × (runAt at (drop at text) ≡ runAfter n i (drop i text))
 
 abbrev μ-loop : tie.MeasureT-loop
-μ-loop text at limit n₀ i₀ n i = limit - i
-
-run-limit-requires : tie.Need-run-limit-requires Inv-loop μ-loop
-run-limit-requires c κs = search needs
+μ-loop text at n₀ i₀ n i = length text - i
 
 loop-holds : tie.Need-loop-holds Inv-loop μ-loop
-loop-holds c = (short-start _, run-start _ _)
+loop-holds c = search needs
 
 shared-slice-read-b : tie.Need-shared-slice-read-b Inv-loop μ-loop
 shared-slice-read-b c = search needs
 
 returns : tie.Need-returns Inv-loop μ-loop
-returns c = search needs
+returns c = search (run-here, none-low)
 
 returns-2 : tie.Need-returns-2 Inv-loop μ-loop
-returns-2 c = search needs
+returns-2 c = search (run-here, none-high)
+
+cast-d : tie.Need-cast-d Inv-loop μ-loop
+cast-d c = search needs
+
+sub-d : tie.Need-sub-d Inv-loop μ-loop
+sub-d c = search needs
+
+overflows-requires : tie.Need-overflows-requires Inv-loop μ-loop
+overflows-requires c κs = search needs
+
+digits-end-requires : tie.Need-digits-end-requires Inv-loop μ-loop
+digits-end-requires c κs = search needs
+
+returns-3 : tie.Need-returns-3 Inv-loop μ-loop
+returns-3 c = search run-wide
 
 mul-n : tie.Need-mul-n Inv-loop μ-loop
-mul-n c = let short = short-digits (c .before .before .before .before .loop .i - c .before .before .before .before .before .before .before .args .at) (c .before .before .before .before .loop .n) (c .before .before .before .before .loop .inv .0) (omega arith) in omega (arith, short)
-
-cast-n : tie.Need-cast-n Inv-loop μ-loop
-cast-n c = search needs
-
-sub-n : tie.Need-sub-n Inv-loop μ-loop
-sub-n c = search needs
+mul-n c = let fits = no-overflow (c .before .before .before .before .before .before .loop .n) (getD (c .before .before .before .before .before .before .before .before .args .text .now) (c .before .before .before .before .before .before .loop .i) 0 - 48) (c .before .overflows .ensures) (c .if3 .left) in omega (arith, fits)
 
 add-n : tie.Need-add-n Inv-loop μ-loop
-add-n c = let short = short-digits (c .before .before .before .before .loop .i - c .before .before .before .before .before .before .before .args .at) (c .before .before .before .before .loop .n) (c .before .before .before .before .loop .inv .0) (omega arith) in omega (arith, short)
+add-n c = let fits = no-overflow (c .before .before .before .before .before .before .loop .n) (getD (c .before .before .before .before .before .before .before .before .args .text .now) (c .before .before .before .before .before .before .loop .i) 0 - 48) (c .before .overflows .ensures) (c .if3 .left) in omega (arith, fits)
 
 add-i : tie.Need-add-i Inv-loop μ-loop
 add-i c = search needs
@@ -50,10 +58,10 @@ loop-less : tie.Need-loop-less Inv-loop μ-loop
 loop-less c = search needs
 
 loop-again : tie.Need-loop-again Inv-loop μ-loop
-loop-again c = (short-next (c .before .before .before .before .before .before .before .args .at) (c .before .before .before .before .loop .i) (c .before .before .before .before .loop .n) _ (c .before .before .before .before .loop .inv .1 .from) (c .before .before .before .before .loop .inv .0) (omega arith), run-on (c .before .before .before .before .before .before .before .args .text .now) (c .before .before .before .before .before .before .before .args .at) (c .before .before .before .before .loop .n) (c .before .before .before .before .loop .i) (c .before .before .before .before .loop .inv .1) (omega arith) (omega arith) (omega arith) (omega arith))
+loop-again c = (search no-overflow, search run-on)
 
-returns-3 : tie.Need-returns-3 Inv-loop μ-loop
-returns-3 c = search needs
+returns-4 : tie.Need-returns-4 Inv-loop μ-loop
+returns-4 c = search (run-here, none-over)
 
 pub digit-run-spec : {M : Type 1} → statement M
 digit-run-spec =
@@ -61,16 +69,18 @@ digit-run-spec =
     (tie.spec
     Inv-loop
     μ-loop
-    run-limit-requires
     loop-holds
     shared-slice-read-b
     returns
     returns-2
+    cast-d
+    sub-d
+    overflows-requires
+    digits-end-requires
+    returns-3
     mul-n
-    cast-n
-    sub-n
     add-n
     add-i
     loop-less
     loop-again
-    returns-3)
+    returns-4)

@@ -6,7 +6,7 @@ use Rattle.walk.specs.declared.Answer.{Answer}
 use Rattle.walk.specs.declared.Answer.the-variants.{NoBlock, AfterExit, NoEdge, OverLimit}
 use Rattle.walk.specs.declared.WalkReply.{WalkReply}
 use Rattle.walk.specs.declared.WalkReply.the-variants as reply
-use Rattle.walk.specs.Step.{stateOf, outcome, stepped, Walkable, Unread, reading}
+use Rattle.walk.specs.Step.{stateOf, outcome, stepped, Walkable, Unread, walkColumns}
 use Rattle.wcet.specs.Table.{Routine}
 use lib.ListN.{length, getD, drop}
 use Prim.Native.Nat.{ℕ, _-_, _<_}
@@ -21,14 +21,14 @@ use Rattle.walk.proofs.follow.Lts as lts
 
 abbrev Inv-loop : tie.InvT-loop
 Inv-loop cost loops first second header limit around blocks last₀ i₀ last i =
-    (x : Unread) → Walkable (reading cost loops first second header limit x) around → Underway (reading cost loops first second header limit x) blocks (last .run) i
+    (x : Unread) → Walkable (walkColumns cost loops first second header limit x) around → Underway (walkColumns cost loops first second header limit x) blocks (last .run) i
 
 abbrev μ-loop : tie.MeasureT-loop
 μ-loop cost loops first second header limit around blocks last₀ i₀ last i = length blocks - i
 
 -- the routine of the columns that are read, and of others
 abbrev table : tie.Start Inv-loop μ-loop → Unread → Routine
-table s = let a = s .args in reading (a .cost .now) (a .loops .now) (a .first .now) (a .second .now) (a .header .now) (a .limit .now)
+table s = let a = s .args in walkColumns (a .cost .now) (a .loops .now) (a .first .now) (a .second .now) (a .header .now) (a .limit .now)
 
 -- where a step has answered
 abbrev entry : tie.After-step Inv-loop μ-loop → tie.Start Inv-loop μ-loop
@@ -51,7 +51,7 @@ module _ (c : tie.After-step Inv-loop μ-loop) (x : Unread) (S : Walkable (table
       let loop = c .before .before .before .before .loop in
       stop-at (table s x) (s .args .around .now) S (s .args .blocks .now) (loop .last .run) (loop .i) before-step (in-walk c) (c .step .result) step-is
 
--- the block that a step answers of
+-- the block that the step is about
 abbrev index : tie.After-step Inv-loop μ-loop → ℕ
 index c = c .before .before .before .before .loop .i
 
@@ -64,7 +64,7 @@ start-requires c κs = tt
 loop-holds : tie.Need-loop-holds Inv-loop μ-loop
 loop-holds c = λ x S.
     let s = c .before .before .before .before .before .before .before .before .before in
-    underway-first (table s x) (s .args .around .now) S (s .args .blocks .now) (c .start .result) (s .pre .some) (s .pre .first) (c .start .ensures .0) (c .start .ensures .1)
+    underway-first (table s x) (s .args .around .now) S (s .args .blocks .now) (c .start .result) (s .pre .some) (s .pre .entry) (c .start .ensures .0) (c .start .ensures .1)
 
 mul-step : tie.Need-mul-step Inv-loop μ-loop
 mul-step c = search needs

@@ -1,4 +1,4 @@
-use Rattle.walk.specs.Step.{Walkable, Unread, reading}
+use Rattle.walk.specs.Step.{Walkable, Unread, walkColumns}
 use Rattle.walk.specs.declared.Entry.the-variants.{Entered}
 use Rattle.wcet.specs.Table.{Routine}
 use lib.ListN.{length}
@@ -15,7 +15,7 @@ abbrev unread : tie.Start → Unread
 unread s = record { figures = s .args .figure .now; parents = s .args .parent .now; multipliers = s .args .multiplier .now }
 
 abbrev table : tie.Start → Routine
-table s = let a = s .args in reading (a .cost .now) (a .loops .now) (a .first .now) (a .second .now) (a .header .now) (a .limit .now) (unread s)
+table s = let a = s .args in walkColumns (a .cost .now) (a .loops .now) (a .first .now) (a .second .now) (a .header .now) (a .limit .now) (unread s)
 
 entered : (c : tie.After-enum-told2) → c .before .before .first-block .result ≡ Entered
 entered c = search needs
@@ -62,8 +62,8 @@ returns-4 c = search reply-not-entry
 follow-requires : tie.Need-follow-requires
 follow-requires c κs =
     let s = c .before .before .before .before .before .before .before .before .before .before .before .before .before .before .before .before .before in
-    let first = starts (length (s .args .cost .now)) (s .args .blocks .now) (sym (c .before .before .before .before .first-block .ensures) ∙ entered (c .before .before)) in
-    record { unread = unread s; walkable = walkable c; some = first .0; short = first .1; first = first .2 }
+    let entered-at = starts (length (s .args .cost .now)) (s .args .blocks .now) (sym (c .before .before .before .before .first-block .ensures) ∙ entered (c .before .before)) in
+    record { unread = unread s; walkable = walkable c; some = entered-at .0; short = entered-at .1; entry = entered-at .2 }
 
 returns-5 : tie.Need-returns-5
 returns-5 c = search (reply-follow, c .follow .ensures (unread (c .before .before .before .before .before .before .before .before .before .before .before .before .before .before .before .before .before .before)) (walkable (c .before)))

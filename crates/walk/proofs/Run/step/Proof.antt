@@ -4,8 +4,8 @@ use mathlib.Core.Path.{_≡_, sym, _∙_}
 use borrow.Author.Tests.{lt-ltb, le-ltb}
 use lib.ListN.{length}
 use Rattle.wcet.specs.Table.{Routine}
-use Rattle.walk.specs.Step.{stateOf, Walkable, Standing, Unread, reading}
-use Rattle.counts.specs.Counts.{countIn}
+use Rattle.walk.specs.Step.{stateOf, Walkable, Standing, Unread, walkColumns}
+use Rattle.counts.specs.Counts.{countWords, countIn}
 use Rattle.walk.proofs.Steps.{OnEdge, on-edge, InStep, in-step, visitsTo, visits-found, limit-next, counts-next, step-refused, step-over-limit, step-moved}
 use borrow.Author.Needs.{needs}
 use Rattle.walk.proofs.Run.step.Statement.{statement}
@@ -25,9 +25,9 @@ counted c = c .before .before .before .before .before .before
 
 -- the routine of the columns that are read, and of others
 abbrev table : tie.Start → Unread → Routine
-table s = let a = s .args in reading (a .cost .now) (a .loops .now) (a .first .now) (a .second .now) (a .header .now) (a .limit .now)
+table s = let a = s .args in walkColumns (a .cost .now) (a .loops .now) (a .first .now) (a .second .now) (a .header .now) (a .limit .now)
 
-size : (s : tie.Start) → length (s .args .t1 .counts) ≡ 16
+size : (s : tie.Start) → length (s .args .t1 .counts) ≡ countWords
 size s = search needs
 
 told : (c : tie.After-enum-told) → c .before .before .edge-answer .result ≡ Moved

@@ -1,0 +1,86 @@
+-- A number that is written in decimal digits is read as that number.
+-- Assumes nothing.
+use mathlib.Core.Path.{_≡_, refl, sym, _∙_}
+use mathlib.Core.Bool.{Bool, true, false, cond, and-true, and-eq-true-iff}
+use mathlib.Core.List.{List, [], _∷_}
+use Prim.Native.Nat.{ℕ, zero, suc, _+_, _-_, _*_, _/_, _%_, _^_, _<_, _≤_}
+use native.Mathlib.Omega.{arith}
+use native.Mathlib.Decide.{ℕ-discrete}
+use borrow.Author.Tests.{leb-true, le-leb, ltb-true, ltb-false, ne-eqb}
+use lib.ListN.{length, getD}
+use lib.IntN.{pos, negsuc}
+use lib.Dec.{leb, ltb, leb·zero}
+use Rattle.numbers.specs.Number.{digit, digits, numeral, decimal, natural, integer, numeralIn, numeralOf}
+use Rattle.numbers.specs.declared.Value.the-variants.{Number}
+use Rattle.numbers.specs.declared.SignedValue.the-variants.{Number as Signed}
+
+-- what holds of the digits of n in front of s, by cases on n < 10
+module _ (P : ℕ → ℕ → List ℕ → List ℕ → Type 0) (one : (n : ℕ) (s : List ℕ) → n < 10 → (k : ℕ) → P (suc k) n s ((48 + n) ∷ s)) (more : (k n : ℕ) (s t : List ℕ) → 10 ≤ n → P k (n / 10) ((48 + n % 10) ∷ s) t → P (suc k) n s t) where
+  by-digits : (k n : ℕ) (s : List ℕ) → n < k → P k n s (numeralIn k n s)
+  unfolding numeralIn
+  by-digits zero n s h = absurd (omega arith)
+  by-digits (suc k) n s h = go (ltb n 10) refl (λ l. by-digits k (n / 10) ((48 + n % 10) ∷ s) l)
+    where
+      go : (b : Bool) → ltb n 10 ≡ b → (n / 10 < k → P k (n / 10) ((48 + n % 10) ∷ s) (numeralIn k (n / 10) ((48 + n % 10) ∷ s))) → P (suc k) n s (cond b ((48 + n) ∷ s) (numeralIn k (n / 10) ((48 + n % 10) ∷ s)))
+      go true e ih = one n s (ltb-true n 10 e) k
+      go false e ih = let l : 10 ≤ n = ltb-false n 10 e in more k n s (numeralIn k (n / 10) ((48 + n % 10) ∷ s)) l (ih (omega arith))
+
+-- the digits write n, they are digits, and they do not start with 0 unless n is 0
+pub record Numeral (k n : ℕ) (s t : List ℕ) : Type 0 where
+  pub value : decimal 0 t ≡ decimal n s
+  pub digit : digits t ≡ digits s
+  pub some : 0 < length t
+  pub first : 0 < n → getD t 0 0 ≡ 48 → ⊥
+
+is-numeral : (n : ℕ) → Numeral (suc n) n [] (numeralOf n)
+unfolding numeralOf decimal digits
+is-numeral n = by-digits Numeral one more (suc n) n [] (omega arith)
+  where
+    one : (n : ℕ) (s : List ℕ) → n < 10 → (k : ℕ) → Numeral (suc k) n s ((48 + n) ∷ s)
+    one n s h k =
+        let e : 0 * 10 + (48 + n - 48) ≡ n = omega arith in
+        record { value = rw e; digit = rw (le-leb 48 (48 + n) (omega arith), le-leb (48 + n) 57 (omega arith)); some = omega arith; first = λ p q. omega arith }
+
+    more : (k n : ℕ) (s t : List ℕ) → 10 ≤ n → Numeral k (n / 10) ((48 + n % 10) ∷ s) t → Numeral (suc k) n s t
+    more k n s t h r =
+        let e : n / 10 * 10 + (48 + n % 10 - 48) ≡ n = omega arith in
+        record { value = r .value ∙ rw e; digit = r .digit ∙ rw (le-leb 48 (48 + n % 10) (omega arith), le-leb (48 + n % 10) 57 (omega arith)); some = r .some; first = λ p. r .first (omega arith) }
+
+-- digits with no leading zero say their number
+digits-say : (t : List ℕ) (greatest : ℕ) → digits t ≡ true → 0 < length t → (getD t 0 0 ≡ 48 → ⊥) → decimal 0 t ≤ greatest → Number (decimal 0 t) ≡ natural greatest t
+unfolding natural numeral digits
+digits-say [] greatest d h f l = absurd (omega arith)
+digits-say (b ∷ []) greatest d h f l = rw (sym (and-true (digit b)) ∙ d, le-leb (decimal 0 (b ∷ [])) greatest l)
+digits-say (b ∷ c ∷ s) greatest d h f l = rw (ne-eqb b 48 f, d, le-leb (decimal 0 (b ∷ c ∷ s)) greatest l)
+
+zero-back : (greatest : ℕ) → natural greatest (numeralOf 0) ≡ Number 0
+unfolding numeralOf numeralIn natural numeral decimal
+zero-back greatest = rw leb·zero
+
+-- THEOREM: a number within its width reads back.
+pub natural-back : (greatest n : ℕ) → n ≤ greatest → natural greatest (numeralOf n) ≡ Number n
+unfolding decimal digits
+natural-back greatest n l = go (ℕ-discrete n 0)
+  where
+    r : Numeral (suc n) n [] (numeralOf n)
+    r = is-numeral n
+
+    go : Dec (n ≡ 0) → natural greatest (numeralOf n) ≡ Number n
+    go (yes z) = rw z (zero-back greatest)
+    go (no z) = sym (digits-say (numeralOf n) greatest (r .digit) (r .some) (r .first (omega arith)) (rw (r .value) l)) ∙ rw (r .value)
+
+-- the same of signed numbers
+pub positive-back : (n : ℕ) → n ≤ 2 ^ 63 - 1 → integer (numeralOf n) ≡ Signed (pos n)
+unfolding integer digits
+positive-back n l = plain (numeralOf n) (natural-back (2 ^ 63 - 1) n l) (is-numeral n)
+  where
+    plain : (t : List ℕ) → natural (2 ^ 63 - 1) t ≡ Number n → Numeral (suc n) n [] t → integer t ≡ Signed (pos n)
+    plain [] q r = absurd (omega (arith, r .some))
+    plain (b ∷ t) q r =
+        let d = and-eq-true-iff (digit b) (digits t) .0 (r .digit) .0 in
+        let h : 48 ≤ b = leb-true 48 b (and-eq-true-iff (leb 48 b) (leb b 57) .0 d .0) in
+        rw (ne-eqb b 45 (λ z. omega arith), q)
+
+pub negative-back : (n : ℕ) → suc n ≤ 2 ^ 63 → integer (45 ∷ numeralOf (suc n)) ≡ Signed (negsuc n)
+unfolding integer
+negative-back n l = rw (natural-back (2 ^ 63) (suc n) l)
