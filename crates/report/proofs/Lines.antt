@@ -1,4 +1,4 @@
--- Lines: what is written behind what, and the digits of a number one by one. Assumes nothing.
+-- Lines: what is written after what, and the digits of a number one by one. Assumes nothing.
 use mathlib.Core.Path.{_≡_, refl, sym, _∙_, ap}
 use mathlib.Core.Bool.{Bool, true, false, cond}
 use mathlib.Core.List.{List, [], _∷_, _++_, append-nil, append-assoc}
@@ -13,8 +13,8 @@ use mir.Val.{Fits, SFits}
 use lib.ListN.{length, length-append, getD, take, set}
 use lib.Seq.{length-take-le, take-all, take-suc, take-suc-set}
 use Rattle.integers.proofs.Laws.{ints, diff}
-use Rattle.csv.specs.Write.{numeralIn, numeralOf}
-use Rattle.report.specs.Line.{stageWord, integerOf, lineOf, textOf, Room, Wrote, Ready}
+use Rattle.numbers.specs.Number.{numeralIn, numeralOf}
+use Rattle.report.specs.Line.{stageWord, integerOf, lineOf, textOf, lineRoom, Room, Wrote, Ready}
 use Rattle.report.specs.declared.Stage.{Stage}
 use Rattle.report.specs.declared.Stage.the-variants.{Setting, Blocks, Loops, Table}
 use Rattle.report.specs.declared.Outcome.{Outcome}
@@ -61,7 +61,7 @@ numeral-short (suc k) n h = go (ltb n 10) refl (numeral-short k (n / 10))
     go true e ih = rw (numeral-one n (ltb-true n 10 e)) (omega arith)
     go false e ih = rw (numeral-more n (ltb-false n 10 e), length-append (numeralOf (n / 10)) ((48 + n % 10) ∷ [])) (omega (arith, ih (omega arith)))
 
--- ---- what is written behind what
+-- ---- what is written after what
 
 pub byte-text : (l : Line) (b : ℕ) → l .len < length (l .bytes) → take (l .len + 1) (set (l .bytes) (l .len) b) ≡ textOf l ++ b ∷ []
 byte-text l b h = rw (add-one (l .len)) (take-suc-set (l .bytes) (l .len) b h)
@@ -69,23 +69,23 @@ byte-text l b h = rw (add-one (l .len)) (take-suc-set (l .bytes) (l .len) b h)
     add-one : (n : ℕ) → n + 1 ≡ suc n
     add-one n = omega arith
 
--- nothing, and one word behind another
+-- nothing, and one word after another
 pub wrote-none : (l : Line) → Wrote l [] l
 wrote-none l = record { size = omega arith; text = sym (append-nil (textOf l)) }
 
 pub wrote-both : {l m r : Line} (v w : List ℕ) → Wrote l v m → Wrote m w r → Wrote l (v ++ w) r
 wrote-both {l} v w a b = record { size = rw (length-append v w) (omega (arith, a .size, b .size)); text = b .text ∙ ap (λ (s : List ℕ). s ++ w) (a .text) ∙ append-assoc (textOf l) v w }
 
--- the same word in other words
+-- equal words need the same room
 pub room-as : (l : Line) {v w : List ℕ} → w ≡ v → Room l w → Room l v
 room-as l e R = let same = ap (λ (s : List ℕ). length s) e in omega (arith, same)
 
--- a first byte, and what comes behind it
+-- a first byte, and what comes after it
 module _ (l : Line) {w : List ℕ} {b : ℕ} {v : List ℕ} (e : w ≡ b ∷ v) (R : Room l w) where
   whole : length w ≡ suc (length v)
   whole = ap (λ (s : List ℕ). length s) e
 
-  pub room-start : l .len + 1 ≤ 64
+  pub room-start : l .len + 1 ≤ lineRoom
   room-start = omega (arith, whole)
 
   pub room-rest : {m : Line} → Wrote l (b ∷ []) m → Room m v
@@ -106,12 +106,12 @@ module _ (l : Line) (n : ℕ) (h : 10 ≤ n) (R : Room l (numeralOf n)) where
   pub room-last : {m : Line} → Wrote l (numeralOf (n / 10)) m → Room m ((48 + n % 10) ∷ [])
   room-last w = omega (arith, both, w .size)
 
--- a word under way, byte i of it being next
+-- a word whose first i bytes are written
 module _ {l m : Line} (w : List ℕ) (i : ℕ) (h : i < length w) (W : Wrote l (take i w) m) where
   so-far : length (take i w) ≡ i
   so-far = length-take-le i w (omega arith)
 
-  pub room-next : Room l w → m .len + 1 ≤ 64
+  pub room-next : Room l w → m .len + 1 ≤ lineRoom
   room-next R = omega (arith, so-far, W .size)
 
   pub word-more : {r : Line} → Wrote m (getD w i 0 ∷ []) r → Wrote l (take (i + 1) w) r
@@ -178,7 +178,7 @@ integer-short (pos n) f = omega (arith, numeral-short 18 n (omega (arith, f .sfi
 integer-short (negsuc n) f = omega (arith, numeral-short 18 (suc n) (omega (arith, f .sfits)))
 
 -- what is written on an empty line is the line
-pub ready : {l r : Line} (w : List ℕ) → l .len ≡ 0 → Wrote l w r → r .len ≤ 64 → Ready w r
+pub ready : {l r : Line} (w : List ℕ) → l .len ≡ 0 → Wrote l w r → r .len ≤ lineRoom → Ready w r
 ready {l} w z W h = record { size = h; text = W .text ∙ ap (λ (k : ℕ). take k (l .bytes) ++ w) z }
 
 pub told : {o : Outcome} {r : Line} (p : Outcome) → o ≡ p → Ready (lineOf p) r → Ready (lineOf o) r

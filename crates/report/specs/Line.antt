@@ -7,7 +7,7 @@ use mathlib.Core.Path.{_≡_}
 use mathlib.Core.List.{List, [], _∷_, _++_}
 use lib.IntN.{ℤ, pos, negsuc}
 use lib.ListN.{length, take}
-use Rattle.csv.specs.Write.{numeralOf}
+use Rattle.numbers.specs.Number.{numeralOf}
 use Rattle.report.specs.declared.Stage.{Stage}
 use Rattle.report.specs.declared.Stage.the-variants.{Setting, Blocks, Loops, Table}
 use Rattle.report.specs.declared.Outcome.{Outcome}
@@ -37,13 +37,17 @@ unfoldable pub lineOf : Outcome → List ℕ
 lineOf (Accepted bound) = bytes "accepted " ++ integerOf bound ++ 10 ∷ []
 lineOf (Refused stage number place) = bytes "refused " ++ stageWord stage ++ 32 ∷ numeralOf number ++ 32 ∷ numeralOf place ++ 10 ∷ []
 
--- the bytes that a line under way holds
+-- the bytes that stand on a line
 abbrev pub textOf : Line → List ℕ
 textOf l = take (l .len) (l .bytes)
 
--- the line l has room for w; and r is l with w behind it
+-- the bytes of a line's buffer
+abbrev pub lineRoom : ℕ
+lineRoom = 64
+
+-- the line l has room for w; and r is l with w after it
 abbrev pub Room : Line → List ℕ → Type 0
-Room l w = l .len + length w ≤ 64
+Room l w = l .len + length w ≤ lineRoom
 
 pub record Wrote (l : Line) (w : List ℕ) (r : Line) : Type 0 where
   pub size : r .len ≡ l .len + length w
@@ -51,5 +55,5 @@ pub record Wrote (l : Line) (w : List ℕ) (r : Line) : Type 0 where
 
 -- the line is w and no more
 pub record Ready (w : List ℕ) (r : Line) : Type 0 where
-  pub size : r .len ≤ 64
+  pub size : r .len ≤ lineRoom
   pub text : textOf r ≡ w

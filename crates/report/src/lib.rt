@@ -1,9 +1,9 @@
-// What the checking program says of its input: the outcome, and the line that it prints for it.
+// What the checking program says of its input: an outcome, and the line that it prints for it.
 ghost use mathlib.Core.Path.{_≡_};
 ghost use mathlib.Core.List.{_∷_, []};
 ghost use Prim.Native.Nat.{_≤_};
 ghost use lib.IntN.{natAbs};
-ghost use Rattle.csv.specs.Write.{numeralOf};
+ghost use Rattle.numbers.specs.Number.{numeralOf};
 ghost use Rattle.report.specs.Line.{stageWord, integerOf, lineOf, Room, Wrote, Ready};
 
 pub enum Stage {
@@ -23,13 +23,16 @@ pub enum Outcome {
     },
 }
 
-// A line under way, or ready: its first `len` bytes.
+// Bytes of the longest line, and some to spare.
+const LINE_ROOM: usize = 64;
+
+// A line, or the start of one: the first `len` bytes.
 pub struct Line {
-    pub bytes: [u8; 64],
+    pub bytes: [u8; LINE_ROOM],
     pub len: usize,
 }
 
-// An integer without its sign.
+// The magnitude of an integer.
 fn magnitude(z: i64) -> u64
     ensures { λ r. ⌜ r ≡ natAbs z ⌝ }
 {
@@ -45,7 +48,7 @@ impl Line {
         ensures { λ r. ⌜ r .len ≡ 0 ⌝ }
     {
         Line {
-            bytes: [0u8; 64],
+            bytes: [0u8; LINE_ROOM],
             len: 0,
         }
     }

@@ -2,7 +2,6 @@
 use mathlib.Core.Path.{_≡_, refl, sym, _∙_, ap}
 use mathlib.Core.Bool.{Bool, true, false}
 use mathlib.Core.List.{List, [], _∷_, map}
-use mathlib.Core.Option.{Option, none, some}
 use Prim.Native.Nat.{ℕ, _≤_, _<_}
 use native.Mathlib.Omega.{arith}
 use borrow.Author.Tests.{ne-eqb}
@@ -11,23 +10,28 @@ use mir.Val.{SFits, toZ, ofZ}
 use mir.Facts.{toZ-ofZ}
 use lib.IntN.{ℤ, pos}
 use lib.ListN.{length, length-map, take, replicate}
-use Rattle.lists.specs.Search.{firstBelow}
 use Rattle.wcet.specs.Table.{Routine}
-use Rattle.wcet.specs.Rules.{Reply as Answer, accepted, refused, Rule, refusedAt, check, structureRules, tableRules, bound, tableReply}
 use Rattle.nesting.specs.Columns.{routine}
-use Rattle.rows.specs.Row.{costOf, innermostOf, firstOf, secondOf, figureOf, parentOf, headOf, limitOf, multiplierOf}
+use Rattle.limits.specs.Limits.{mostBlocks, mostLoops}
+use Rattle.rows.specs.Row.{blockFields, loopFields, costOf, innermostOf, firstOf, secondOf, figureOf, parentOf, loopHeaderOf, limitOf, multiplierOf}
+use Rattle.rows.specs.Judge.{judgeBlock, judgeLoop}
+use Rattle.rows.specs.declared.BlockRow.{BlockRow}
+use Rattle.rows.specs.declared.LoopRow.{LoopRow}
+use Rattle.rows.proofs.Taken.{block-taken, loop-taken}
 use Rattle.tables.specs.Table as table
-use Rattle.tables.specs.Table.{End, Reading, layoutOf, tableOf}
+use Rattle.tables.specs.Table.{End, Reading}
+use Rattle.tables.proofs.Copies.{table-fit}
 use Rattle.tables.specs.Columns.{over, replyBy, replyOf, acceptedBy, BlockColumns, blocks, BlocksRead, LoopColumns, loops, LoopsRead}
 use Rattle.tables.specs.Columns as columns
-use Rattle.rows.specs.declared.Row.{Row}
-use Rattle.rows.specs.declared.Shape.the-variants.{Blocks as BlockRows, Loops as LoopRows}
 use Rattle.tables.specs.declared.ReadReply.{ReadReply}
 use Rattle.tables.specs.declared.ReadReply.the-variants as read
-use Rattle.rolkeyda.specs.declared.Reply.{Reply}
-use Rattle.rolkeyda.specs.Replies.{ofTables, TablesReplied}
-use Rattle.rolkeyda.proofs.Ranges.{table-short}
-use Rattle.stages.specs.Stages.{headerOf, ofAnswer, ofEnd, ofReading, tableStage, hasBlocks, hasLoops, withLoops, routineOf, loopsStage, blocksStage, settingStage, outcomeOf, wantedBy}
+use Rattle.certificate.specs.declared.TableReply.{TableReply}
+use Rattle.certificate.specs.declared.TableReply.the-variants as certificate
+use Rattle.nesting.specs.declared.StructureFault.{StructureFault}
+use Rattle.nesting.specs.Answers.{refusal}
+use Rattle.certificate.specs.Answers.{tableMeaning}
+use Rattle.wcet.specs.Claim.{Checked}
+use Rattle.stages.specs.Stages.{headerOf, ofAnswer, ofEnd, ofReading, blockReading, loopReading, tableStage, hasBlocks, hasLoops, withLoops, routineOf, loopsStage, blocksStage, settingStage, outcomeOf, wantedBy}
 use Rattle.report.specs.declared.Stage.{Stage}
 use Rattle.report.specs.declared.Stage.the-variants.{Blocks, Loops, Table}
 use Rattle.stages.specs.declared.Files.{Files}
@@ -45,130 +49,109 @@ take-over (v ∷ vs) (c ∷ column) h = ap (λ xs. v ∷ xs) (take-over vs colum
 
 -- ---- the last stage
 
--- no rule has the number 0, which is acceptance in a reply
-abbrev Numbered : List Rule → Type 0
-Numbered [] = Unit {0}
-Numbered (r ∷ rs) = (0 < r .number) × Numbered rs
+pub fault-told : {o : Outcome} (f g : StructureFault) → f ≡ g → o ≡ ofAnswer (refusal g) → o ≡ ofAnswer (refusal f)
+fault-told f g e t = rw e t
 
-numbered : (rs : List Rule) (b : ℤ) (n p : ℕ) → Numbered rs → check rs (accepted b) ≡ refused n p → 0 < n
-unfolding check
-numbered [] b n p N e = absurd (let z : _≡_ {A = ℕ} 0 1 = cc in omega arith)
-numbered (r ∷ rs) b n p N e = go (firstBelow (r .places) (r .broken)) e (numbered rs b n p (N .1))
-  where
-    go : (o : Option ℕ) → refusedAt {A = ℤ} (r .number) o (check rs (accepted b)) ≡ refused n p → (check rs (accepted b) ≡ refused n p → 0 < n) → 0 < n
-    go (some q) e later = let same : r .number ≡ n = cc in omega (arith, N .0)
-    go none e later = later e
+pub reply-told : {o : Outcome} (f g : TableReply) → f ≡ g → o ≡ ofAnswer (tableMeaning g) → o ≡ ofAnswer (tableMeaning f)
+reply-told f g e t = rw e t
 
-table-numbered : (t : Routine) (n p : ℕ) → tableReply t ≡ refused n p → 0 < n
-unfolding tableReply tableRules structureRules
-table-numbered t n p e = numbered (tableRules t) (bound t) n p (omega arith, (omega arith, (omega arith, (omega arith, (omega arith, (omega arith, (omega arith, (omega arith, tt)))))))) e
+pub bound-told : {b : ℤ} (f : TableReply) → f ≡ certificate.Accepted b → SFits w64 b → Accepted (toZ w64 (ofZ w64 b)) ≡ ofAnswer (tableMeaning f)
+bound-told f e fits = rw (e, toZ-ofZ fits) refl
 
-module _ (t : Routine) (r : Reply) (T : TablesReplied t r) where
-  pub table-accepted : r .number ≡ 0 → SFits w64 (r .value) → Accepted (toZ w64 (ofZ w64 (r .value))) ≡ tableStage t
-  table-accepted z f = ap Accepted (toZ-ofZ f) ∙ go (tableReply t) refl (T .replied)
-    where
-      go : (x : Answer ℤ) → tableReply t ≡ x → r ≡ ofTables x → Accepted (r .value) ≡ ofAnswer x
-      go (accepted b) e q = ap (λ (y : Reply). Accepted (y .value)) q
-      go (refused n p) e q = absurd (let same : r .number ≡ n = ap (λ (y : Reply). y .number) q in omega (arith, table-numbered t n p e))
-
-  pub table-refused : {o : Outcome} → (r .number ≡ 0 → ⊥) → o ≡ Refused Table (r .number) (r .place) → o ≡ tableStage t
-  table-refused z e = e ∙ go (tableReply t) (T .replied)
-    where
-      go : (x : Answer ℤ) → r ≡ ofTables x → Refused Table (r .number) (r .place) ≡ ofAnswer x
-      go (accepted b) q = absurd (z (ap (λ (y : Reply). y .number) q))
-      go (refused n p) q = ap (λ (y : Reply). Refused Table (y .number) (y .place)) q
+pub table-told : (t : Routine) (r : TableReply) {o : Outcome} → Checked t (tableMeaning r) → o ≡ ofAnswer (tableMeaning r) → o ≡ tableStage t
+table-told t r C e = e ∙ ap ofAnswer (C .replied)
 
 -- ---- a text and its columns
 
 -- a text that is refused
-pub reading-refused : {o : Outcome} (x : Reading) {a : ReadReply} (stage : Stage) (behind : List Row → Outcome) (n p : ℕ) → a ≡ replyOf x → a ≡ read.Refused n p → o ≡ Refused stage n p → o ≡ ofReading stage behind x
-reading-refused x stage behind n p e q t = t ∙ go (x .end) (sym q ∙ e)
+pub reading-refused : {A : Type 0} {o : Outcome} (x : Reading A) {a : ReadReply} (stage : Stage) (next : List A → Outcome) (n p : ℕ) → a ≡ replyOf x → a ≡ read.Refused n p → o ≡ Refused stage n p → o ≡ ofReading stage next x
+reading-refused x stage next n p e q t = t ∙ go (x .end) (sym q ∙ e)
   where
-    go : (y : End) → read.Refused n p ≡ replyBy (length (x .rows)) y → Refused stage n p ≡ ofEnd stage (behind (x .rows)) y
+    go : (y : End) → read.Refused n p ≡ replyBy (length (x .rows)) y → Refused stage n p ≡ ofEnd stage (next (x .rows)) y
     go table.all f = absurd (let z : _≡_ {A = ℕ} 0 1 = cc in omega arith)
     go (table.refused m q) f = let number : n ≡ m = cc in let place : p ≡ q = cc in rw (number, place)
 
 -- a text that is taken, with m rows
-record Taken (x : Reading) (m : ℕ) : Type 0 where
+record Taken {A : Type 0} (x : Reading A) (m : ℕ) : Type 0 where
   end : x .end ≡ table.all
   count : m ≡ length (x .rows)
 
-taken : (x : Reading) {a : ReadReply} (m : ℕ) → a ≡ replyOf x → a ≡ read.Rows m → Taken x m
+taken : {A : Type 0} (x : Reading A) {a : ReadReply} (m : ℕ) → a ≡ replyOf x → a ≡ read.Rows m → Taken x m
 taken x m e q = go (x .end) refl (sym q ∙ e)
   where
     go : (y : End) → x .end ≡ y → read.Rows m ≡ replyBy (length (x .rows)) y → Taken x m
     go table.all z f = record { end = z; count = cc }
     go (table.refused n p) z f = absurd (let z : _≡_ {A = ℕ} 0 1 = cc in omega arith)
 
-module _ (x : Reading) (m : ℕ) (T : Taken x m) where
+module _ {A : Type 0} (x : Reading A) (m : ℕ) (T : Taken x m) where
   -- the first places of a column hold the values of the rows
-  column : {A : Type 0} (f : Row → A) (old : List A) {new part : List A} → length (x .rows) ≤ length old → new ≡ over (map f (columns.accepted x)) old → part ≡ take m new → part ≡ map f (x .rows)
+  column : {B : Type 0} (f : A → B) (old : List B) {new part : List B} → length (x .rows) ≤ length old → new ≡ over (map f (columns.accepted x)) old → part ≡ take m new → part ≡ map f (x .rows)
   column f old h e q =
       let n : m ≡ length (map f (x .rows)) = T .count ∙ sym (length-map (x .rows) f) in
       q ∙ ap (λ ys. take m ys) (e ∙ ap (λ (y : End). over (map f (acceptedBy (x .rows) y)) old) (T .end)) ∙ rw n (take-over (map f (x .rows)) old (omega (arith, length-map (x .rows) f)))
 
-  behind-rows : {o : Outcome} (stage : Stage) (behind : List Row → Outcome) → o ≡ behind (x .rows) → o ≡ ofReading stage behind x
-  behind-rows stage behind t = rw (T .end) t
+  after-rows : {o : Outcome} (stage : Stage) (next : List A → Outcome) → o ≡ next (x .rows) → o ≡ ofReading stage next x
+  after-rows stage next t = rw (T .end) t
 
 -- ---- the loops
 
 abbrev noLoops : LoopColumns
-noLoops = loops (replicate 64 0) (replicate 64 0) (replicate 64 0) (replicate 64 0)
+noLoops = loops (replicate mostLoops 0) (replicate mostLoops 0) (replicate mostLoops 0) (replicate mostLoops 0)
 
-module _ (header : Bool) (files : Files) (s : List ℕ) (costs innermost firsts seconds : List ℕ) (figures : List ℤ) where
-  abbrev text : Reading
-  text = tableOf (layoutOf LoopRows 64) header s
+module _ (headerRow : Bool) (files : Files) (s : List ℕ) (costs innermost firsts seconds : List ℕ) (figures : List ℤ) where
+  abbrev text : Reading LoopRow
+  text = loopReading headerRow s
 
-  abbrev routineWith : List Row → Routine
+  abbrev routineWith : List LoopRow → Routine
   routineWith = withLoops costs innermost firsts seconds figures
 
-  pub loops-unread : {o : Outcome} → hasLoops files ≡ false → o ≡ Refused Loops 107 2 → o ≡ loopsStage header files s routineWith
+  pub loops-unread : {o : Outcome} → hasLoops files ≡ false → o ≡ Refused Loops 107 2 → o ≡ loopsStage headerRow files s routineWith
   unfolding loopsStage
   loops-unread h e = rw h e
 
-  pub loops-refused : {o : Outcome} {a : ReadReply} {new : LoopColumns} → hasLoops files ≡ true → LoopsRead s header noLoops a new → (n p : ℕ) → o ≡ Refused Loops n p → a ≡ read.Refused n p → o ≡ loopsStage header files s routineWith
+  pub loops-refused : {o : Outcome} {a : ReadReply} {new : LoopColumns} → hasLoops files ≡ true → LoopsRead s headerRow noLoops a new → (n p : ℕ) → o ≡ Refused Loops n p → a ≡ read.Refused n p → o ≡ loopsStage headerRow files s routineWith
   unfolding loopsStage
   loops-refused h L n p t e = rw h (reading-refused text Loops (λ ls. tableStage (routineWith ls)) n p (L .reply) e t)
 
-  pub loops-taken : {o : Outcome} {a : ReadReply} {new : LoopColumns} → hasLoops files ≡ true → LoopsRead s header noLoops a new → (m : ℕ)
-      → {parents heads limits multipliers : List ℕ} → parents ≡ take m (new .parent) → heads ≡ take m (new .head) → limits ≡ take m (new .limit) → multipliers ≡ take m (new .multiplier)
-      → o ≡ tableStage (routine costs innermost firsts seconds figures parents heads limits multipliers) → a ≡ read.Rows m → o ≡ loopsStage header files s routineWith
+  pub loops-taken : {o : Outcome} {a : ReadReply} {new : LoopColumns} → hasLoops files ≡ true → LoopsRead s headerRow noLoops a new → (m : ℕ)
+      → {parents headers limits multipliers : List ℕ} → parents ≡ take m (new .parent) → headers ≡ take m (new .header) → limits ≡ take m (new .limit) → multipliers ≡ take m (new .multiplier)
+      → o ≡ tableStage (routine costs innermost firsts seconds figures parents headers limits multipliers) → a ≡ read.Rows m → o ≡ loopsStage headerRow files s routineWith
   unfolding loopsStage
   loops-taken h L m a b c d t e =
       let T : Taken text m = taken text m (L .reply) e in
-      let few : length (text .rows) ≤ 64 = omega (arith, table-short (layoutOf LoopRows 64) header s .rows) in
-      rw h (behind-rows text m T Loops (λ ls. tableStage (routineWith ls))
-      (rw (← column text m T parentOf (replicate 64 0) few (L .parent) a, ← column text m T headOf (replicate 64 0) few (L .head) b, ← column text m T limitOf (replicate 64 0) few (L .limit) c, ← column text m T multiplierOf (replicate 64 0) few (L .multiplier) d) t))
+      let few : length (text .rows) ≤ mostLoops = table-fit (judgeLoop mostLoops) mostLoops (λ k r w q. loop-taken mostLoops k r w q .1) loopFields headerRow s in
+      rw h (after-rows text m T Loops (λ ls. tableStage (routineWith ls))
+      (rw (← column text m T parentOf (replicate mostLoops 0) few (L .parent) a, ← column text m T loopHeaderOf (replicate mostLoops 0) few (L .header) b, ← column text m T limitOf (replicate mostLoops 0) few (L .limit) c, ← column text m T multiplierOf (replicate mostLoops 0) few (L .multiplier) d) t))
 
 -- ---- the blocks
 
 abbrev noBlocks : BlockColumns
-noBlocks = blocks (replicate 1024 0) (replicate 1024 0) (replicate 1024 0) (replicate 1024 0) (replicate 1024 (pos 0))
+noBlocks = blocks (replicate mostBlocks 0) (replicate mostBlocks 0) (replicate mostBlocks 0) (replicate mostBlocks 0) (replicate mostBlocks (pos 0))
 
-module _ (header : Bool) (files : Files) (s loops : List ℕ) where
-  abbrev block-text : Reading
-  block-text = tableOf (layoutOf BlockRows 1024) header s
+module _ (headerRow : Bool) (files : Files) (s loops : List ℕ) where
+  abbrev block-text : Reading BlockRow
+  block-text = blockReading headerRow s
 
-  abbrev behind : List Row → Outcome
-  behind bs = loopsStage header files loops (routineOf bs)
+  abbrev next : List BlockRow → Outcome
+  next bs = loopsStage headerRow files loops (routineOf bs)
 
-  pub blocks-unread : {o : Outcome} → hasBlocks files ≡ false → o ≡ Refused Blocks 107 1 → o ≡ blocksStage header files s loops
+  pub blocks-unread : {o : Outcome} → hasBlocks files ≡ false → o ≡ Refused Blocks 107 1 → o ≡ blocksStage headerRow files s loops
   unfolding blocksStage
   blocks-unread h e = rw h e
 
-  pub blocks-refused : {o : Outcome} {a : ReadReply} {new : BlockColumns} → hasBlocks files ≡ true → BlocksRead s header noBlocks a new → (n p : ℕ) → o ≡ Refused Blocks n p → a ≡ read.Refused n p → o ≡ blocksStage header files s loops
+  pub blocks-refused : {o : Outcome} {a : ReadReply} {new : BlockColumns} → hasBlocks files ≡ true → BlocksRead s headerRow noBlocks a new → (n p : ℕ) → o ≡ Refused Blocks n p → a ≡ read.Refused n p → o ≡ blocksStage headerRow files s loops
   unfolding blocksStage
-  blocks-refused h B n p t e = rw h (reading-refused block-text Blocks behind n p (B .reply) e t)
+  blocks-refused h B n p t e = rw h (reading-refused block-text Blocks next n p (B .reply) e t)
 
-  pub blocks-taken : {o : Outcome} {a : ReadReply} {new : BlockColumns} → hasBlocks files ≡ true → BlocksRead s header noBlocks a new → (m : ℕ)
+  pub blocks-taken : {o : Outcome} {a : ReadReply} {new : BlockColumns} → hasBlocks files ≡ true → BlocksRead s headerRow noBlocks a new → (m : ℕ)
       → {costs innermost firsts seconds : List ℕ} {figures : List ℤ} → costs ≡ take m (new .cost) → innermost ≡ take m (new .loops) → firsts ≡ take m (new .first) → seconds ≡ take m (new .second) → figures ≡ take m (new .figure)
-      → o ≡ loopsStage header files loops (withLoops costs innermost firsts seconds figures) → a ≡ read.Rows m → o ≡ blocksStage header files s loops
+      → o ≡ loopsStage headerRow files loops (withLoops costs innermost firsts seconds figures) → a ≡ read.Rows m → o ≡ blocksStage headerRow files s loops
   unfolding blocksStage
   blocks-taken h B m a b c d f t e =
       let T : Taken block-text m = taken block-text m (B .reply) e in
-      let few : length (block-text .rows) ≤ 1024 = omega (arith, table-short (layoutOf BlockRows 1024) header s .rows) in
-      rw h (behind-rows block-text m T Blocks behind
-      (rw (← column block-text m T costOf (replicate 1024 0) few (B .cost) a, ← column block-text m T innermostOf (replicate 1024 0) few (B .loops) b, ← column block-text m T firstOf (replicate 1024 0) few (B .first) c, ← column block-text m T secondOf (replicate 1024 0) few (B .second) d, ← column block-text m T figureOf (replicate 1024 (pos 0)) few (B .figure) f) t))
+      let few : length (block-text .rows) ≤ mostBlocks = table-fit (judgeBlock mostBlocks) mostBlocks (λ k r w q. block-taken mostBlocks k r w q .1 .0) blockFields headerRow s in
+      rw h (after-rows block-text m T Blocks next
+      (rw (← column block-text m T costOf (replicate mostBlocks 0) few (B .cost) a, ← column block-text m T innermostOf (replicate mostBlocks 0) few (B .loops) b, ← column block-text m T firstOf (replicate mostBlocks 0) few (B .first) c, ← column block-text m T secondOf (replicate mostBlocks 0) few (B .second) d, ← column block-text m T figureOf (replicate mostBlocks (pos 0)) few (B .figure) f) t))
 
 -- ---- the whole
 

@@ -12,12 +12,15 @@ use lib.Seq.{take-all}
 use Rattle.wcet.specs.Rules.{Reply, accepted, refused, tableReply}
 use Rattle.wcet.proofs.Bound.{wcet-bound}
 use Rattle.tables.specs.Table as table
-use Rattle.tables.specs.Table.{End, Reading, layoutOf, tableOf}
-use Rattle.rows.specs.declared.Layout.{Layout}
-use Rattle.rows.specs.declared.Row.{Row}
-use Rattle.rows.specs.declared.Shape.the-variants.{Blocks as BlockRows, Loops as LoopRows}
+use Rattle.tables.specs.Table.{End, Reading, tableOf}
+use Rattle.csv.specs.Grammar.{Record}
+use Rattle.limits.specs.Limits.{mostBlocks, mostLoops, mostTextBytes}
+use Rattle.rows.specs.Row.{Verdict, blockFields, loopFields}
+use Rattle.rows.specs.Judge.{judgeBlock, judgeLoop}
+use Rattle.rows.specs.declared.BlockRow.{BlockRow}
+use Rattle.rows.specs.declared.LoopRow.{LoopRow}
 use Rattle.report.specs.Line.{bytes}
-use Rattle.stages.specs.Stages.{same, headerOf, ofAnswer, ofEnd, ofReading, routineOf, tableStage, hasBlocks, hasLoops, loopsStage, blocksStage, settingStage, outcomeOf, wantedBy, Certified, FirstBytes, InTurn}
+use Rattle.stages.specs.Stages.{same, headerOf, ofAnswer, ofEnd, ofReading, blockReading, loopReading, settingRoom, textRoom, routineOf, tableStage, hasBlocks, hasLoops, loopsStage, blocksStage, settingStage, outcomeOf, wantedBy, Certified, FirstBytes, InTurn}
 use Rattle.stages.specs.declared.Header.{Header}
 use Rattle.stages.specs.declared.Header.the-variants.{Absent, Present, Wrong}
 use Rattle.stages.specs.declared.Files.{Files}
@@ -38,58 +41,58 @@ same-first (suc k) [] w h = refl
 same-first (suc k) (b ∷ s) [] h = refl
 same-first (suc k) (b ∷ s) (c ∷ w) h = ap (λ (x : Bool). eqb b c && x) (same-first k s w (omega arith))
 
-header-first : (s : List ℕ) → headerOf (take 16 s) ≡ headerOf s
+header-first : (s : List ℕ) → headerOf (take settingRoom s) ≡ headerOf s
 unfolding headerOf
 header-first s = rw (
-  same-first 16 s (bytes "header=absent") (omega arith),
-  same-first 16 s (bytes "header=absent" ++ 10 ∷ []) (omega arith),
-  same-first 16 s (bytes "header=present") (omega arith),
-  same-first 16 s (bytes "header=present" ++ 10 ∷ []) (omega arith),
+  same-first settingRoom s (bytes "header=absent") (omega arith),
+  same-first settingRoom s (bytes "header=absent" ++ 10 ∷ []) (omega arith),
+  same-first settingRoom s (bytes "header=present") (omega arith),
+  same-first settingRoom s (bytes "header=present" ++ 10 ∷ []) (omega arith),
 )
 
 -- a text that is too long is so by its first bytes
-text-first : (t : Layout) (header : Bool) (s : List ℕ) → tableOf t header (take 65537 s) ≡ tableOf t header s
+text-first : {A : Type 0} (count : ℕ) (judge : ℕ → Record → Verdict A) (headerRow : Bool) (s : List ℕ) → tableOf count judge headerRow (take textRoom s) ≡ tableOf count judge headerRow s
 unfolding tableOf
-text-first t header s = go (leb (length s) 65536) refl
+text-first count judge headerRow s = go (leb (length s) mostTextBytes) refl
   where
-    go : (b : Bool) → leb (length s) 65536 ≡ b → tableOf t header (take 65537 s) ≡ tableOf t header s
-    go true e = ap (tableOf t header) (take-all 65537 s (omega (arith, leb-true (length s) 65536 e)))
+    go : (b : Bool) → leb (length s) mostTextBytes ≡ b → tableOf count judge headerRow (take textRoom s) ≡ tableOf count judge headerRow s
+    go true e = ap (tableOf count judge headerRow) (take-all textRoom s (omega (arith, leb-true (length s) mostTextBytes e)))
     go false e =
-        let l : 65536 < length s = leb-false (length s) 65536 e in
-        let long : leb (length (take 65537 s)) 65536 ≡ false = lt-leb (length (take 65537 s)) 65536 (omega (arith, length-take 65537 s)) in
+        let l : mostTextBytes < length s = leb-false (length s) mostTextBytes e in
+        let long : leb (length (take textRoom s)) mostTextBytes ≡ false = lt-leb (length (take textRoom s)) mostTextBytes (omega (arith, length-take textRoom s)) in
         rw (e, long)
 
--- THEOREM: buffers of 16 and of 65,537 bytes are enough.
+-- THEOREM: the program's buffers are large enough.
 pub first-bytes : (setting : List ℕ) (files : Files) (blocks loops : List ℕ) → FirstBytes setting files blocks loops
 unfolding outcomeOf blocksStage loopsStage
 first-bytes setting files blocks loops = rw (header-first setting) (go (headerOf setting))
   where
-    stage : (header : Bool) → blocksStage header files (take 65537 blocks) (take 65537 loops) ≡ blocksStage header files blocks loops
-    stage header = rw (text-first (layoutOf BlockRows 1024) header blocks, text-first (layoutOf LoopRows 64) header loops)
+    stage : (headerRow : Bool) → blocksStage headerRow files (take textRoom blocks) (take textRoom loops) ≡ blocksStage headerRow files blocks loops
+    stage headerRow = rw (text-first blockFields (judgeBlock mostBlocks) headerRow blocks, text-first loopFields (judgeLoop mostLoops) headerRow loops)
 
-    go : (h : Header) → settingStage h files (take 65537 blocks) (take 65537 loops) ≡ settingStage h files blocks loops
+    go : (h : Header) → settingStage h files (take textRoom blocks) (take textRoom loops) ≡ settingStage h files blocks loops
     go Absent = stage false
     go Present = stage true
     go Wrong = refl
 
 -- ---- an accepted line
 
--- an acceptance behind a text comes from its rows
-record Behind (x : Reading) (behind : List Row → Outcome) (b : ℤ) : Type 0 where
+-- an acceptance after a text comes from its rows
+record Accepts {A : Type 0} (x : Reading A) (next : List A → Outcome) (b : ℤ) : Type 0 where
   read : x ≡ record { rows = x .rows; end = table.all }
-  accepts : behind (x .rows) ≡ Accepted b
+  accepts : next (x .rows) ≡ Accepted b
 
-behind-text : (x : Reading) (stage : Stage) (behind : List Row → Outcome) (b : ℤ) → ofReading stage behind x ≡ Accepted b → Behind x behind b
-behind-text x stage behind b e = go (x .end) refl e
+accepts-text : {A : Type 0} (x : Reading A) (stage : Stage) (next : List A → Outcome) (b : ℤ) → ofReading stage next x ≡ Accepted b → Accepts x next b
+accepts-text x stage next b e = go (x .end) refl e
   where
-    go : (y : End) → x .end ≡ y → ofEnd stage (behind (x .rows)) y ≡ Accepted b → Behind x behind b
+    go : (y : End) → x .end ≡ y → ofEnd stage (next (x .rows)) y ≡ Accepted b → Accepts x next b
     go table.all f q = record { read = ap (λ (y : End). record { rows = x .rows; end = y }) f; accepts = q }
     go (table.refused n p) f q = absurd (let z : _≡_ {A = ℕ} 0 1 = cc in omega arith)
 
 -- a file that is there
-behind-file : (has : Bool) (x : Reading) (stage : Stage) (behind : List Row → Outcome) (n p : ℕ) (b : ℤ) → cond has (ofReading stage behind x) (Refused stage n p) ≡ Accepted b → Behind x behind b
-behind-file true x stage behind n p b e = behind-text x stage behind b e
-behind-file false x stage behind n p b e = absurd (let z : _≡_ {A = ℕ} 0 1 = cc in omega arith)
+accepts-file : {A : Type 0} (has : Bool) (x : Reading A) (stage : Stage) (next : List A → Outcome) (n p : ℕ) (b : ℤ) → cond has (ofReading stage next x) (Refused stage n p) ≡ Accepted b → Accepts x next b
+accepts-file true x stage next n p b e = accepts-text x stage next b e
+accepts-file false x stage next n p b e = absurd (let z : _≡_ {A = ℕ} 0 1 = cc in omega arith)
 
 table-accepts : (x : Reply ℤ) (b : ℤ) → ofAnswer x ≡ Accepted b → x ≡ accepted b
 table-accepts (accepted c) b e = let same : c ≡ b = cc in ap accepted same
@@ -100,16 +103,16 @@ pub certified : (setting : List ℕ) (files : Files) (blocks loops : List ℕ) (
 unfolding outcomeOf blocksStage loopsStage
 certified setting files blocks loops b e = go (headerOf setting) refl e
   where
-    stage : (header : Bool) → headerOf setting ≡ cond header Present Absent → blocksStage header files blocks loops ≡ Accepted b → Certified setting blocks loops b
-    stage header h q =
-        let x = tableOf (layoutOf BlockRows 1024) header blocks in
-        let y = tableOf (layoutOf LoopRows 64) header loops in
-        let B = behind-file (hasBlocks files) x Blocks (λ bs. loopsStage header files loops (routineOf bs)) 107 1 b q in
-        let L = behind-file (hasLoops files) y Loops (λ ls. tableStage (routineOf (x .rows) ls)) 107 2 b (B .accepts) in
+    stage : (headerRow : Bool) → headerOf setting ≡ cond headerRow Present Absent → blocksStage headerRow files blocks loops ≡ Accepted b → Certified setting blocks loops b
+    stage headerRow h q =
+        let x = blockReading headerRow blocks in
+        let y = loopReading headerRow loops in
+        let B = accepts-file (hasBlocks files) x Blocks (λ bs. loopsStage headerRow files loops (routineOf bs)) 107 1 b q in
+        let L = accepts-file (hasLoops files) y Loops (λ ls. tableStage (routineOf (x .rows) ls)) 107 2 b (B .accepts) in
         let t = routineOf (x .rows) (y .rows) in
         let replied : tableReply t ≡ accepted b = table-accepts (tableReply t) b (L .accepts) in
         record {
-          header = header;
+          header-row = headerRow;
           said = h;
           block-rows = x .rows;
           loop-rows = y .rows;
@@ -137,11 +140,11 @@ in-turn-blocks : (h : Header) (files : Files) (blocks loops : List ℕ) → hasB
 unfolding blocksStage loopsStage
 in-turn-blocks h files blocks loops has e = go h e
   where
-    stage : (header : Bool) → wantedBy (blocksStage header OnlyBlocks blocks []) ≡ Nothing → blocksStage header files blocks loops ≡ blocksStage header OnlyBlocks blocks []
-    stage header q = rw has (ended (tableOf (layoutOf BlockRows 1024) header blocks .end) q)
+    stage : (headerRow : Bool) → wantedBy (blocksStage headerRow OnlyBlocks blocks []) ≡ Nothing → blocksStage headerRow files blocks loops ≡ blocksStage headerRow OnlyBlocks blocks []
+    stage headerRow q = rw has (ended (blockReading headerRow blocks .end) q)
       where
         ended : (y : End) → wantedBy (ofEnd Blocks (Refused Loops 107 2) y) ≡ Nothing
-            → ofEnd Blocks (loopsStage header files loops (routineOf (tableOf (layoutOf BlockRows 1024) header blocks .rows))) y ≡ ofEnd Blocks (Refused Loops 107 2) y
+            → ofEnd Blocks (loopsStage headerRow files loops (routineOf (blockReading headerRow blocks .rows))) y ≡ ofEnd Blocks (Refused Loops 107 2) y
         ended table.all q = absurd (let z : _≡_ {A = ℕ} 0 1 = cc in omega arith)
         ended (table.refused n p) q = refl
 

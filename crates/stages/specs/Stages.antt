@@ -1,6 +1,6 @@
 -- Document 01, "One routine in full": what the checking program says of the line on its standard input and of its two files.
 -- Assumes nothing: these are definitions.
-use Prim.Native.Nat.{ℕ}
+use Prim.Native.Nat.{ℕ, suc}
 use Prim.Native.String.{String}
 use mathlib.Core.Bool.{Bool, true, false, cond, _&&_, _||_}
 use mathlib.Core.List.{List, [], _∷_, _++_, map}
@@ -8,16 +8,16 @@ use mathlib.Core.Path.{_≡_}
 use lib.Dec.{eqb}
 use lib.IntN.{ℤ}
 use lib.ListN.{take}
+use Rattle.limits.specs.Limits.{mostBlocks, mostLoops, mostTextBytes}
 use Rattle.wcet.specs.Table.{Routine}
 use Rattle.wcet.specs.Rules.{Reply, accepted, refused, tableReply}
 use Rattle.wcet.specs.Claim.{WcetBound}
 use Rattle.nesting.specs.Columns.{routine}
-use Rattle.rows.specs.Row.{mostRows, costOf, innermostOf, firstOf, secondOf, figureOf, parentOf, headOf, limitOf, multiplierOf}
+use Rattle.rows.specs.Row.{costOf, innermostOf, firstOf, secondOf, figureOf, parentOf, loopHeaderOf, limitOf, multiplierOf}
+use Rattle.rows.specs.declared.BlockRow.{BlockRow}
+use Rattle.rows.specs.declared.LoopRow.{LoopRow}
 use Rattle.tables.specs.Table as table
-use Rattle.tables.specs.Table.{End, Reading, layoutOf, tableOf}
-use Rattle.rows.specs.declared.Shape.{Shape}
-use Rattle.rows.specs.declared.Shape.the-variants.{Blocks as BlockRows, Loops as LoopRows}
-use Rattle.rows.specs.declared.Row.{Row}
+use Rattle.tables.specs.Table.{End, Reading, blockTable, loopTable}
 use Rattle.report.specs.Line.{bytes}
 use Rattle.stages.specs.declared.Header.{Header}
 use Rattle.stages.specs.declared.Header.the-variants.{Absent, Present, Wrong}
@@ -40,21 +40,21 @@ same (b ∷ s) [] = false
 same (b ∷ s) (c ∷ t) = eqb b c && same s t
 
 -- "The line ends with LF or with the input"
-abbrev pub says : List ℕ → String → Bool
-says s word = same s (bytes word) || same s (bytes word ++ 10 ∷ [])
+abbrev pub settingIs : List ℕ → String → Bool
+settingIs s word = same s (bytes word) || same s (bytes word ++ 10 ∷ [])
 
 -- "one line, header=absent or header=present .. anything else before, in or after it is 100"
 unfoldable pub headerOf : List ℕ → Header
-headerOf s = cond (says s "header=absent") Absent (cond (says s "header=present") Present Wrong)
+headerOf s = cond (settingIs s "header=absent") Absent (cond (settingIs s "header=present") Present Wrong)
 
 -- ---- the stages
 
 -- the routine of the columns of blocks and the rows of loops
-abbrev pub withLoops : (costs loops firsts seconds : List ℕ) (figures : List ℤ) → List Row → Routine
-withLoops costs loops firsts seconds figures ls = routine costs loops firsts seconds figures (map parentOf ls) (map headOf ls) (map limitOf ls) (map multiplierOf ls)
+abbrev pub withLoops : (costs loops firsts seconds : List ℕ) (figures : List ℤ) → List LoopRow → Routine
+withLoops costs loops firsts seconds figures ls = routine costs loops firsts seconds figures (map parentOf ls) (map loopHeaderOf ls) (map limitOf ls) (map multiplierOf ls)
 
 -- the routine of the rows of blocks and those of loops
-abbrev pub routineOf : List Row → List Row → Routine
+abbrev pub routineOf : List BlockRow → List LoopRow → Routine
 routineOf bs = withLoops (map costOf bs) (map innermostOf bs) (map firstOf bs) (map secondOf bs) (map figureOf bs)
 
 -- the last stage: the bound, or 201 to 208
@@ -65,17 +65,20 @@ ofAnswer (refused number place) = Refused Table number place
 abbrev pub tableStage : Routine → Outcome
 tableStage t = ofAnswer (tableReply t)
 
--- a text that is refused, 101 to 106, or what comes behind its rows
+-- a text that is refused, 101 to 106, or what comes after its rows
 abbrev pub ofEnd : Stage → Outcome → End → Outcome
-ofEnd stage behind table.all = behind
-ofEnd stage behind (table.refused number place) = Refused stage number place
+ofEnd stage next table.all = next
+ofEnd stage next (table.refused number place) = Refused stage number place
 
-abbrev pub ofReading : Stage → (List Row → Outcome) → Reading → Outcome
-ofReading stage behind x = ofEnd stage (behind (x .rows)) (x .end)
+abbrev pub ofReading : {A : Type 0} → Stage → (List A → Outcome) → Reading A → Outcome
+ofReading stage next x = ofEnd stage (next (x .rows)) (x .end)
 
--- a text, with a place for as many rows as a table may have
-abbrev pub ofText : Stage → Shape → (List Row → Outcome) → Bool → List ℕ → Outcome
-ofText stage shape behind header s = ofReading stage behind (tableOf (layoutOf shape (mostRows shape)) header s)
+-- a text, read into columns that have a place for as many rows as a table may have
+abbrev pub blockReading : Bool → List ℕ → Reading BlockRow
+blockReading = blockTable mostBlocks
+
+abbrev pub loopReading : Bool → List ℕ → Reading LoopRow
+loopReading = loopTable mostLoops
 
 -- 107: "a file cannot be read", place "1 blocks, 2 loops"
 abbrev pub hasBlocks : Files → Bool
@@ -89,12 +92,13 @@ hasLoops OnlyBlocks = false
 hasLoops Both = true
 
 -- "Setting comes first, then blocks, loops, table; 107 carries the stage of its file."
-unfoldable pub loopsStage : Bool → Files → List ℕ → (List Row → Routine) → Outcome
-loopsStage header files loops with-loops = cond (hasLoops files) (ofText Loops LoopRows (λ ls. tableStage (with-loops ls)) header loops) (Refused Loops 107 2)
+unfoldable pub loopsStage : Bool → Files → List ℕ → (List LoopRow → Routine) → Outcome
+loopsStage headerRow files loops with-loops = cond (hasLoops files) (ofReading Loops (λ ls. tableStage (with-loops ls)) (loopReading headerRow loops)) (Refused Loops 107 2)
 
 unfoldable pub blocksStage : Bool → Files → List ℕ → List ℕ → Outcome
-blocksStage header files blocks loops = cond (hasBlocks files) (ofText Blocks BlockRows (λ bs. loopsStage header files loops (routineOf bs)) header blocks) (Refused Blocks 107 1)
+blocksStage headerRow files blocks loops = cond (hasBlocks files) (ofReading Blocks (λ bs. loopsStage headerRow files loops (routineOf bs)) (blockReading headerRow blocks)) (Refused Blocks 107 1)
 
+-- "it holds for both files"
 abbrev pub settingStage : Header → Files → List ℕ → List ℕ → Outcome
 settingStage Absent files blocks loops = blocksStage false files blocks loops
 settingStage Present files blocks loops = blocksStage true files blocks loops
@@ -105,7 +109,7 @@ outcomeOf setting files blocks loops = settingStage (headerOf setting) files blo
 
 -- ---- the order in which files are opened
 
--- the file whose 107 the outcome is
+-- the file that a 107 names
 abbrev pub wantedAt : Stage → Wanted
 wantedAt Setting = Nothing
 wantedAt Blocks = BlockFile
@@ -121,21 +125,28 @@ wantedBy (Refused stage number place) = cond (eqb number 107) (wantedAt stage) N
 -- Demand 3 of the whole program: an accepted bound is that of the routine which the rows of the two texts give, and holds for every list of
 -- blocks.
 pub record Certified (setting blocks loops : List ℕ) (b : ℤ) : Type 0 where
-  pub header : Bool
-  pub said : headerOf setting ≡ cond header Present Absent
-  pub block-rows : List Row
-  pub loop-rows : List Row
-  pub blocks-read : tableOf (layoutOf BlockRows (mostRows BlockRows)) header blocks ≡ record { rows = block-rows; end = table.all }
-  pub loops-read : tableOf (layoutOf LoopRows (mostRows LoopRows)) header loops ≡ record { rows = loop-rows; end = table.all }
+  pub header-row : Bool
+  pub said : headerOf setting ≡ cond header-row Present Absent
+  pub block-rows : List BlockRow
+  pub loop-rows : List LoopRow
+  pub blocks-read : blockReading header-row blocks ≡ record { rows = block-rows; end = table.all }
+  pub loops-read : loopReading header-row loops ≡ record { rows = loop-rows; end = table.all }
   pub replied : tableReply (routineOf block-rows loop-rows) ≡ accepted b
   pub bounded : WcetBound (routineOf block-rows loop-rows) b
 
--- The outcome depends on the first 16 bytes of the setting and the first 65,537 of each file only.
-abbrev pub FirstBytes : List ℕ → Files → List ℕ → List ℕ → Type 0
-FirstBytes setting files blocks loops = outcomeOf (take 16 setting) files (take 65537 blocks) (take 65537 loops) ≡ outcomeOf setting files blocks loops
+-- The program's buffers have one byte more than the longest good setting, header=present and LF, and than the longest good text.
+abbrev pub settingRoom : ℕ
+settingRoom = 16
 
--- Files may be opened in turn, each when the outcome without it wants it: an outcome that wants none is the outcome whatever is in the
--- files that are not open, and what an unopened file holds plays no part.
+abbrev pub textRoom : ℕ
+textRoom = suc mostTextBytes
+
+-- They are large enough: the outcome depends on the first bytes of the setting and of each file only.
+abbrev pub FirstBytes : List ℕ → Files → List ℕ → List ℕ → Type 0
+FirstBytes setting files blocks loops = outcomeOf (take settingRoom setting) files (take textRoom blocks) (take textRoom loops) ≡ outcomeOf setting files blocks loops
+
+-- Files may be opened in turn, each where the outcome without it waits for it. An outcome that waits for none is the outcome whatever the
+-- other files hold. What an unopened file holds plays no part.
 pub record InTurn (setting blocks loops : List ℕ) : Type 0 where
   pub by-setting : wantedBy (outcomeOf setting Neither [] []) ≡ Nothing → (files : Files) → outcomeOf setting files blocks loops ≡ outcomeOf setting Neither [] []
   pub by-blocks : wantedBy (outcomeOf setting OnlyBlocks blocks []) ≡ Nothing → (files : Files) → hasBlocks files ≡ true → outcomeOf setting files blocks loops ≡ outcomeOf setting OnlyBlocks blocks []

@@ -1,8 +1,13 @@
 // The checking program as functions on bytes: from its setting and its two files to an outcome.
 ghost use mathlib.Core.Path.{_≡_};
 ghost use lib.ListN.{take};
-ghost use Rattle.nesting.specs.Columns.{routine};
-ghost use Rattle.stages.specs.Stages.{headerOf, hasBlocks, hasLoops, tableStage, withLoops, loopsStage, blocksStage, outcomeOf, wantedBy};
+ghost use Rattle.nesting.specs.Answers.{refusal};
+ghost use Rattle.certificate.specs.Answers.{tableMeaning};
+ghost use Rattle.stages.specs.Stages.{headerOf, hasBlocks, hasLoops, ofAnswer, withLoops, loopsStage, blocksStage, outcomeOf, wantedBy};
+use certificate::TableReply;
+use limits::MOST_BLOCKS;
+use limits::MOST_LOOPS;
+use nesting::StructureFault;
 use report::Outcome;
 use report::Stage;
 use tables::ReadReply;
@@ -14,7 +19,7 @@ pub enum Header {
     Wrong,
 }
 
-// Which of the two files could be read. The loops are looked for only behind good blocks.
+// Which of the two files could be read. The loops file is opened only after good blocks.
 pub enum Files {
     Neither,
     Blocks,
@@ -48,16 +53,7 @@ fn header_of(setting: &[u8]) -> Header
     Header::Wrong
 }
 
-// ---- the first places of a column or a buffer
-
-pub fn first_u8(text: &[u8], len: usize) -> &[u8]
-    ensures { λ r. ⌜ now r ≡ take len (now (text .entry)) ⌝ }
-{
-    if text.len() <= len {
-        return text;
-    }
-    &text[..len]
-}
+// ---- the first places of a column
 
 fn first_u16(column: &[u16], rows: usize) -> &[u16]
     ensures { λ r. ⌜ now r ≡ take rows (now (column .entry)) ⌝ }
@@ -127,40 +123,35 @@ fn refused(stage: Stage, number: u32, place: usize) -> Outcome
     }
 }
 
-// 201 to 208, and the bound.
-fn table_stage(
-    cost: &[u32],
-    innermost: &[u16],
-    first: &[u16],
-    second: &[u16],
-    figure: &[i64],
-    parent: &[u16],
-    head: &[u16],
-    limit: &[u32],
-    multiplier: &[u64],
-) -> Outcome
-    ensures { λ r. ⌜ r ≡ tableStage (routine (now (cost .entry)) (now (innermost .entry)) (now (first .entry)) (now (second .entry)) (now (figure .entry)) (now (parent .entry)) (now (head .entry)) (now (limit .entry)) (now (multiplier .entry))) ⌝ }
+// 201 to 207.
+fn structure_stage(fault: StructureFault) -> Outcome
+    ensures { λ r. ⌜ r ≡ ofAnswer (refusal fault) ⌝ }
 {
-    let reply = rolkeyda::rolkeyda_check(
-        cost,
-        innermost,
-        first,
-        second,
-        figure,
-        parent,
-        head,
-        limit,
-        multiplier,
-    );
-    if reply.number == 0 {
-        return Outcome::Accepted(reply.value);
+    match fault {
+        StructureFault::Sizes => refused(Stage::Table, 201, 0),
+        StructureFault::Loop(l) => refused(Stage::Table, 202, l),
+        StructureFault::Block(u) => refused(Stage::Table, 203, u),
+        StructureFault::Header(l) => refused(Stage::Table, 204, l),
+        StructureFault::Depth(l) => refused(Stage::Table, 205, l),
+        StructureFault::EntryOrExit(u) => refused(Stage::Table, 206, u),
+        StructureFault::PastHeader(u) => refused(Stage::Table, 207, u),
     }
-    refused(Stage::Table, reply.number, reply.place as usize)
 }
 
-// The loops, behind the columns of good blocks.
+// The bound, or 201 to 208.
+fn table_stage(reply: TableReply) -> Outcome
+    ensures { λ r. ⌜ r ≡ ofAnswer (tableMeaning reply) ⌝ }
+{
+    match reply {
+        TableReply::Accepted(bound) => Outcome::Accepted(bound),
+        TableReply::Structure(fault) => structure_stage(fault),
+        TableReply::Inequality(u) => refused(Stage::Table, 208, u),
+    }
+}
+
+// The loops, after the columns of good blocks; then the table.
 fn loops_stage(
-    header: bool,
+    header_row: bool,
     files: Files,
     loops: &[u8],
     cost: &[u32],
@@ -169,47 +160,54 @@ fn loops_stage(
     second: &[u16],
     figure: &[i64],
 ) -> Outcome
-    ensures { λ r. ⌜ r ≡ loopsStage header files (now (loops .entry)) (withLoops (now (cost .entry)) (now (innermost .entry)) (now (first .entry)) (now (second .entry)) (now (figure .entry))) ⌝ }
+    ensures { λ r. ⌜ r ≡ loopsStage «header_row» files (now (loops .entry)) (withLoops (now (cost .entry)) (now (innermost .entry)) (now (first .entry)) (now (second .entry)) (now (figure .entry))) ⌝ }
 {
     if !has_loops(files) {
         return refused(Stage::Loops, 107, 2);
     }
-    let mut parent = [0u16; 64];
-    let mut head = [0u16; 64];
-    let mut limit = [0u32; 64];
-    let mut mult = [0u64; 64];
-    let read = tables::read_loops(loops, header, &mut parent, &mut head, &mut limit, &mut mult);
+    let mut parent = [0u16; MOST_LOOPS];
+    let mut header = [0u16; MOST_LOOPS];
+    let mut limit = [0u32; MOST_LOOPS];
+    let mut mult = [0u64; MOST_LOOPS];
+    let read = tables::read_loops(
+        loops,
+        header_row,
+        &mut parent,
+        &mut header,
+        &mut limit,
+        &mut mult,
+    );
     match read {
         ReadReply::Refused { number, record } => refused(Stage::Loops, number, record),
-        ReadReply::Rows(m) => table_stage(
+        ReadReply::Rows(m) => table_stage(certificate::check(
             cost,
             innermost,
             first,
             second,
             figure,
             first_u16(&parent, m),
-            first_u16(&head, m),
+            first_u16(&header, m),
             first_u32(&limit, m),
             first_u64(&mult, m),
-        ),
+        )),
     }
 }
 
-// The blocks, and what comes behind them.
-fn blocks_stage(header: bool, files: Files, blocks: &[u8], loops: &[u8]) -> Outcome
-    ensures { λ r. ⌜ r ≡ blocksStage header files (now (blocks .entry)) (now (loops .entry)) ⌝ }
+// The blocks, and what comes after them.
+fn blocks_stage(header_row: bool, files: Files, blocks: &[u8], loops: &[u8]) -> Outcome
+    ensures { λ r. ⌜ r ≡ blocksStage «header_row» files (now (blocks .entry)) (now (loops .entry)) ⌝ }
 {
     if !has_blocks(files) {
         return refused(Stage::Blocks, 107, 1);
     }
-    let mut cost = [0u32; 1024];
-    let mut innermost = [0u16; 1024];
-    let mut first = [0u16; 1024];
-    let mut second = [0u16; 1024];
-    let mut figure = [0i64; 1024];
+    let mut cost = [0u32; MOST_BLOCKS];
+    let mut innermost = [0u16; MOST_BLOCKS];
+    let mut first = [0u16; MOST_BLOCKS];
+    let mut second = [0u16; MOST_BLOCKS];
+    let mut figure = [0i64; MOST_BLOCKS];
     let read = tables::read_blocks(
         blocks,
-        header,
+        header_row,
         &mut cost,
         &mut innermost,
         &mut first,
@@ -219,7 +217,7 @@ fn blocks_stage(header: bool, files: Files, blocks: &[u8], loops: &[u8]) -> Outc
     match read {
         ReadReply::Refused { number, record } => refused(Stage::Blocks, number, record),
         ReadReply::Rows(n) => loops_stage(
-            header,
+            header_row,
             files,
             loops,
             first_u32(&cost, n),
@@ -231,7 +229,7 @@ fn blocks_stage(header: bool, files: Files, blocks: &[u8], loops: &[u8]) -> Outc
     }
 }
 
-// The whole of it: setting, blocks, loops, table.
+// The outcome: setting, blocks, loops, table in turn.
 pub fn outcome_of(setting: &[u8], files: Files, blocks: &[u8], loops: &[u8]) -> Outcome
     ensures { λ r. ⌜ r ≡ outcomeOf (now (setting .entry)) files (now (blocks .entry)) (now (loops .entry)) ⌝ }
 {
@@ -245,7 +243,7 @@ pub fn outcome_of(setting: &[u8], files: Files, blocks: &[u8], loops: &[u8]) -> 
 
 // ---- the order in which files are opened
 
-// The file for want of which the outcome is a 107, if it is one.
+// The file that the outcome names as unreadable (107), if it names one.
 pub fn wanted_by(outcome: Outcome) -> Wanted
     ensures { λ r. ⌜ r ≡ wantedBy outcome ⌝ }
 {

@@ -1,7 +1,7 @@
 use Rattle.report.proofs.Lines.{stage-short, numeral-short, wrote-both, ready}
 use Rattle.report.specs.Line.{stageWord, lineOf}
 use Rattle.report.specs.Line.{bytes}
-use Rattle.csv.specs.Write.{numeralOf}
+use Rattle.numbers.specs.Number.{numeralOf}
 use lib.ListN.{length}
 use Prim.Native.Nat.{_≤_}
 use mathlib.Core.List.{[], _∷_}

@@ -1,4 +1,4 @@
-use Rattle.stages.proofs.Stages.{loops-unread, loops-refused, loops-taken}
+use Rattle.stages.proofs.Stages.{table-told, loops-unread, loops-refused, loops-taken}
 use Rattle.stages.specs.Stages.{hasLoops}
 use mathlib.Core.Bool.{true, false}
 use mathlib.Core.Path.{_≡_, sym, _∙_}
@@ -72,6 +72,9 @@ slice-aggregate-first-u64 c = search needs
 first-u64-requires : tie.Need-first-u64-requires
 first-u64-requires c κs = search needs
 
+check-requires : tie.Need-check-requires
+check-requires c κs = search needs
+
 table-stage-requires : tie.Need-table-stage-requires
 table-stage-requires c κs = search needs
 
@@ -79,7 +82,7 @@ returns-2 : tie.Need-returns-2
 returns-2 c = loops-refused _ _ _ _ _ _ _ _ (has (c .before .before .before .before .before .before .before .before .before .before .before .before .before)) (c .before .before .before .before .before .before .before .before .read-loops .ensures) _ _ (c .refused2 .ensures) (search needs)
 
 returns-3 : tie.Need-returns-3
-returns-3 c = loops-taken _ _ _ _ _ _ _ _ (has (c .before .before .before .before .before .before .before .before .before .before .before .before .before .before .before .before .before .before .before .before .before)) (c .before .before .before .before .before .before .before .before .before .before .before .before .before .before .before .before .read-loops .ensures) (c .before .before .before .before .before .before .before .before .before .before .read2 .given .0 .0) (c .before .before .before .before .before .before .before .first-u16 .ensures) (c .before .before .before .before .before .first-u162 .ensures) (c .before .before .before .first-u32 .ensures) (c .before .first-u64 .ensures) (c .table-stage .ensures) (search needs)
+returns-3 c = loops-taken _ _ _ _ _ _ _ _ (has (c .before .before .before .before .before .before .before .before .before .before .before .before .before .before .before .before .before .before .before .before .before .before)) (c .before .before .before .before .before .before .before .before .before .before .before .before .before .before .before .before .before .read-loops .ensures) (c .before .before .before .before .before .before .before .before .before .before .before .read2 .given .0 .0) (c .before .before .before .before .before .before .before .before .first-u16 .ensures) (c .before .before .before .before .before .before .first-u162 .ensures) (c .before .before .before .before .first-u32 .ensures) (c .before .before .first-u64 .ensures) (table-told _ (c .before .check .result) (c .before .check .ensures) (c .table-stage .ensures)) (search needs)
 
 pub loops-stage-spec : {M : Type 1} → statement M
 loops-stage-spec =
@@ -104,6 +107,7 @@ loops-stage-spec =
     first-u32-requires
     slice-aggregate-first-u64
     first-u64-requires
+    check-requires
     table-stage-requires
     returns-2
     returns-3)

@@ -1,25 +1,43 @@
-use Rattle.stages.proofs.Stages.{table-accepted, table-refused}
+use Rattle.stages.proofs.Stages.{bound-told, reply-told}
 use borrow.Author.Needs.{needs}
 use Rattle.stages.proofs.table_stage.Statement.{statement}
 use Rattle.stages.proofs.table_stage.Tie as tie
 use Rattle.stages.proofs.table_stage.Reads as reads
 use Rattle.stages.proofs.table_stage.Lts as lts
 
-rolkeyda-check-requires : tie.Need-rolkeyda-check-requires
-rolkeyda-check-requires c κs = search needs
+enum-known-reply : tie.Need-enum-known-reply
+enum-known-reply c = search needs
 
-returns : tie.Need-returns
-returns c = table-accepted _ (c .before .before .before .rolkeyda-check .result) (c .before .before .before .rolkeyda-check .ensures) (c .before .if1 .taken) (search needs)
+enum-known-reply-2 : tie.Need-enum-known-reply-2
+enum-known-reply-2 c = search needs
 
-cast-refused : tie.Need-cast-refused
-cast-refused c = search needs
+structure-stage-requires : tie.Need-structure-stage-requires
+structure-stage-requires c κs = search needs
+
+enum-known-reply-3 : tie.Need-enum-known-reply-3
+enum-known-reply-3 c = search needs
 
 refused-requires : tie.Need-refused-requires
 refused-requires c κs = search needs
 
+returns : tie.Need-returns
+returns c = search (bound-told, needs)
+
 returns-2 : tie.Need-returns-2
-returns-2 c = table-refused _ (c .before .before .before .before .rolkeyda-check .result) (c .before .before .before .before .rolkeyda-check .ensures) (c .before .before .if1 .left) (c .refused .ensures)
+returns-2 c = search reply-told
+
+returns-3 : tie.Need-returns-3
+returns-3 c = search reply-told
 
 pub table-stage-spec : {M : Type 1} → statement M
 table-stage-spec =
-    tie.close (tie.spec rolkeyda-check-requires returns cast-refused refused-requires returns-2)
+    tie.close
+    (tie.spec
+    enum-known-reply
+    enum-known-reply-2
+    structure-stage-requires
+    enum-known-reply-3
+    refused-requires
+    returns
+    returns-2
+    returns-3)

@@ -1,3 +1,4 @@
+use Rattle.report.specs.Line.{lineRoom}
 use lib.ListN.{length}
 use mathlib.Core.Path.{_≡_}
 use Rattle.report.proofs.Lines.{byte-text}
@@ -8,7 +9,7 @@ use Rattle.report.proofs.Line.byte.Tie as tie
 use Rattle.report.proofs.Line.byte.Reads as reads
 use Rattle.report.proofs.Line.byte.Lts as lts
 
-size : (s : tie.Start) → length (s .args .t1 .bytes) ≡ 64
+size : (s : tie.Start) → length (s .args .t1 .bytes) ≡ lineRoom
 size s = search needs
 
 element-write-self : tie.Need-element-write-self

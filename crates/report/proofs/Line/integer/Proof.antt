@@ -1,6 +1,6 @@
 use Rattle.report.proofs.Lines.{negative-text, positive-text, wrote-both, room-as, room-start, room-rest}
 use Rattle.report.specs.Line.{integerOf}
-use Rattle.csv.specs.Write.{numeralOf}
+use Rattle.numbers.specs.Number.{numeralOf}
 use mir.Facts.{toZ-ofZ}
 use lib.IntN.{natAbs}
 use Prim.Native.Nat.{ℕ}

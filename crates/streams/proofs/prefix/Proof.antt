@@ -2,10 +2,10 @@ use native.Mathlib.Omega.{arith}
 use lib.Seq.{take-all, length-take-le}
 use mathlib.Core.Path.{sym}
 use borrow.Author.Needs.{needs}
-use Rattle.stages.proofs.first_u8.Statement.{statement}
-use Rattle.stages.proofs.first_u8.Tie as tie
-use Rattle.stages.proofs.first_u8.Reads as reads
-use Rattle.stages.proofs.first_u8.Lts as lts
+use Rattle.streams.proofs.prefix.Statement.{statement}
+use Rattle.streams.proofs.prefix.Tie as tie
+use Rattle.streams.proofs.prefix.Reads as reads
+use Rattle.streams.proofs.prefix.Lts as lts
 
 returns : tie.Need-returns
 returns c = sym (take-all _ _ (c .if1 .taken))
@@ -16,5 +16,5 @@ slice-aggregate-result c = sym (length-take-le _ _ (omega (arith, c .before .if1
 returns-2 : tie.Need-returns-2
 returns-2 c = search needs
 
-pub first-u8-spec : {M : Type 1} → statement M
-first-u8-spec = tie.close (tie.spec returns slice-aggregate-result returns-2)
+pub prefix-spec : {M : Type 1} → statement M
+prefix-spec = tie.close (tie.spec returns slice-aggregate-result returns-2)
