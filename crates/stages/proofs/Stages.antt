@@ -13,14 +13,12 @@ use lib.ListN.{length, length-map, take, replicate}
 use Rattle.wcet.specs.Table.{Routine}
 use Rattle.nesting.specs.Columns.{routine}
 use Rattle.limits.specs.Limits.{mostBlocks, mostLoops}
-use Rattle.rows.specs.Row.{blockFields, loopFields, costOf, innermostOf, firstOf, secondOf, figureOf, parentOf, loopHeaderOf, limitOf, multiplierOf}
-use Rattle.rows.specs.Judge.{judgeBlock, judgeLoop}
+use Rattle.rows.specs.Row.{costOf, innermostOf, firstOf, secondOf, figureOf, parentOf, loopHeaderOf, limitOf, multiplierOf}
 use Rattle.rows.specs.declared.BlockRow.{BlockRow}
 use Rattle.rows.specs.declared.LoopRow.{LoopRow}
-use Rattle.rows.proofs.Taken.{block-taken, loop-taken}
 use Rattle.tables.specs.Table as table
 use Rattle.tables.specs.Table.{End, Reading}
-use Rattle.tables.proofs.Copies.{table-fit}
+use Rattle.tables.proofs.Whole.{blocks-short, loops-short}
 use Rattle.tables.specs.Columns.{over, replyBy, replyOf, acceptedBy, BlockColumns, blocks, BlocksRead, LoopColumns, loops, LoopsRead}
 use Rattle.tables.specs.Columns as columns
 use Rattle.tables.specs.declared.ReadReply.{ReadReply}
@@ -119,7 +117,7 @@ module _ (headerRow : Bool) (files : Files) (s : List ℕ) (costs innermost firs
   unfolding loopsStage
   loops-taken h L m a b c d t e =
       let T : Taken text m = taken text m (L .reply) e in
-      let few : length (text .rows) ≤ mostLoops = table-fit (judgeLoop mostLoops) mostLoops (λ k r w q. loop-taken mostLoops k r w q .1) loopFields headerRow s in
+      let few : length (text .rows) ≤ mostLoops = let S = loops-short mostLoops headerRow s in omega (arith, S .rows) in
       rw h (after-rows text m T Loops (λ ls. tableStage (routineWith ls))
       (rw (← column text m T parentOf (replicate mostLoops 0) few (L .parent) a, ← column text m T loopHeaderOf (replicate mostLoops 0) few (L .header) b, ← column text m T limitOf (replicate mostLoops 0) few (L .limit) c, ← column text m T multiplierOf (replicate mostLoops 0) few (L .multiplier) d) t))
 
@@ -149,7 +147,7 @@ module _ (headerRow : Bool) (files : Files) (s loops : List ℕ) where
   unfolding blocksStage
   blocks-taken h B m a b c d f t e =
       let T : Taken block-text m = taken block-text m (B .reply) e in
-      let few : length (block-text .rows) ≤ mostBlocks = table-fit (judgeBlock mostBlocks) mostBlocks (λ k r w q. block-taken mostBlocks k r w q .1 .0) blockFields headerRow s in
+      let few : length (block-text .rows) ≤ mostBlocks = let S = blocks-short mostBlocks headerRow s in omega (arith, S .rows) in
       rw h (after-rows block-text m T Blocks next
       (rw (← column block-text m T costOf (replicate mostBlocks 0) few (B .cost) a, ← column block-text m T innermostOf (replicate mostBlocks 0) few (B .loops) b, ← column block-text m T firstOf (replicate mostBlocks 0) few (B .first) c, ← column block-text m T secondOf (replicate mostBlocks 0) few (B .second) d, ← column block-text m T figureOf (replicate mostBlocks (pos 0)) few (B .figure) f) t))
 
