@@ -44,8 +44,8 @@ impl Routine {
         k
     }
 
-    // A block behind block `last`.
-    fn behind(&mut self, last: usize, inner: u16) -> usize {
+    // A block after block `last`.
+    fn block_after(&mut self, last: usize, inner: u16) -> usize {
         let k = self.block(inner);
         self.leads(last, k);
         k
@@ -57,11 +57,11 @@ impl Routine {
         if b.first[from] == MISSING { b.first[from] = to as u16 } else { b.second[from] = to as u16 }
     }
 
-    // A loop behind block `last`, with a loop for each further limit in the middle of its body. Gives its header, the cost of a stay and
+    // A loop after block `last`, with a loop for each further limit in the middle of its body. Gives its header, the cost of a stay and
     // what follows the loop follows the header.
     fn nest(&mut self, last: usize, parent: u16, limits: &[u32]) -> (usize, u64) {
         let l = self.loops.parent.len() as u16;
-        let header = self.behind(last, l);
+        let header = self.block_after(last, l);
         self.loops.parent.push(parent);
         self.loops.header.push(header as u16);
         self.loops.limit.push(limits[0]);
@@ -69,7 +69,7 @@ impl Routine {
         let mut round = u64::from(self.blocks.cost[header]);
         let mut at = header;
         for i in 0..BODY {
-            at = self.behind(at, l);
+            at = self.block_after(at, l);
             round += u64::from(self.blocks.cost[at]);
             if i == BODY / 2 && limits.len() > 1 {
                 let (inner, stay) = self.nest(at, l, &limits[1..]);
@@ -91,7 +91,7 @@ impl Routine {
         }
         let tail = t.blocks.cost.len();
         while t.blocks.cost.len() < 1024 {
-            last = t.behind(last, 0);
+            last = t.block_after(last, 0);
         }
         // the tail may be walked by single steps or by double ones
         for u in tail..1022 {
@@ -153,7 +153,7 @@ impl Routine {
         text
     }
 
-    // The fewest blocks behind each block up to the exit.
+    // The fewest blocks from each block on to the exit.
     fn ahead(&self) -> Vec<usize> {
         let b = &self.blocks;
         let exit = b.cost.len() - 1;

@@ -67,8 +67,8 @@ fn set_count(counts: &mut Counts, l: usize, count: u32)
     put_word(counts, l / 4, new);
 }
 
-// The visits to the header of loop l in this stay, after a step to it: one more, and the first of a new stay where the step comes from
-// outside. 0 after a step to another block.
+// The visits to the header of loop l in this stay, after a step to it: one more, or 1 where the step comes from outside. 0 after a step to
+// another block.
 pub fn header_visits(counts: &Counts, l: usize, heading: bool, inside: bool) -> u32
     requires { ⌜ l < mostLoops ⌝ }
     ensures { λ r. ⌜ r ≡ headerVisits (countIn (now (counts .entry)) l) heading inside ⌝ }

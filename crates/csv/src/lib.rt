@@ -27,7 +27,7 @@ pub enum Found {
 }
 
 // A record: the bounds of its first eight fields, the count of all its fields, the place after it, and how it ends.
-// A record with a broken field is not sound, and what is noted lies before that field.
+// A record with a broken field is not sound; then only the fields before that one are noted.
 pub struct Split {
     pub starts: [usize; 8],
     pub ends: [usize; 8],

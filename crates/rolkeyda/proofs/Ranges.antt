@@ -130,7 +130,7 @@ walk-place t w n p e =
     (l, (b, (l, (l, (b, (b, (omega arith, tt))))))))
     (λ h q. let few : length w ≤ longestWalk = length-kept w (h .1 .1 .1 .1 .1 .1) in omega (arith, blocks-place t w (walked t w) n p q)) e
 
--- a block that there is not costs 0
+-- a number that is no block costs 0
 cost-most : (t : Routine) → Ranged t → (v : ℕ) → cost t v ≤ 1000000
 cost-most t R v = go (ltb v (blockCount t)) refl
   where

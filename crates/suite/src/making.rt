@@ -27,24 +27,24 @@ pub fn push_signed(text: &mut [u8], at: usize, z: i64) -> usize {
     if r >= ZERO {
         return push_number(text, at, r - ZERO);
     }
-    let behind = push(text, at, b"-");
-    push_number(text, behind, ZERO - r)
+    let end = push(text, at, b"-");
+    push_number(text, end, ZERO - r)
 }
 
-// A row that says nothing but its number, or one with as many bytes as a row can well have.
+// A row that says nothing but its number, or one with about as many bytes as a row can have.
 fn push_row(text: &mut [u8], at: usize, i: usize, wide: bool, of_blocks: bool) -> usize {
-    let behind = push_number(text, at, i);
+    let end = push_number(text, at, i);
     if wide {
         return push(
             text,
-            behind,
+            end,
             b",\"4294967295\",\"65535\",\"65534\",\"65534\",\"1000000000000000000\"\r\n",
         );
     }
     if of_blocks {
-        return push(text, behind, b",0,0,,,0\r\n");
+        return push(text, end, b",0,0,,,0\r\n");
     }
-    push(text, behind, b",0,0,1,0\r\n")
+    push(text, end, b",0,0,1,0\r\n")
 }
 
 // What is repeated: rows, wide rows or one byte.
@@ -72,7 +72,7 @@ fn push_many(
     at
 }
 
-// Where the next byte of a written text stands: outside, behind a backslash, in a count, behind the star of a count.
+// Where the next byte of a written text stands: outside, after a backslash, in a count, after the star of a count.
 const OUTSIDE: u8 = 0;
 
 const BACKSLASH: u8 = 1;
@@ -156,7 +156,7 @@ impl Maker {
     }
 }
 
-// The byte that a letter behind a backslash stands for: CR, LF, 0, 255 and the three bytes of a byte order mark.
+// The byte that a letter after a backslash stands for: CR, LF, 0, 255 and the three bytes of a byte order mark.
 fn escaped(b: u8) -> u8 {
     if b == b'r' {
         return 13;
@@ -216,7 +216,7 @@ fn with_step(s: Steps, b: u8, steps: &mut [u16]) -> Steps {
     }
 }
 
-// The walk that is written in a case, each block with a blank behind it, and its length.
+// The walk that is written in a case, each block with a blank after it, and its length.
 pub fn make_steps(written: &[u8], steps: &mut [u16]) -> usize {
     let mut s = Steps { count: 0, value: 0 };
     for i in 0..written.len() {

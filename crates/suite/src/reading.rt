@@ -6,7 +6,7 @@ use crate::tally::refused;
 use crate::tally::row_count;
 use rolkeyda::Reply;
 
-// Where the next byte stands: at a field's start, in a plain field, within quotes, behind a quote mark within quotes, behind a CR.
+// Where the next byte stands: at a field's start, in a plain field, within quotes, after a quote mark within quotes, after a CR.
 const START: u8 = 0;
 
 const PLAIN: u8 = 1;
@@ -36,7 +36,7 @@ struct Reading {
     text: [u8; 64],
 }
 
-// A field's number, and whether it is none of its column.
+// A field's number, and whether its column cannot hold it.
 struct Cell {
     size: usize,
     negative: bool,
@@ -191,8 +191,8 @@ impl Reading {
         self
     }
 
-    // Behind a field stands a comma or a CR.
-    fn behind_field(mut self, b: u8, columns: usize) -> Reading {
+    // After a field comes a comma or a CR.
+    fn after_field(mut self, b: u8, columns: usize) -> Reading {
         if b == 44 {
             return self.field_ended(columns);
         }
@@ -212,7 +212,7 @@ impl Reading {
             return self.with_byte(b, false);
         }
         if (b == 34) | (b == 44) | (b == 13) | (b == 10) {
-            return self.behind_field(b, columns);
+            return self.after_field(b, columns);
         }
         self.state = PLAIN;
         self.with_byte(b, true)
@@ -226,15 +226,15 @@ impl Reading {
         self.with_byte(b, !mark)
     }
 
-    fn behind_mark(mut self, b: u8, columns: usize) -> Reading {
+    fn after_mark(mut self, b: u8, columns: usize) -> Reading {
         if b == 34 {
             self.state = QUOTED;
             return self.with_byte(b, true);
         }
-        self.behind_field(b, columns)
+        self.after_field(b, columns)
     }
 
-    fn behind_return(mut self, b: u8, columns: usize) -> Reading {
+    fn after_return(mut self, b: u8, columns: usize) -> Reading {
         if b != 10 {
             self.fault = 102;
             return self;
@@ -250,10 +250,10 @@ impl Reading {
             return self.in_quotes(b);
         }
         if state == MARK {
-            return self.behind_mark(b, columns);
+            return self.after_mark(b, columns);
         }
         if state == RETURN {
-            return self.behind_return(b, columns);
+            return self.after_return(b, columns);
         }
         self.in_plain(b, columns)
     }

@@ -51,7 +51,7 @@ fn count_of(r: Reply) -> usize {
     value - ZERO
 }
 
-// What number c of row i must be: the checker's, or the old one behind the rows that were read.
+// What number c of row i must be: the checker's, or the old one after the rows that were read.
 fn due(i: usize, count: usize, rows: &RowCells, c: usize, old: usize) -> usize {
     if i < count {
         return row_cell(rows, i, c);

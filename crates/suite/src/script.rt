@@ -19,7 +19,7 @@ struct Span {
     to: usize,
 }
 
-// Field k so far, behind the byte at index i.
+// Field k so far, after the byte at index i.
 fn with_byte(s: Span, k: usize, i: usize, b: u8) -> Span {
     let next = plus(i, 1);
     let bars = s.bars;

@@ -18,7 +18,7 @@ use crate::tally::impossible;
 use crate::tally::refused;
 use rolkeyda::Reply;
 
-// The count of loop k behind the edge from u to v.
+// The count of loop k after the edge from u to v.
 fn counted(b: &BlockCells, l: &LoopCells, k: usize, u: usize, v: usize, count: usize) -> usize {
     if of_loop(l, k, 1) == v {
         if !inside(b, l, u, k) {
