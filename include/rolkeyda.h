@@ -40,8 +40,8 @@ extern "C" {
  * the first call to bind memcpy and memset. Measured, not proved: tests/stack runs the largest and the most deeply quoted inputs on stacks
  * of these sizes.
  */
-#define ROLKEYDA_STACK_READ_BLOCKS 40960u
-#define ROLKEYDA_STACK_READ_LOOPS 40960u
+#define ROLKEYDA_STACK_READ_BLOCKS 32768u
+#define ROLKEYDA_STACK_READ_LOOPS 12288u
 #define ROLKEYDA_STACK_CHECK 8192u
 #define ROLKEYDA_STACK_WALK 8192u
 

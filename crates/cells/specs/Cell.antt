@@ -16,7 +16,7 @@ use Rattle.cells.specs.declared.SignedCell.{SignedCell}
 unfoldable pub unsigned : ℕ → List ℕ → Value
 unsigned greatest w = natural greatest (content w)
 
--- "Only the figure may have a minus sign (byte 2D hexadecimal)."
+-- the same of a figure: "Only the figure may have a minus sign (byte 2D hexadecimal), and −0 is no number."
 unfoldable pub signed : List ℕ → SignedValue
 signed w = integer (content w)
 

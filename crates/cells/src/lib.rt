@@ -69,8 +69,7 @@ fn found_after(text: &[u8], at: usize, end: usize) -> Found
     csv::follow(text, end)
 }
 
-// The field at `at`, taken to be the digits that stand there, at a width that ends at `greatest`: one scan finds and reads it. Its bytes as
-// written are a part of the caller's text.
+// The field at `at`, taken to be the digits that stand there, at a width that ends at `greatest`: one scan finds and reads it.
 pub fn number_cell(text: &[u8], at: usize, greatest: u64) -> Cell
     ensures { λ r. ⌜ r ≡ cellAt greatest at (drop at (now (text .entry))) ⌝ }
 {

@@ -1,4 +1,4 @@
--- Document 01, "One routine in full": what the program reads, in which order, and what it says of it.
+-- Document 01, "One routine in full": which files the program needs, and what it says of what it read.
 -- Assumes nothing: these are definitions.
 use Prim.Native.Nat.{ℕ}
 use Prim.Native.String.{String}
@@ -32,7 +32,7 @@ wantsBlocks o = isBlocks (wantedBy o)
 abbrev pub wantsLoops : Outcome → Bool
 wantsLoops o = isLoops (wantedBy o)
 
--- a file that is wanted is opened and read; of one that is not wanted nothing is known
+-- a file that is wanted is opened and read; one that is not wanted counts as unread and empty
 abbrev pub Came : (path : List ℕ) → (wanted : Bool) → (readable : Bool) → List ℕ → Type 0
 Came path true readable s = FileGave path textRoom readable s
 Came path false readable s = (readable ≡ false) × (s ≡ [])
@@ -61,6 +61,7 @@ pub record FilesJudged (setting : List ℕ) (o : Outcome) : Type 0 where
   pub outcome : o ≡ outcomeOf setting (filesOf has-blocks has-loops) blocks loops
 
 -- "The checking program reads one line .. from standard input .., then blocks.csv and loops.csv."
+-- An input that cannot be read says nothing, which is 100.
 pub record InputJudged (o : Outcome) : Type 0 where
   pub readable : Bool
   pub setting : List ℕ

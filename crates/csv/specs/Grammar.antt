@@ -120,13 +120,13 @@ only w n e = record { fields = w ∷ []; bytes = n + width e; sound = true; endi
 abbrev pub joined : List ℕ → ℕ → Record → Record
 joined w n r = record { fields = w ∷ r .fields; bytes = n + r .bytes; sound = r .sound; ending = r .ending }
 
--- the record of s whose first field is given, over what makes the record of the bytes after a comma
+-- the record of s by its first field; `rest` makes the record after a comma
 abbrev pub recordWith : (List ℕ → Record) → List ℕ → Field → Record
 recordWith rest s (comma n) = joined (take n s) (n + 1) (rest (drop (n + 1) s))
 recordWith rest s (ends e n) = only (take n s) n e
 recordWith rest s broken = unsound
 
--- A comma follows each field but the last, so a text of n bytes has at most n + 1 fields: as many as k counts.
+-- A comma follows each field but the last, so a text of n bytes has at most n + 1 fields, and k does not run out.
 unfoldable pub recordIn : ℕ → List ℕ → Record
 recordIn zero s = unsound
 recordIn (suc k) s = recordWith (recordIn k) s (field s)

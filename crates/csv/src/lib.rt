@@ -26,8 +26,8 @@ pub enum Found {
     Broken,
 }
 
-// A record: the bounds of its first eight fields, the count of all its fields, the place after it, and how it ends.
-// A record with a broken field is not sound; then only the fields before that one are noted.
+// A record: the bounds of its first eight fields, the count of all its fields, where the next record starts,
+// and how it ends. A record with a broken field is not sound: only the fields before that one are noted, and `next` is where it starts.
 pub struct Split {
     pub starts: [usize; 8],
     pub ends: [usize; 8],

@@ -1,4 +1,4 @@
--- The limits of document 01, one name each. The code has the same names in src/lib.rt.
+-- The sizes that document 01 limits, one name each. The code has a constant for each in src/lib.rt.
 -- Assumes nothing: these are definitions.
 use Prim.Native.Nat.{ℕ}
 

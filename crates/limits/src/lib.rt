@@ -1,4 +1,4 @@
-// The limits of document 01, one name each. The definitions have the same names in specs/Limits.antt.
+// The sizes that document 01 limits, one constant each. The definitions have a name for each in specs/Limits.antt.
 
 // Blocks of a routine, and rows of its block table.
 pub const MOST_BLOCKS: usize = 1024;

@@ -114,7 +114,7 @@ fn at_most(value: Value, greatest: u64) -> Value
     }
 }
 
-// What the digits `written` say, whose number is `value`.
+// What the digits `written` say, where `value` is their number.
 pub fn natural_by(written: &[u8], value: Value, greatest: u64) -> Value
     ensures { λ r. ⌜ r ≡ naturalBy greatest (now (written .entry)) value ⌝ }
 {

@@ -33,6 +33,8 @@ use Rattle.rows.specs.declared.Turn.{Turn}
 use Rattle.rows.specs.declared.Turn.the-variants.{Due, Fault}
 use Rattle.rows.specs.declared.BlockCells.{BlockCells}
 use Rattle.rows.specs.declared.LoopCells.{LoopCells}
+use Rattle.rows.specs.declared.BlockRow.{BlockRow}
+use Rattle.rows.specs.declared.LoopRow.{LoopRow}
 use Rattle.rows.specs.declared.BlockVerdict.{BlockVerdict}
 use Rattle.rows.specs.declared.BlockVerdict.the-variants.{Taken, Fault as BlockFault}
 use Rattle.rows.specs.declared.LoopVerdict.{LoopVerdict}
@@ -90,6 +92,20 @@ module _ (room k n : ℕ) where
     unfolding turnOf
     turn-due f = rw (eq-eqb n k e, lt-ltb k room f)
 
+-- Each way through `placed_block` and `placed_loop`; t is the turn.
+module _ {t : Turn} (room k n : ℕ) (q : t ≡ turnOf room k n) where
+  pub block-due : (w : BlockRow) → t ≡ Due → Taken w ≡ blockVerdict (inTurn w (turnOf room k n))
+  block-due w e = rw (← q, e)
+
+  pub block-out : (w : BlockRow) (m : ℕ) → t ≡ Fault m → BlockFault m ≡ blockVerdict (inTurn w (turnOf room k n))
+  block-out w m e = rw (← q, e)
+
+  pub loop-due : (w : LoopRow) → t ≡ Due → TakenLoop w ≡ loopVerdict (inTurn w (turnOf room k n))
+  loop-due w e = rw (← q, e)
+
+  pub loop-out : (w : LoopRow) (m : ℕ) → t ≡ Fault m → LoopFault m ≡ loopVerdict (inTurn w (turnOf room k n))
+  loop-out w m e = rw (← q, e)
+
 -- The cells that fields say fit their columns.
 at-most : (greatest : ℕ) (w : List ℕ) → AtMost greatest (unsigned greatest w)
 at-most greatest w n e = unsigned-fits w greatest n refl e
@@ -145,14 +161,9 @@ module _ (room k : ℕ) (x : BlockCells) where
             unfolding blockRow
             block-5 f = rw (e₀, e₁, e₂, ← q₃, e₃, ← q₄, e₄, signed-none (x .figure) _ f)
 
-            module _ (z : ℤ) (e₅ : x .figure ≡ Signed z) {t : Turn} (q : t ≡ turnOf room k n) where
-              pub block-due : SignedFits (x .figure) → t ≡ Due → Taken (record { number = n; cost = c; innermost = l; first = a; second = b; figure = toZ w64 (ofZ w64 z) }) ≡ blockVerdict (blockRow room k x)
-              unfolding blockRow
-              block-due f d = rw (toZ-ofZ (f z e₅)) (rw (e₀, e₁, e₂, ← q₃, e₃, ← q₄, e₄, e₅, ← q, d))
-
-              pub block-out : (m : ℕ) → t ≡ Fault m → BlockFault m ≡ blockVerdict (blockRow room k x)
-              unfolding blockRow
-              block-out m d = rw (e₀, e₁, e₂, ← q₃, e₃, ← q₄, e₄, e₅, ← q, d)
+            pub block-placed : (z : ℤ) → x .figure ≡ Signed z → SignedFits (x .figure) → {v : BlockVerdict} → v ≡ blockVerdict (inTurn (record { number = n; cost = c; innermost = l; first = a; second = b; figure = toZ w64 (ofZ w64 z) }) (turnOf room k n)) → v ≡ blockVerdict (blockRow room k x)
+            unfolding blockRow
+            block-placed z e₅ f d = d ∙ rw (toZ-ofZ (f z e₅)) (rw (e₀, e₁, e₂, ← q₃, e₃, ← q₄, e₄, e₅))
 
 -- The same of `loop_row`.
 module _ (room k : ℕ) (x : LoopCells) where
@@ -180,14 +191,9 @@ module _ (room k : ℕ) (x : LoopCells) where
           unfolding loopRow
           loop-4 f = rw (e₀, e₁, e₂, e₃, needed-none (x .multiplier) _ f)
 
-          module _ (m : ℕ) (e₄ : x .multiplier ≡ Number m) {t : Turn} (q : t ≡ turnOf room k n) where
-            pub loop-due : t ≡ Due → TakenLoop (record { number = n; parent = p; header = h; limit = l; multiplier = m }) ≡ loopVerdict (loopRow room k x)
-            unfolding loopRow
-            loop-due d = rw (e₀, e₁, e₂, e₃, e₄, ← q, d)
-
-            pub loop-out : (j : ℕ) → t ≡ Fault j → LoopFault j ≡ loopVerdict (loopRow room k x)
-            unfolding loopRow
-            loop-out j d = rw (e₀, e₁, e₂, e₃, e₄, ← q, d)
+          pub loop-placed : (m : ℕ) → x .multiplier ≡ Number m → {v : LoopVerdict} → v ≡ loopVerdict (inTurn (record { number = n; parent = p; header = h; limit = l; multiplier = m }) (turnOf room k n)) → v ≡ loopVerdict (loopRow room k x)
+          unfolding loopRow
+          loop-placed m e₄ d = d ∙ rw (e₀, e₁, e₂, e₃, e₄)
 
 -- the cells depend on the first eight fields only
 block-ext : (v w : ℕ → List ℕ) → ((i : ℕ) → i < 8 → v i ≡ w i) → blockCells v ≡ blockCells w

@@ -94,7 +94,7 @@ abbrev pub LastAt : List ℕ → ℕ → LastCell → Type 0
 LastAt s at (Last v next) = FigureField s at next v
 LastAt s at NoLast = Unit {0}
 
--- what is known of a block whose fields are found so
+-- what is known of a block that the short way read
 pub record BlockAt (s : List ℕ) (at : ℕ) (x : BlockCells) (next : ℕ) : Type 0 where
   pub sound : recordOf (drop at s) .sound ≡ true
   pub count : length (recordOf (drop at s) .fields) ≡ blockFields

@@ -47,7 +47,7 @@ orMissing (Number n) = Number n
 orMissing Missing = Number 65535
 orMissing Bad = Bad
 
--- 105: "row number out of turn", for row n where row k is due; then 106, where the rows that have a place are `room`
+-- 105: "row number out of turn", for row n where row k is due; then 106, where only `room` rows have a place
 unfoldable pub turnOf : ℕ → ℕ → ℕ → Turn
 turnOf room k n = cond (eqb n k) (cond (ltb k room) Due (Fault 106)) (Fault 105)
 

@@ -5,7 +5,7 @@ ghost use lib.ListN.{length, drop};
 ghost use Rattle.csv.specs.Grammar.{recordOf};
 ghost use Rattle.csv.specs.Place.{fieldAt};
 ghost use Rattle.cells.specs.Cell.{unsigned, signed};
-ghost use Rattle.rows.specs.Row.{orMissing, turnOf, blockCells, blockRow, loopCells, loopRow};
+ghost use Rattle.rows.specs.Row.{orMissing, turnOf, inTurn, blockCells, blockRow, loopCells, loopRow};
 ghost use Rattle.rows.specs.Place.{blockVerdict, blockStep, loopVerdict, loopStep, BlockFits, LoopFits, CommaAt, LastAt, ShortAt};
 use csv::Found;
 use numbers::SignedValue;
@@ -54,13 +54,13 @@ pub enum CommaCell {
     Other,
 }
 
-// The last field of a record, found so: what it says, and where the next record starts.
+// The last field of a record, that one scan finds and reads: what it says, and where the next record starts.
 pub enum LastCell {
     Field(SignedValue, usize),
     Other,
 }
 
-// The cells of a block, found so, and where the next record starts. Other: the record needs the long way.
+// The cells of a block that the short way can read, and where the next record starts. Other: the record needs the long way.
 pub enum ShortBlock {
     Cells(BlockCells, usize),
     Other,
@@ -148,16 +148,36 @@ fn or_missing(value: Value) -> Value
 // ---- the row
 
 // Row `number` where row k is due.
-fn turn_of(number: u64, k: usize, room: usize) -> Turn
+fn turn_of(number: u16, k: usize, room: usize) -> Turn
     ensures { λ r. ⌜ r ≡ turnOf room k number ⌝ }
 {
-    if number != k as u64 {
+    if number as usize != k {
         return Turn::Fault(105);
     }
     if k >= room {
         return Turn::Fault(106);
     }
     Turn::Due
+}
+
+// The verdict on a block where row k is due.
+fn placed_block(row: BlockRow, k: usize, room: usize) -> BlockVerdict
+    ensures { λ r. ⌜ r ≡ blockVerdict (inTurn row (turnOf room k (row .number))) ⌝ }
+{
+    match turn_of(row.number, k, room) {
+        Turn::Due => BlockVerdict::Taken(row),
+        Turn::Fault(fault) => BlockVerdict::Fault(fault),
+    }
+}
+
+// The verdict on a loop where row k is due.
+fn placed_loop(row: LoopRow, k: usize, room: usize) -> LoopVerdict
+    ensures { λ r. ⌜ r ≡ loopVerdict (inTurn row (turnOf room k (row .number))) ⌝ }
+{
+    match turn_of(row.number, k, room) {
+        Turn::Due => LoopVerdict::Taken(row),
+        Turn::Fault(fault) => LoopVerdict::Fault(fault),
+    }
 }
 
 // The block that the cells say, where row k is due.
@@ -189,17 +209,15 @@ fn block_row(cells: BlockCells, k: usize, room: usize) -> BlockVerdict
     let SignedValue::Number(figure) = figure else {
         return BlockVerdict::Fault(104);
     };
-    match turn_of(number, k, room) {
-        Turn::Due => BlockVerdict::Taken(BlockRow {
-            number: number as u16,
-            cost: cost as u32,
-            innermost: innermost as u16,
-            first: first as u16,
-            second: second as u16,
-            figure,
-        }),
-        Turn::Fault(fault) => BlockVerdict::Fault(fault),
-    }
+    let row = BlockRow {
+        number: number as u16,
+        cost: cost as u32,
+        innermost: innermost as u16,
+        first: first as u16,
+        second: second as u16,
+        figure,
+    };
+    placed_block(row, k, room)
 }
 
 // The loop that the cells say, where row k is due.
@@ -227,16 +245,14 @@ fn loop_row(cells: LoopCells, k: usize, room: usize) -> LoopVerdict
     let Value::Number(multiplier) = multiplier else {
         return LoopVerdict::Fault(104);
     };
-    match turn_of(number, k, room) {
-        Turn::Due => LoopVerdict::Taken(LoopRow {
-            number: number as u16,
-            parent: parent as u16,
-            header: header as u16,
-            limit: limit as u32,
-            multiplier,
-        }),
-        Turn::Fault(fault) => LoopVerdict::Fault(fault),
-    }
+    let row = LoopRow {
+        number: number as u16,
+        parent: parent as u16,
+        header: header as u16,
+        limit: limit as u32,
+        multiplier,
+    };
+    placed_loop(row, k, room)
 }
 
 // ---- the long way: one scan notes the bounds of the fields, and each field is read where it stands
@@ -336,7 +352,7 @@ fn last_cell(text: &[u8], at: usize) -> LastCell
     LastCell::Field(value, end + csv::width_of(ending))
 }
 
-// The cells of a block whose fields are found so.
+// The cells of a block, one scan for each field.
 fn short_block(text: &[u8], at: usize) -> ShortBlock
     ensures { λ r. ⌜ ShortAt (now (text .entry)) at r ⌝ }
 {

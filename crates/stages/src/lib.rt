@@ -165,30 +165,23 @@ fn loops_stage(
     if !has_loops(files) {
         return refused(Stage::Loops, 107, 2);
     }
-    let mut parent = [0u16; MOST_LOOPS];
-    let mut header = [0u16; MOST_LOOPS];
-    let mut limit = [0u32; MOST_LOOPS];
-    let mut mult = [0u64; MOST_LOOPS];
-    let read = tables::read_loops(
-        loops,
-        header_row,
-        &mut parent,
-        &mut header,
-        &mut limit,
-        &mut mult,
-    );
+    let mut p = [0u16; MOST_LOOPS];
+    let mut h = [0u16; MOST_LOOPS];
+    let mut l = [0u32; MOST_LOOPS];
+    let mut m = [0u64; MOST_LOOPS];
+    let read = tables::read_loops(loops, header_row, &mut p, &mut h, &mut l, &mut m);
     match read {
         ReadReply::Refused { number, record } => refused(Stage::Loops, number, record),
-        ReadReply::Rows(m) => table_stage(certificate::check(
+        ReadReply::Rows(rows) => table_stage(certificate::check(
             cost,
             innermost,
             first,
             second,
             figure,
-            first_u16(&parent, m),
-            first_u16(&header, m),
-            first_u32(&limit, m),
-            first_u64(&mult, m),
+            first_u16(&p, rows),
+            first_u16(&h, rows),
+            first_u32(&l, rows),
+            first_u64(&m, rows),
         )),
     }
 }

@@ -3,7 +3,8 @@
 -- No contract can say which bytes `libc::read` and `libc::write` move, nor which file `os::open_read` opens. So the fact that a call was made
 -- has a name: `Answered`, `Took`, `Opened`. Each means what the assumed contract says of the call, and no more. The proofs of the three
 -- functions that make one call each (`read_some`, `write_some`, `open_file`) are the only ones that unfold these names. In every other proof
--- such a fact comes from a call.
+-- such a fact comes from a call. These facts say that calls were made. They do not say that no other call was made, nor in which order, nor
+-- that a descriptor was not opened anew in between: that is read off the code, in which each of the three calls stands at one place.
 use Prim.Native.Nat.{ℕ, zero, suc, _-_, _≤_, _<_}
 use mathlib.Core.Path.{_≡_}
 use mathlib.Core.Bool.{Bool, true, false, cond}
@@ -74,7 +75,7 @@ pub record FileGave (path : List ℕ) (room : ℕ) (readable : Bool) (s : List �
   pub opened : Opened path fd
   pub gave : GaveOpen fd room readable s
 
--- what read_all and read_file leave in a buffer of room bytes: its first bytes are what was read
+-- what read_all and read_file leave in a buffer of room bytes: its first bytes are what was read, and its later bytes are free
 pub record AllRead (fd : ℤ) (room : ℕ) (c : Content) (buffer : List ℕ) : Type 0 where
   pub size : c .len ≤ room
   pub gave : Gave fd room (c .readable) (take (c .len) buffer)

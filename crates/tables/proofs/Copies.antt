@@ -1,7 +1,6 @@
 -- Values stored one by one, a column copied, and what the columns of a reading leave in the lent ones.
 -- Assumes nothing.
 use mathlib.Core.Path.{_≡_, refl, sym, ap, _∙_}
-use mathlib.Core.Bool.{Bool, true, false, cond}
 use mathlib.Core.List.{List, [], _∷_, _++_, map}
 use Prim.Native.Nat.{ℕ, suc, _+_, _-_, _<_, _≤_}
 use native.Mathlib.Nat.{zero-add}
@@ -9,11 +8,8 @@ use native.Mathlib.Numerals.{add-one}
 use native.Mathlib.Omega.{arith}
 use lib.ListN.{length, take, drop, set, getD, length-map, drop-of-length-le}
 use lib.Seq.{sets, sets-eq, length-sets, drop-cons, length-take-le, getD-take, take-append-seam}
-use lib.Dec.{leb, eqb}
-use Rattle.limits.specs.Limits.{mostTextBytes}
-use Rattle.csv.specs.Grammar.{Record, records}
-use Rattle.rows.specs.Row.{Verdict, taken, fault}
-use Rattle.tables.specs.Table.{End, all, refused, Reading, stopped, readingAfter, reading, headed, tableOf}
+use Rattle.rows.specs.Row.{taken}
+use Rattle.tables.specs.Table.{End, all, refused, Reading, reading}
 use Rattle.tables.specs.Columns.{replyBy, replyOf, acceptedBy, accepted, over}
 use Rattle.tables.specs.Place.{stores, Gathered, gathered, leaving, rowCount}
 use Rattle.tables.specs.declared.ReadReply.{ReadReply}

@@ -10,7 +10,7 @@ use lib.Dec.{leb, eqb}
 use Rattle.limits.specs.Limits.{mostTextBytes}
 use Rattle.csv.specs.Grammar.{Record, records}
 use Rattle.rows.specs.Row.{Verdict, taken, fault}
-use Rattle.tables.specs.Table.{refused, Reading, stopped, readingAfter, reading, headed, tableOf}
+use Rattle.tables.specs.Table.{refused, Reading, stopped, readingAfter, reading, afterHeaderRow, tableOf}
 
 -- a reading from row k on: its rows have places, and it is refused at a record of at most `most`
 pub record Short {A : Type 0} (room most k : ℕ) (x : Reading A) : Type 0 where
@@ -38,7 +38,7 @@ module _ {A : Type 0} where
         stop : (n p : ℕ) → p ≤ 2 → Short {A = A} room (2 + room) 0 (stopped n p)
         stop n p h = stopped-short room (2 + room) 0 n p (omega arith) (omega arith)
 
-        after : (rs : List Record) → Short room (2 + room) 0 (headed count judge rs)
+        after : (rs : List Record) → Short room (2 + room) 0 (afterHeaderRow count judge rs)
         after [] = stop 103 1 (omega arith)
         after (r ∷ rs) = form (r .sound) (eqb (length (r .fields)) count)
           where
@@ -50,10 +50,10 @@ module _ {A : Type 0} where
         plain : Short room (2 + room) 0 (reading judge 1 0 (records s))
         plain = let S = reading-short 1 0 (records s) (omega arith) in record { rows = S .rows; place = λ n p e. omega (arith, S .place n p e) }
 
-        told : (b : Bool) → Short room (2 + room) 0 (cond b (headed count judge (records s)) (reading judge 1 0 (records s)))
+        told : (b : Bool) → Short room (2 + room) 0 (cond b (afterHeaderRow count judge (records s)) (reading judge 1 0 (records s)))
         told true = after (records s)
         told false = plain
 
-        long : (b : Bool) → Short room (2 + room) 0 (cond b (cond headerRow (headed count judge (records s)) (reading judge 1 0 (records s))) (stopped 101 0))
+        long : (b : Bool) → Short room (2 + room) 0 (cond b (cond headerRow (afterHeaderRow count judge (records s)) (reading judge 1 0 (records s))) (stopped 101 0))
         long true = told headerRow
         long false = stop 101 0 (omega arith)

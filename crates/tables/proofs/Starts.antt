@@ -16,7 +16,7 @@ use Rattle.csv.specs.Place.{splitOf, noPlaces}
 use Rattle.csv.specs.declared.Split.{Split}
 use Rattle.csv.proofs.Records.{Spans, record-spans, records-none, records-step}
 use Rattle.rows.specs.Row.{Verdict}
-use Rattle.tables.specs.Table.{Reading, stopped, reading, headed, tableOf}
+use Rattle.tables.specs.Table.{Reading, stopped, reading, afterHeaderRow, tableOf}
 use Rattle.tables.specs.Place.{startAfter, startOf, stores, Gathered, gathered, leaving}
 use Rattle.tables.specs.declared.ReadReply.the-variants.{Refused as Unread}
 use Rattle.tables.specs.declared.Start.{Start}
@@ -78,10 +78,10 @@ starts : {A : Type 0} (judge : ℕ → Record → Verdict A) (s : List ℕ) (cou
 unfolding tableOf startOf
 starts judge s count headerRow = long (leb (length s) mostTextBytes)
   where
-    none : Says judge s (headed count judge []) (startAfter count [])
+    none : Says judge s (afterHeaderRow count judge []) (startAfter count [])
     none = refl
 
-    some : 0 < length s → Says judge s (headed count judge (recordOf s ∷ grammar.recordsAfter records s (recordOf s))) (startAfter count (recordOf s ∷ grammar.recordsAfter records s (recordOf s)))
+    some : 0 < length s → Says judge s (afterHeaderRow count judge (recordOf s ∷ grammar.recordsAfter records s (recordOf s))) (startAfter count (recordOf s ∷ grammar.recordsAfter records s (recordOf s)))
     some h = go (recordOf s .sound) (eqb (length (recordOf s .fields)) count) refl
       where
         go : (a b : Bool) → recordOf s .sound ≡ a → Says judge s (cond a (cond b (reading judge 2 0 (cond (recordOf s .sound) (records (drop (recordOf s .bytes) s)) [])) (stopped 103 1)) (stopped 102 1)) (cond a (cond b (At (recordOf s .bytes) 2) (Refused 103 1)) (Refused 102 1))
@@ -89,15 +89,15 @@ starts judge s count headerRow = long (leb (length s) mostTextBytes)
         go true false f = refl
         go false b f = refl
 
-    head : (n : ℕ) → length s ≡ n → Says judge s (headed count judge (records s)) (startAfter count (records s))
+    head : (n : ℕ) → length s ≡ n → Says judge s (afterHeaderRow count judge (records s)) (startAfter count (records s))
     head zero e = rw (records-none s e) none
     head (suc n) e = let h : 0 < length s = omega arith in rw (records-step s h) (some h)
 
-    told : (b : Bool) → Says judge s (cond b (headed count judge (records s)) (reading judge 1 0 (records s))) (cond b (startAfter count (records s)) (At 0 1))
+    told : (b : Bool) → Says judge s (cond b (afterHeaderRow count judge (records s)) (reading judge 1 0 (records s))) (cond b (startAfter count (records s)) (At 0 1))
     told true = head (length s) refl
     told false = (record { place = omega arith; record-number = omega arith }, refl)
 
-    long : (b : Bool) → Says judge s (cond b (cond headerRow (headed count judge (records s)) (reading judge 1 0 (records s))) (stopped 101 0)) (cond b (cond headerRow (startAfter count (records s)) (At 0 1)) (Refused 101 0))
+    long : (b : Bool) → Says judge s (cond b (cond headerRow (afterHeaderRow count judge (records s)) (reading judge 1 0 (records s))) (stopped 101 0)) (cond b (cond headerRow (startAfter count (records s)) (At 0 1)) (Refused 101 0))
     long true = told headerRow
     long false = refl
 

@@ -13,7 +13,7 @@ use Rattle.csv.specs.Grammar.{Record, records}
 use Rattle.csv.specs.Write.{Line, write, Allowed, recordsAs, AllSound, Written}
 use Rattle.csv.proofs.Inverse.{read-back, write-again}
 use Rattle.rows.specs.Row.{Verdict, taken, fault}
-use Rattle.tables.specs.Table.{all, refused, stopped, readingAfter, reading, headed, tableOf}
+use Rattle.tables.specs.Table.{all, refused, stopped, readingAfter, reading, afterHeaderRow, tableOf}
 
 refuse : {n place : ℕ} {B : Type 0} → refused n place ≡ all → B
 refuse q = absurd (let z : _≡_ {A = ℕ} 0 1 = cc in omega arith)
@@ -21,7 +21,7 @@ refuse q = absurd (let z : _≡_ {A = ℕ} 0 1 = cc in omega arith)
 module _ {A : Type 0} (judge : ℕ → Record → Verdict A) where
   -- THEOREM: a table that is written by RFC 4180, whichever fields stand between quote marks and whether or not the last line end is
   -- there, is read as the lines that were written.
-  pub table-back : (count : ℕ) (headerRow : Bool) (ls : List Line) (ended : Bool) → Allowed ls ended → length (write ls ended) ≤ mostTextBytes → tableOf count judge headerRow (write ls ended) ≡ cond headerRow (headed count judge (recordsAs ls ended)) (reading judge 1 0 (recordsAs ls ended))
+  pub table-back : (count : ℕ) (headerRow : Bool) (ls : List Line) (ended : Bool) → Allowed ls ended → length (write ls ended) ≤ mostTextBytes → tableOf count judge headerRow (write ls ended) ≡ cond headerRow (afterHeaderRow count judge (recordsAs ls ended)) (reading judge 1 0 (recordsAs ls ended))
   unfolding tableOf
   table-back count headerRow ls ended a h = rw (le-leb (length (write ls ended)) mostTextBytes h, read-back ls ended a)
 
@@ -36,7 +36,7 @@ module _ {A : Type 0} (judge : ℕ → Record → Verdict A) where
         go (taken w) g e ih = (sound k r w g, ih e)
         go (fault n) g e ih = refuse e
 
-    headed-sound : (count : ℕ) (rs : List Record) → headed count judge rs .end ≡ all → AllSound rs
+    headed-sound : (count : ℕ) (rs : List Record) → afterHeaderRow count judge rs .end ≡ all → AllSound rs
     headed-sound count [] e = refuse e
     headed-sound count (r ∷ rs) e = go (r .sound) (eqb (length (r .fields)) count) refl e
       where
@@ -50,10 +50,10 @@ module _ {A : Type 0} (judge : ℕ → Record → Verdict A) where
     unfolding tableOf
     accepted-written count headerRow s e = write-again s (long (leb (length s) mostTextBytes) e)
       where
-        told : (b : Bool) → cond b (headed count judge (records s)) (reading judge 1 0 (records s)) .end ≡ all → AllSound (records s)
+        told : (b : Bool) → cond b (afterHeaderRow count judge (records s)) (reading judge 1 0 (records s)) .end ≡ all → AllSound (records s)
         told true e = headed-sound count (records s) e
         told false e = reading-sound 1 0 (records s) e
 
-        long : (b : Bool) → cond b (cond headerRow (headed count judge (records s)) (reading judge 1 0 (records s))) (stopped 101 0) .end ≡ all → AllSound (records s)
+        long : (b : Bool) → cond b (cond headerRow (afterHeaderRow count judge (records s)) (reading judge 1 0 (records s))) (stopped 101 0) .end ≡ all → AllSound (records s)
         long true e = told headerRow e
         long false e = refuse e

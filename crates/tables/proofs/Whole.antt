@@ -27,6 +27,13 @@ blocks-short room = table-short (judgeBlock room) room (λ k r w e. block-taken 
 pub loops-short : (room : ℕ) (headerRow : Bool) (s : List ℕ) → Short room (2 + room) 0 (tableOf loopFields (judgeLoop room) headerRow s)
 loops-short room = table-short (judgeLoop room) room (λ k r w e. loop-taken room k r w e .1) loopFields
 
+-- the room of a block table, from that of its successors
+pub block-room : (c l a b z : ℕ) {s r : ℕ} → s ≡ min a b → r ≡ min (min c (min l (min s z))) mostBlocks → r ≡ min (min c (min l (min a (min b z)))) mostBlocks
+block-room c l a b z e q = let m : min (min a b) z ≡ min a (min b z) = min-assoc a b z in q ∙ rw (e, m)
+  where
+    min-assoc : (a b z : ℕ) → min (min a b) z ≡ min a (min b z)
+    min-assoc a b z = omega arith
+
 -- columns that have a place for each row
 pub record BlockPlaces (room : ℕ) (c : BlockColumns) : Type 0 where
   pub cost : room ≤ length (c .cost)

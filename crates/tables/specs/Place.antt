@@ -15,7 +15,7 @@ use Rattle.tables.specs.declared.ReadReply.the-variants.{Rows, Refused}
 use Rattle.tables.specs.declared.Start.{Start}
 use Rattle.tables.specs.declared.Start.the-variants.{At, Refused as NoStart}
 
--- where the rows of a text start, and in which record, if its length and its header allow any
+-- where the rows of a text start and in which record, or the refusal before them
 abbrev pub startAfter : ℕ → List Record → Start
 startAfter count [] = NoStart 103 1
 startAfter count (r ∷ rs) = cond (r .sound) (cond (eqb (length (r .fields)) count) (At (r .bytes) 2) (NoStart 103 1)) (NoStart 102 1)

@@ -37,15 +37,15 @@ reading judge start k (r ∷ rs) = readingAfter (reading judge start (suc k) rs)
 
 -- "With a header, record 1 is checked for form and field count and then dropped"; 103: "or a header promised and no record there
 -- (place 1)"
-abbrev pub headed : {A : Type 0} → ℕ → (ℕ → Record → Verdict A) → List Record → Reading A
-headed count judge [] = stopped 103 1
-headed count judge (r ∷ rs) = cond (r .sound) (cond (eqb (length (r .fields)) count) (reading judge 2 0 rs) (stopped 103 1)) (stopped 102 1)
+abbrev pub afterHeaderRow : {A : Type 0} → ℕ → (ℕ → Record → Verdict A) → List Record → Reading A
+afterHeaderRow count judge [] = stopped 103 1
+afterHeaderRow count judge (r ∷ rs) = cond (r .sound) (cond (eqb (length (r .fields)) count) (reading judge 2 0 rs) (stopped 103 1)) (stopped 102 1)
 
 -- "101 first": "text over 65,536 bytes". "The caller says whether a header is present"; "Without one, record 1 is the first row."
 unfoldable pub tableOf : {A : Type 0} → ℕ → (ℕ → Record → Verdict A) → Bool → List ℕ → Reading A
-tableOf count judge headerRow s = cond (leb (length s) mostTextBytes) (cond headerRow (headed count judge (records s)) (reading judge 1 0 (records s))) (stopped 101 0)
+tableOf count judge headerRow s = cond (leb (length s) mostTextBytes) (cond headerRow (afterHeaderRow count judge (records s)) (reading judge 1 0 (records s))) (stopped 101 0)
 
--- 106: "more than 1,024 block rows or 64 loop rows, or no place left in the shortest lent column", which has so many places
+-- 106: "more than 1,024 block rows or 64 loop rows, or no place left in the shortest lent column"; `places` is that column's length
 abbrev pub blockTable : ℕ → Bool → List ℕ → Reading BlockRow
 blockTable places = tableOf blockFields (judgeBlock (min places mostBlocks))
 

@@ -266,10 +266,10 @@ fn least(a: usize, b: usize) -> usize
 }
 
 // The blocks that have a place in columns of these lengths.
-fn block_room(cost: usize, loops: usize, first: usize, second: usize, figure: usize) -> usize
-    ensures { λ r. ⌜ r ≡ min (min cost (min loops (min first (min second figure)))) mostBlocks ⌝ }
+fn block_room(cost: usize, loops: usize, successors: usize, figure: usize) -> usize
+    ensures { λ r. ⌜ r ≡ min (min cost (min loops (min successors figure))) mostBlocks ⌝ }
 {
-    let places = least(cost, least(loops, least(first, least(second, figure))));
+    let places = least(cost, least(loops, least(successors, figure)));
     least(places, MOST_BLOCKS)
 }
 
@@ -294,13 +294,8 @@ pub fn read_blocks(
 ) -> ReadReply
     ensures { λ r. ⌜ BlocksRead (now (text .entry)) «header_row» (blocks (now (cost .entry)) (now (loops .entry)) (now (first .entry)) (now (second .entry)) (now (figure .entry))) r (blocks (now (cost .exit)) (now (loops .exit)) (now (first .exit)) (now (second .exit)) (now (figure .exit))) ⌝ }
 {
-    let room = block_room(
-        cost.len(),
-        loops.len(),
-        first.len(),
-        second.len(),
-        figure.len(),
-    );
+    let successors = least(first.len(), second.len());
+    let room = block_room(cost.len(), loops.len(), successors, figure.len());
     let mut c = [0u32; MOST_BLOCKS];
     let mut l = [0u16; MOST_BLOCKS];
     let mut a = [0u16; MOST_BLOCKS];

@@ -1,11 +1,11 @@
-use Rattle.rows.proofs.Rows.{block-0, block-1, block-2, block-3, block-4, block-5, block-due, block-out, fits16, fits32, fits-missing}
+use Rattle.rows.proofs.Rows.{block-0, block-1, block-2, block-3, block-4, block-5, block-placed, fits16, fits32, fits-missing}
 use borrow.Author.Needs.{needs}
 use Rattle.rows.proofs.block_row.Statement.{statement}
 use Rattle.rows.proofs.block_row.Tie as tie
 use Rattle.rows.proofs.block_row.Reads as reads
 use Rattle.rows.proofs.block_row.Lts as lts
 use Rattle.rows.proofs.or_missing.Reads as or-missing-reads
-use Rattle.rows.proofs.turn_of.Reads as turn-of-reads
+use Rattle.rows.proofs.placed_block.Reads as placed-block-reads
 
 enum-known-number : tie.Need-enum-known-number
 enum-known-number c = search needs
@@ -49,35 +49,26 @@ enum-known-figure c = search needs
 returns-6 : tie.Need-returns-6
 returns-6 c = search block-5
 
-turn-of-requires : tie.Need-turn-of-requires
-turn-of-requires c κs = search needs
+cast-t19 : tie.Need-cast-t19
+cast-t19 c = search fits16
 
-enum-told : tie.Need-enum-told
-enum-told c = search needs
+cast-t20 : tie.Need-cast-t20
+cast-t20 c = search fits32
 
 cast-t21 : tie.Need-cast-t21
 cast-t21 c = search fits16
 
 cast-t22 : tie.Need-cast-t22
-cast-t22 c = search fits32
+cast-t22 c = search fits-missing
 
 cast-t23 : tie.Need-cast-t23
-cast-t23 c = search fits16
+cast-t23 c = search fits-missing
 
-cast-t24 : tie.Need-cast-t24
-cast-t24 c = search fits-missing
-
-cast-t25 : tie.Need-cast-t25
-cast-t25 c = search fits-missing
-
-enum-known-fault : tie.Need-enum-known-fault
-enum-known-fault c = search needs
+placed-block-requires : tie.Need-placed-block-requires
+placed-block-requires c κs = search needs
 
 returns-7 : tie.Need-returns-7
-returns-7 c = search block-due
-
-returns-8 : tie.Need-returns-8
-returns-8 c = search block-out
+returns-7 c = search block-placed
 
 pub block-row-spec : {M : Type 1} → statement M
 block-row-spec =
@@ -97,13 +88,10 @@ block-row-spec =
     returns-5
     enum-known-figure
     returns-6
-    turn-of-requires
-    enum-told
+    cast-t19
+    cast-t20
     cast-t21
     cast-t22
     cast-t23
-    cast-t24
-    cast-t25
-    enum-known-fault
-    returns-7
-    returns-8)
+    placed-block-requires
+    returns-7)

@@ -1,10 +1,10 @@
-use Rattle.rows.proofs.Rows.{loop-0, loop-1, loop-2, loop-3, loop-4, loop-due, loop-out, fits16, fits32}
+use Rattle.rows.proofs.Rows.{loop-0, loop-1, loop-2, loop-3, loop-4, loop-placed, fits16, fits32}
 use borrow.Author.Needs.{needs}
 use Rattle.rows.proofs.loop_row.Statement.{statement}
 use Rattle.rows.proofs.loop_row.Tie as tie
 use Rattle.rows.proofs.loop_row.Reads as reads
 use Rattle.rows.proofs.loop_row.Lts as lts
-use Rattle.rows.proofs.turn_of.Reads as turn-of-reads
+use Rattle.rows.proofs.placed_loop.Reads as placed-loop-reads
 
 enum-known-number : tie.Need-enum-known-number
 enum-known-number c = search needs
@@ -36,32 +36,23 @@ enum-known-multiplier c = search needs
 returns-5 : tie.Need-returns-5
 returns-5 c = search loop-4
 
-turn-of-requires : tie.Need-turn-of-requires
-turn-of-requires c κs = search needs
+cast-t15 : tie.Need-cast-t15
+cast-t15 c = search fits16
 
-enum-told : tie.Need-enum-told
-enum-told c = search needs
+cast-t16 : tie.Need-cast-t16
+cast-t16 c = search fits16
 
 cast-t17 : tie.Need-cast-t17
 cast-t17 c = search fits16
 
 cast-t18 : tie.Need-cast-t18
-cast-t18 c = search fits16
+cast-t18 c = search fits32
 
-cast-t19 : tie.Need-cast-t19
-cast-t19 c = search fits16
-
-cast-t20 : tie.Need-cast-t20
-cast-t20 c = search fits32
-
-enum-known-fault : tie.Need-enum-known-fault
-enum-known-fault c = search needs
+placed-loop-requires : tie.Need-placed-loop-requires
+placed-loop-requires c κs = search needs
 
 returns-6 : tie.Need-returns-6
-returns-6 c = search loop-due
-
-returns-7 : tie.Need-returns-7
-returns-7 c = search loop-out
+returns-6 c = search loop-placed
 
 pub loop-row-spec : {M : Type 1} → statement M
 loop-row-spec =
@@ -77,12 +68,9 @@ loop-row-spec =
     returns-4
     enum-known-multiplier
     returns-5
-    turn-of-requires
-    enum-told
+    cast-t15
+    cast-t16
     cast-t17
     cast-t18
-    cast-t19
-    cast-t20
-    enum-known-fault
-    returns-6
-    returns-7)
+    placed-loop-requires
+    returns-6)

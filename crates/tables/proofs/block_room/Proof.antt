@@ -17,19 +17,9 @@ least-requires-3 c κs = search needs
 least-requires-4 : tie.Need-least-requires-4
 least-requires-4 c κs = search needs
 
-least-requires-5 : tie.Need-least-requires-5
-least-requires-5 c κs = search needs
-
 returns : tie.Need-returns
 returns c = cc
 
 pub block-room-spec : {M : Type 1} → statement M
 block-room-spec =
-    tie.close
-    (tie.spec
-    least-requires
-    least-requires-2
-    least-requires-3
-    least-requires-4
-    least-requires-5
-    returns)
+    tie.close (tie.spec least-requires least-requires-2 least-requires-3 least-requires-4 returns)

@@ -1,7 +1,7 @@
-use Rattle.tables.proofs.Whole.{loops-count, loops-lengths, loops-read}
+use Rattle.limits.specs.Limits.{mostLoops}
+use Rattle.tables.proofs.Whole.{LoopLengths, loops-count, loops-lengths, loops-read}
 use mathlib.Core.Path.{refl}
 use Rattle.tables.specs.Columns.{loops}
-use Rattle.tables.proofs.Whole.{loops-count, loops-read}
 use Prim.Native.Nat.{_≤_}
 use native.Mathlib.Omega.{arith}
 use borrow.Author.Needs.{needs}
@@ -19,6 +19,9 @@ use Rattle.tables.proofs.row_count.Reads as row-count-reads
 counted : (c : tie.After-row-count) → c .row-count .result ≤ c .before .before .before .before .before .before .loop-room .result
 counted c = loops-count (c .before .before .before .before .before .before .before .before .before .before .before .before .args .text .now) (c .before .before .before .before .before .before .before .before .before .before .before .before .args .header-row) (loops (c .before .before .before .before .before .before .before .before .before .before .before .before .args .parent .now) (c .before .before .before .before .before .before .before .before .before .before .before .before .args .header .now) (c .before .before .before .before .before .before .before .before .before .before .before .before .args .limit .now) (c .before .before .before .before .before .before .before .before .before .before .before .before .args .multiplier .now)) _ (c .before .before .before .before .before .before .loop-room .ensures) (c .before .gather-loop-table .ensures) (c .row-count .ensures)
 
+filled : (c : tie.After-gather-loop-table) → LoopLengths mostLoops (loops (c .gather-loop-table .last .1 .1 .1 .0) (c .gather-loop-table .last .1 .1 .1 .1 .0) (c .gather-loop-table .last .1 .1 .1 .1 .1 .0) (c .gather-loop-table .last .1 .1 .1 .1 .1 .1 .0))
+filled c = loops-lengths mostLoops (c .before .before .before .before .before .before .before .before .before .before .before .args .text .now) (c .before .before .before .before .before .before .before .before .before .before .before .args .header-row) (c .before .before .before .before .before .loop-room .result) (c .gather-loop-table .ensures) (record { parent = refl; header = refl; limit = refl; multiplier = refl })
+
 loop-room-requires : tie.Need-loop-room-requires
 loop-room-requires c κs = search needs
 
@@ -29,28 +32,28 @@ row-count-requires : tie.Need-row-count-requires
 row-count-requires c κs = search needs
 
 slice-aggregate-copy-u16 : tie.Need-slice-aggregate-copy-u16
-slice-aggregate-copy-u16 c = loops-lengths 64 (c .before .before .before .before .before .before .before .before .before .before .before .before .before .args .text .now) (c .before .before .before .before .before .before .before .before .before .before .before .before .before .args .header-row) (c .before .before .before .before .before .before .before .loop-room .result) (c .before .before .gather-loop-table .ensures) (record { parent = refl; header = refl; limit = refl; multiplier = refl }) .parent
+slice-aggregate-copy-u16 c = filled (c .before .before) .parent
 
 copy-u16-requires : tie.Need-copy-u16-requires
-copy-u16-requires c κs = let l = loops-lengths 64 (c .before .before .before .before .before .before .before .before .before .before .before .before .before .before .args .text .now) (c .before .before .before .before .before .before .before .before .before .before .before .before .before .before .args .header-row) (c .before .before .before .before .before .before .before .before .loop-room .result) (c .before .before .before .gather-loop-table .ensures) (record { parent = refl; header = refl; limit = refl; multiplier = refl }) .parent in let h = counted (c .before .before) in (omega (arith, c .before .before .before .before .before .before .before .before .loop-room .ensures), omega (arith, c .before .before .before .before .before .before .before .before .loop-room .ensures))
+copy-u16-requires c κs = let l = filled (c .before .before .before) .parent in let h = counted (c .before .before) in (omega (arith, c .before .before .before .before .before .before .before .before .loop-room .ensures), omega (arith, c .before .before .before .before .before .before .before .before .loop-room .ensures))
 
 slice-aggregate-copy-u16-2 : tie.Need-slice-aggregate-copy-u16-2
-slice-aggregate-copy-u16-2 c = loops-lengths 64 (c .before .before .before .before .before .before .before .before .before .before .before .before .before .before .before .before .before .before .args .text .now) (c .before .before .before .before .before .before .before .before .before .before .before .before .before .before .before .before .before .before .args .header-row) (c .before .before .before .before .before .before .before .before .before .before .before .before .loop-room .result) (c .before .before .before .before .before .before .before .gather-loop-table .ensures) (record { parent = refl; header = refl; limit = refl; multiplier = refl }) .header
+slice-aggregate-copy-u16-2 c = filled (c .before .before .before .before .before .before .before) .header
 
 copy-u16-requires-2 : tie.Need-copy-u16-requires-2
-copy-u16-requires-2 c κs = let l = loops-lengths 64 (c .before .before .before .before .before .before .before .before .before .before .before .before .before .before .before .before .before .before .before .args .text .now) (c .before .before .before .before .before .before .before .before .before .before .before .before .before .before .before .before .before .before .before .args .header-row) (c .before .before .before .before .before .before .before .before .before .before .before .before .before .loop-room .result) (c .before .before .before .before .before .before .before .before .gather-loop-table .ensures) (record { parent = refl; header = refl; limit = refl; multiplier = refl }) .header in let h = counted (c .before .before .before .before .before .before .before) in (omega (arith, c .before .before .before .before .before .before .before .before .before .before .before .before .before .loop-room .ensures), omega (arith, c .before .before .before .before .before .before .before .before .before .before .before .before .before .loop-room .ensures))
+copy-u16-requires-2 c κs = let l = filled (c .before .before .before .before .before .before .before .before) .header in let h = counted (c .before .before .before .before .before .before .before) in (omega (arith, c .before .before .before .before .before .before .before .before .before .before .before .before .before .loop-room .ensures), omega (arith, c .before .before .before .before .before .before .before .before .before .before .before .before .before .loop-room .ensures))
 
 slice-aggregate-copy-u32 : tie.Need-slice-aggregate-copy-u32
-slice-aggregate-copy-u32 c = loops-lengths 64 (c .before .before .before .before .before .before .before .before .before .before .before .before .before .before .before .before .before .before .before .before .before .before .before .args .text .now) (c .before .before .before .before .before .before .before .before .before .before .before .before .before .before .before .before .before .before .before .before .before .before .before .args .header-row) (c .before .before .before .before .before .before .before .before .before .before .before .before .before .before .before .before .before .loop-room .result) (c .before .before .before .before .before .before .before .before .before .before .before .before .gather-loop-table .ensures) (record { parent = refl; header = refl; limit = refl; multiplier = refl }) .limit
+slice-aggregate-copy-u32 c = filled (c .before .before .before .before .before .before .before .before .before .before .before .before) .limit
 
 copy-u32-requires : tie.Need-copy-u32-requires
-copy-u32-requires c κs = let l = loops-lengths 64 (c .before .before .before .before .before .before .before .before .before .before .before .before .before .before .before .before .before .before .before .before .before .before .before .before .args .text .now) (c .before .before .before .before .before .before .before .before .before .before .before .before .before .before .before .before .before .before .before .before .before .before .before .before .args .header-row) (c .before .before .before .before .before .before .before .before .before .before .before .before .before .before .before .before .before .before .loop-room .result) (c .before .before .before .before .before .before .before .before .before .before .before .before .before .gather-loop-table .ensures) (record { parent = refl; header = refl; limit = refl; multiplier = refl }) .limit in let h = counted (c .before .before .before .before .before .before .before .before .before .before .before .before) in (omega (arith, c .before .before .before .before .before .before .before .before .before .before .before .before .before .before .before .before .before .before .loop-room .ensures), omega (arith, c .before .before .before .before .before .before .before .before .before .before .before .before .before .before .before .before .before .before .loop-room .ensures))
+copy-u32-requires c κs = let l = filled (c .before .before .before .before .before .before .before .before .before .before .before .before .before) .limit in let h = counted (c .before .before .before .before .before .before .before .before .before .before .before .before) in (omega (arith, c .before .before .before .before .before .before .before .before .before .before .before .before .before .before .before .before .before .before .loop-room .ensures), omega (arith, c .before .before .before .before .before .before .before .before .before .before .before .before .before .before .before .before .before .before .loop-room .ensures))
 
 slice-aggregate-copy-u64 : tie.Need-slice-aggregate-copy-u64
-slice-aggregate-copy-u64 c = loops-lengths 64 (c .before .before .before .before .before .before .before .before .before .before .before .before .before .before .before .before .before .before .before .before .before .before .before .before .before .before .before .before .args .text .now) (c .before .before .before .before .before .before .before .before .before .before .before .before .before .before .before .before .before .before .before .before .before .before .before .before .before .before .before .before .args .header-row) (c .before .before .before .before .before .before .before .before .before .before .before .before .before .before .before .before .before .before .before .before .before .before .loop-room .result) (c .before .before .before .before .before .before .before .before .before .before .before .before .before .before .before .before .before .gather-loop-table .ensures) (record { parent = refl; header = refl; limit = refl; multiplier = refl }) .multiplier
+slice-aggregate-copy-u64 c = filled (c .before .before .before .before .before .before .before .before .before .before .before .before .before .before .before .before .before) .multiplier
 
 copy-u64-requires : tie.Need-copy-u64-requires
-copy-u64-requires c κs = let l = loops-lengths 64 (c .before .before .before .before .before .before .before .before .before .before .before .before .before .before .before .before .before .before .before .before .before .before .before .before .before .before .before .before .before .args .text .now) (c .before .before .before .before .before .before .before .before .before .before .before .before .before .before .before .before .before .before .before .before .before .before .before .before .before .before .before .before .before .args .header-row) (c .before .before .before .before .before .before .before .before .before .before .before .before .before .before .before .before .before .before .before .before .before .before .before .loop-room .result) (c .before .before .before .before .before .before .before .before .before .before .before .before .before .before .before .before .before .before .gather-loop-table .ensures) (record { parent = refl; header = refl; limit = refl; multiplier = refl }) .multiplier in let h = counted (c .before .before .before .before .before .before .before .before .before .before .before .before .before .before .before .before .before) in (omega (arith, c .before .before .before .before .before .before .before .before .before .before .before .before .before .before .before .before .before .before .before .before .before .before .before .loop-room .ensures), omega (arith, c .before .before .before .before .before .before .before .before .before .before .before .before .before .before .before .before .before .before .before .before .before .before .before .loop-room .ensures))
+copy-u64-requires c κs = let l = filled (c .before .before .before .before .before .before .before .before .before .before .before .before .before .before .before .before .before .before) .multiplier in let h = counted (c .before .before .before .before .before .before .before .before .before .before .before .before .before .before .before .before .before) in (omega (arith, c .before .before .before .before .before .before .before .before .before .before .before .before .before .before .before .before .before .before .before .before .before .before .before .loop-room .ensures), omega (arith, c .before .before .before .before .before .before .before .before .before .before .before .before .before .before .before .before .before .before .before .before .before .before .before .loop-room .ensures))
 
 same-length : tie.Need-same-length
 same-length c = search needs
