@@ -1,5 +1,5 @@
 -- Each answer in the fields of the reply. Assumes nothing.
-use mathlib.Core.Path.{_≡_, refl, sym, _∙_, ap}
+use mathlib.Core.Path.{_≡_, refl, sym, _∙_, ap, subst}
 use mathlib.Core.List.{List}
 use mathlib.Core.Bool.{Bool}
 use Prim.Native.Nat.{ℕ, _^_, _<_, min}
@@ -30,7 +30,7 @@ use Rattle.limits.specs.Limits.{mostBlocks, mostLoops}
 use Rattle.tables.specs.declared.ReadReply.{ReadReply}
 use Rattle.tables.specs.declared.ReadReply.the-variants.{Rows, Refused}
 use Rattle.rolkeyda.specs.declared.Reply.{Reply}
-use Rattle.rolkeyda.specs.Replies.{acceptance, refusing, ofTables, ofWalk, ofReading, PlaceFits, ValueFits, TablesReplied, WalkReplied}
+use Rattle.rolkeyda.specs.Replies.{acceptance, refusing, ofTables, ofWalk, ofReading, PlaceFits, ValueFits, TablesReplied, WalkReplied, BlocksReplied, LoopsReplied}
 use Rattle.rolkeyda.proofs.Ranges.{Small, table-place, walk-place, Finished, walk-finished, reading-small}
 
 -- ---- 201 to 207
@@ -211,3 +211,9 @@ blocks-fit s headerRow {old} B = let S = reading-small (blockTable (shortestBloc
 
 pub loops-fit : (s : List ℕ) (headerRow : Bool) {old new : LoopColumns} {a : ReadReply} → LoopsRead s headerRow old a new → PlaceFits (ofReading a) × ValueFits (ofReading a)
 loops-fit s headerRow {old} B = let S = reading-small (loopTable (shortestLoop old) headerRow s) (loops-short (min (shortestLoop old) mostLoops) headerRow s) (omega arith) (B .reply) in (S .place, S .value)
+
+pub blocks-replied : (s : List ℕ) (headerRow : Bool) {old new : BlockColumns} {a : ReadReply} {r : Reply} → BlocksRead s headerRow old a new → r ≡ ofReading a → BlocksReplied s headerRow old r new
+blocks-replied s headerRow {old} {new} B q = record { replied = q ∙ ap ofReading (B .reply); read = subst (λ (x : ReadReply). BlocksRead s headerRow old x new) (B .reply) B }
+
+pub loops-replied : (s : List ℕ) (headerRow : Bool) {old new : LoopColumns} {a : ReadReply} {r : Reply} → LoopsRead s headerRow old a new → r ≡ ofReading a → LoopsReplied s headerRow old r new
+loops-replied s headerRow {old} {new} B q = record { replied = q ∙ ap ofReading (B .reply); read = subst (λ (x : ReadReply). LoopsRead s headerRow old x new) (B .reply) B }

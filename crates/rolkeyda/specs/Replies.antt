@@ -13,7 +13,8 @@ use Rattle.wcet.specs.Run.{runCost}
 use Rattle.limits.specs.Limits.{longestWalk}
 use Rattle.wcet.specs.Walk.{Walked, walkReply}
 use Rattle.wcet.specs.Claim.{WcetBound, AllHold, FinishedRun}
-use Rattle.tables.specs.Columns.{BlockColumns, LoopColumns, BlocksRead, LoopsRead}
+use Rattle.tables.specs.Table.{blockTable, loopTable}
+use Rattle.tables.specs.Columns.{replyOf, BlockColumns, shortestBlock, BlocksRead, LoopColumns, shortestLoop, LoopsRead}
 use Rattle.tables.specs.declared.ReadReply.{ReadReply}
 use Rattle.tables.specs.declared.ReadReply.the-variants.{Rows, Refused}
 use Rattle.rolkeyda.specs.declared.Reply.{Reply}
@@ -62,13 +63,17 @@ pub record WalkReplied (t : Routine) (w : List ℕ) (r : Reply) : Type 0 where
   pub accepts : AllHold (structureRules t) → length w ≤ longestWalk → (r .number ≡ 0) ↔ FinishedRun t w
   pub cost : r .number ≡ 0 → (r .value ≡ pos (runCost t w)) × (r .more ≡ length w - 1)
 
--- Demand 1 of the reply to a text: it is the one answer for which the reader's promise holds.
+-- Demand 1 of the reply to a text: it is the reply to what the text says, and the columns are as the reader promises.
+abbrev pub blocksAnswer : List ℕ → Bool → BlockColumns → ReadReply
+blocksAnswer s headerRow columns = replyOf (blockTable (shortestBlock columns) headerRow s)
+
 pub record BlocksReplied (s : List ℕ) (headerRow : Bool) (old : BlockColumns) (r : Reply) (new : BlockColumns) : Type 0 where
-  pub answer : ReadReply
-  pub replied : r ≡ ofReading answer
-  pub read : BlocksRead s headerRow old answer new
+  pub replied : r ≡ ofReading (blocksAnswer s headerRow old)
+  pub read : BlocksRead s headerRow old (blocksAnswer s headerRow old) new
+
+abbrev pub loopsAnswer : List ℕ → Bool → LoopColumns → ReadReply
+loopsAnswer s headerRow columns = replyOf (loopTable (shortestLoop columns) headerRow s)
 
 pub record LoopsReplied (s : List ℕ) (headerRow : Bool) (old : LoopColumns) (r : Reply) (new : LoopColumns) : Type 0 where
-  pub answer : ReadReply
-  pub replied : r ≡ ofReading answer
-  pub read : LoopsRead s headerRow old answer new
+  pub replied : r ≡ ofReading (loopsAnswer s headerRow old)
+  pub read : LoopsRead s headerRow old (loopsAnswer s headerRow old) new

@@ -1,4 +1,4 @@
-use Rattle.rolkeyda.proofs.Answers.{blocks-fit}
+use Rattle.rolkeyda.proofs.Answers.{blocks-fit, blocks-replied}
 use borrow.Author.Needs.{needs}
 use Rattle.rolkeyda.proofs.rolkeyda_read_blocks.Statement.{statement}
 use Rattle.rolkeyda.proofs.rolkeyda_read_blocks.Tie as tie
@@ -29,7 +29,7 @@ same-length-5 : tie.Need-same-length-5
 same-length-5 c = search needs
 
 returns : tie.Need-returns
-returns c = search needs
+returns c = search blocks-replied
 
 pub rolkeyda-read-blocks-spec : {M : Type 1} → statement M
 rolkeyda-read-blocks-spec =

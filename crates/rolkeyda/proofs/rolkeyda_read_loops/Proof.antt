@@ -1,4 +1,4 @@
-use Rattle.rolkeyda.proofs.Answers.{loops-fit}
+use Rattle.rolkeyda.proofs.Answers.{loops-fit, loops-replied}
 use borrow.Author.Needs.{needs}
 use Rattle.rolkeyda.proofs.rolkeyda_read_loops.Statement.{statement}
 use Rattle.rolkeyda.proofs.rolkeyda_read_loops.Tie as tie
@@ -26,7 +26,7 @@ same-length-4 : tie.Need-same-length-4
 same-length-4 c = search needs
 
 returns : tie.Need-returns
-returns c = search needs
+returns c = search loops-replied
 
 pub rolkeyda-read-loops-spec : {M : Type 1} → statement M
 rolkeyda-read-loops-spec =
