@@ -8,7 +8,7 @@ use native.Mathlib.Omega.{arith}
 use denote.Enum.Declared.{tagOf}
 use lib.IntN.{ℤ, pos}
 use lib.ListN.{take}
-use Rattle.streams.specs.Calls.{Gave, FileGave, FileRead, AllRead, Written}
+use Rattle.streams.specs.Calls.{Gave, FileGave, FileRead, AllRead, WroteTo}
 use Rattle.streams.specs.declared.Content.{Content}
 use Rattle.report.specs.Line.{bytes, lineOf, textOf, Ready}
 use Rattle.report.specs.declared.Outcome.{Outcome}
@@ -115,15 +115,15 @@ module _ (setting : List ℕ) {o : Outcome} (e : o ≡ outcomeOf setting Neither
 pub input-judged : (c : Content) (line : List ℕ) {setting : List ℕ} {o : Outcome} → AllRead (pos 0) settingRoom c line → setting ≡ take (c .len) line → FilesJudged setting o → InputJudged o
 input-judged c line {setting} A e F = record { readable = c .readable; setting = setting; said = rw e (A .gave); files = F }
 
-pub line-printed : (l : Line) {s : List ℕ} {r : Bool} → s ≡ textOf l → Written (pos 1) s r → Written (pos 1) (textOf l) r
+pub line-printed : (l : Line) {s : List ℕ} {r : Bool} → s ≡ textOf l → WroteTo (pos 1) s r → WroteTo (pos 1) (textOf l) r
 line-printed l e W = rw e at W
 
 module _ {o : Outcome} (J : InputJudged o) (l : Line) (R : Ready (lineOf o) l) where
-  printed : {r : Bool} → Written (pos 1) (textOf l) r → Written (pos 1) (lineOf o) r
+  printed : {r : Bool} → WroteTo (pos 1) (textOf l) r → WroteTo (pos 1) (lineOf o) r
   printed W = rw (R .text) at W
 
-  pub ran : {r : Bool} → Written (pos 1) (textOf l) r → r ≡ true → Ran r
+  pub ran : {r : Bool} → WroteTo (pos 1) (textOf l) r → r ≡ true → Ran r
   ran W t = record { outcome = o; judged = J; printed = printed W; complained = λ f. absurd (let z : _≡_ {A = ℕ} 0 1 = cc in omega arith) }
 
-  pub ran-badly : {r q : Bool} → Written (pos 1) (textOf l) r → Written (pos 2) failure q → Ran r
+  pub ran-badly : {r q : Bool} → WroteTo (pos 1) (textOf l) r → WroteTo (pos 2) failure q → Ran r
   ran-badly {r} {q} W C = record { outcome = o; judged = J; printed = printed W; complained = λ f. record { written = q; printed = C } }

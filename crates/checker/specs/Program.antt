@@ -6,7 +6,7 @@ use mathlib.Core.Bool.{Bool, true, false}
 use mathlib.Core.List.{List, [], _∷_, _++_}
 use mathlib.Core.Path.{_≡_}
 use lib.IntN.{pos}
-use Rattle.streams.specs.Calls.{Gave, FileGave, Written}
+use Rattle.streams.specs.Calls.{Gave, FileGave, WroteTo}
 use Rattle.report.specs.Line.{bytes, lineOf}
 use Rattle.report.specs.declared.Outcome.{Outcome}
 use Rattle.stages.specs.Stages.{outcomeOf, wantedBy, settingRoom, textRoom}
@@ -74,11 +74,11 @@ failure = bytes "cannot write the reply" ++ 10 ∷ []
 
 pub record Complained : Type 0 where
   pub written : Bool
-  pub printed : Written (pos 2) failure written
+  pub printed : WroteTo (pos 2) failure written
 
 -- what the program does: it judges its input, "prints the one line" on standard output and, where that fails, the message on standard error
 pub record Ran (written : Bool) : Type 0 where
   pub outcome : Outcome
   pub judged : InputJudged outcome
-  pub printed : Written (pos 1) (lineOf outcome) written
+  pub printed : WroteTo (pos 1) (lineOf outcome) written
   pub complained : written ≡ false → Complained

@@ -2,7 +2,7 @@
 ghost use Rattle.checker.specs.Program.{LoopsJudged, FilesJudged, InputJudged, Ran};
 ghost use lib.IntN.{pos};
 ghost use Rattle.report.specs.Line.{textOf};
-ghost use Rattle.streams.specs.Calls.{Written};
+ghost use Rattle.streams.specs.Calls.{WroteTo};
 use libc::STDERR_FILENO;
 use libc::STDIN_FILENO;
 use libc::STDOUT_FILENO;
@@ -59,7 +59,7 @@ fn judged() -> Outcome
 }
 
 fn print(line: Line) -> bool
-    ensures { λ r. ⌜ Written (pos 1) (textOf line) r ⌝ }
+    ensures { λ r. ⌜ WroteTo (pos 1) (textOf line) r ⌝ }
 {
     let bytes = line.bytes;
     let len = line.len;

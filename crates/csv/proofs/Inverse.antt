@@ -12,7 +12,7 @@ use lib.Seq.{length-take-le, take-append-seam, drop-append-seam, drop-append-add
 use lib.Dec.{leb}
 use Rattle.csv.specs.Grammar.{isQuote, isComma, isCr, isLf, isText, Extent, size, unclosed, longer, plain, insideQuotes, afterQuote, extent, undoubled, content, width, Field, comma, ends, broken, lineFeed, following, limited, field, Record, recordWith, recordIn, recordOf, recordsIn, records}
 use Rattle.limits.specs.Limits.{mostFieldBytes}
-use Rattle.csv.specs.Write.{Entry, bare, quoted, textOf, doubled, written, allText, Unmarked, Writable, Line, writeFields, writeLine, write, AllWritable, LastLine, Allowed, recordAs, recordsAs, AllSound, Written}
+use Rattle.csv.specs.Write.{Entry, bare, quoted, entryText, doubled, written, allText, Unmarked, Writable, Line, writeFields, writeLine, write, AllWritable, LastLine, Allowed, recordAs, recordsAs, AllSound, Written}
 use Rattle.csv.specs.declared.Ending.{Ending}
 use Rattle.csv.specs.declared.Ending.the-variants.{CrLf, EndOfText}
 use Rattle.csv.proofs.Records.{record-step, records-none, records-step, Spans, record-spans}
@@ -134,7 +134,7 @@ undoubled-doubled (b ∷ u) = go (isQuote b) refl (undoubled-doubled u)
     go true e ih = rw e (ap (λ (x : List ℕ). b ∷ x) ih)
     go false e ih = one (doubled u) e ∙ ap (λ (x : List ℕ). b ∷ x) ih
 
-pub content-written : (f : Entry) → Unmarked f → content (written f) ≡ textOf f
+pub content-written : (f : Entry) → Unmarked f → content (written f) ≡ entryText f
 unfolding content allText
 content-written (bare []) e = refl
 content-written (bare (b ∷ s)) e = rw (text-no-quote b (and-eq-true-iff (isText b) (allText s) .0 e .0))
@@ -142,16 +142,16 @@ content-written (quoted u) e =
     let l : length (doubled u ++ (34 ∷ [])) - 1 ≡ length (doubled u) = rw length-append (omega arith) in
     rw (l, take-append-seam (doubled u) (34 ∷ [])) (undoubled-doubled u)
 
-contents : (fs : List Entry) → AllWritable fs → map content (map written fs) ≡ map textOf fs
+contents : (fs : List Entry) → AllWritable fs → map content (map written fs) ≡ map entryText fs
 contents [] w = refl
 contents (f ∷ fs) w = rw (content-written f (w .0 .unmarked), contents fs (w .1))
 
 -- THEOREM: the same of the texts of the fields, without quote marks.
-pub read-texts : (ls : List Line) (ended : Bool) → Allowed ls ended → map (λ (r : Record). map content (r .fields)) (records (write ls ended)) ≡ map (λ (l : Line). map textOf (l .first ∷ l .more)) ls
+pub read-texts : (ls : List Line) (ended : Bool) → Allowed ls ended → map (λ (r : Record). map content (r .fields)) (records (write ls ended)) ≡ map (λ (l : Line). map entryText (l .first ∷ l .more)) ls
 unfolding recordsAs
 read-texts ls ended a = rw (read-back ls ended a) (go ls ended a)
   where
-    go : (ls : List Line) (ended : Bool) → Allowed ls ended → map (λ (r : Record). map content (r .fields)) (recordsAs ls ended) ≡ map (λ (l : Line). map textOf (l .first ∷ l .more)) ls
+    go : (ls : List Line) (ended : Bool) → Allowed ls ended → map (λ (r : Record). map content (r .fields)) (recordsAs ls ended) ≡ map (λ (l : Line). map entryText (l .first ∷ l .more)) ls
     go [] ended a = refl
     go (l ∷ []) ended a = rw (contents (l .first ∷ l .more) (a .0))
     go (l ∷ m ∷ ls) ended a = rw (contents (l .first ∷ l .more) (a .0), go (m ∷ ls) ended (a .1))

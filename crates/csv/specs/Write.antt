@@ -16,9 +16,9 @@ pub data Entry : Type 0 where
   bare : List ℕ → Entry
   quoted : List ℕ → Entry
 
-abbrev pub textOf : Entry → List ℕ
-textOf (bare s) = s
-textOf (quoted s) = s
+abbrev pub entryText : Entry → List ℕ
+entryText (bare s) = s
+entryText (quoted s) = s
 
 -- "a double-quote appearing inside a field must be escaped by preceding it with another double quote"
 unfoldable pub doubled : List ℕ → List ℕ

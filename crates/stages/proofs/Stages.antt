@@ -29,7 +29,7 @@ use Rattle.nesting.specs.declared.StructureFault.{StructureFault}
 use Rattle.nesting.specs.Answers.{refusal}
 use Rattle.certificate.specs.Answers.{tableMeaning}
 use Rattle.wcet.specs.Claim.{Checked}
-use Rattle.stages.specs.Stages.{headerOf, ofAnswer, ofEnd, ofReading, blockReading, loopReading, tableStage, hasBlocks, hasLoops, withLoops, routineOf, loopsStage, blocksStage, settingStage, outcomeOf, wantedBy}
+use Rattle.stages.specs.Stages.{headerOf, ofAnswer, ofEnd, afterReading, blockReading, loopReading, tableStage, hasBlocks, hasLoops, withLoops, routineOf, loopsStage, blocksStage, settingStage, outcomeOf, wantedBy}
 use Rattle.report.specs.declared.Stage.{Stage}
 use Rattle.report.specs.declared.Stage.the-variants.{Blocks, Loops, Table}
 use Rattle.stages.specs.declared.Files.{Files}
@@ -62,7 +62,7 @@ table-told t r C e = e ∙ ap ofAnswer (C .replied)
 -- ---- a text and its columns
 
 -- a text that is refused
-pub reading-refused : {A : Type 0} {o : Outcome} (x : Reading A) {a : ReadReply} (stage : Stage) (next : List A → Outcome) (n p : ℕ) → a ≡ replyOf x → a ≡ read.Refused n p → o ≡ Refused stage n p → o ≡ ofReading stage next x
+pub reading-refused : {A : Type 0} {o : Outcome} (x : Reading A) {a : ReadReply} (stage : Stage) (next : List A → Outcome) (n p : ℕ) → a ≡ replyOf x → a ≡ read.Refused n p → o ≡ Refused stage n p → o ≡ afterReading stage next x
 reading-refused x stage next n p e q t = t ∙ go (x .end) (sym q ∙ e)
   where
     go : (y : End) → read.Refused n p ≡ replyBy (length (x .rows)) y → Refused stage n p ≡ ofEnd stage (next (x .rows)) y
@@ -88,7 +88,7 @@ module _ {A : Type 0} (x : Reading A) (m : ℕ) (T : Taken x m) where
       let n : m ≡ length (map f (x .rows)) = T .count ∙ sym (length-map (x .rows) f) in
       q ∙ ap (λ ys. take m ys) (e ∙ ap (λ (y : End). over (map f (acceptedBy (x .rows) y)) old) (T .end)) ∙ rw n (take-over (map f (x .rows)) old (omega (arith, length-map (x .rows) f)))
 
-  after-rows : {o : Outcome} (stage : Stage) (next : List A → Outcome) → o ≡ next (x .rows) → o ≡ ofReading stage next x
+  after-rows : {o : Outcome} (stage : Stage) (next : List A → Outcome) → o ≡ next (x .rows) → o ≡ afterReading stage next x
   after-rows stage next t = rw (T .end) t
 
 -- ---- the loops

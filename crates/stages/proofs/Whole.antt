@@ -20,7 +20,7 @@ use Rattle.rows.specs.Judge.{judgeBlock, judgeLoop}
 use Rattle.rows.specs.declared.BlockRow.{BlockRow}
 use Rattle.rows.specs.declared.LoopRow.{LoopRow}
 use Rattle.report.specs.Line.{bytes}
-use Rattle.stages.specs.Stages.{same, headerOf, ofAnswer, ofEnd, ofReading, blockReading, loopReading, settingRoom, textRoom, routineOf, tableStage, hasBlocks, hasLoops, loopsStage, blocksStage, settingStage, outcomeOf, wantedBy, Certified, FirstBytes, InTurn}
+use Rattle.stages.specs.Stages.{same, headerOf, ofAnswer, ofEnd, afterReading, blockReading, loopReading, settingRoom, textRoom, routineOf, tableStage, hasBlocks, hasLoops, loopsStage, blocksStage, settingStage, outcomeOf, wantedBy, Certified, FirstBytes, InTurn}
 use Rattle.stages.specs.declared.Header.{Header}
 use Rattle.stages.specs.declared.Header.the-variants.{Absent, Present, Wrong}
 use Rattle.stages.specs.declared.Files.{Files}
@@ -82,7 +82,7 @@ record Accepts {A : Type 0} (x : Reading A) (next : List A → Outcome) (b : ℤ
   read : x ≡ record { rows = x .rows; end = table.all }
   accepts : next (x .rows) ≡ Accepted b
 
-accepts-text : {A : Type 0} (x : Reading A) (stage : Stage) (next : List A → Outcome) (b : ℤ) → ofReading stage next x ≡ Accepted b → Accepts x next b
+accepts-text : {A : Type 0} (x : Reading A) (stage : Stage) (next : List A → Outcome) (b : ℤ) → afterReading stage next x ≡ Accepted b → Accepts x next b
 accepts-text x stage next b e = go (x .end) refl e
   where
     go : (y : End) → x .end ≡ y → ofEnd stage (next (x .rows)) y ≡ Accepted b → Accepts x next b
@@ -90,7 +90,7 @@ accepts-text x stage next b e = go (x .end) refl e
     go (table.refused n p) f q = absurd (let z : _≡_ {A = ℕ} 0 1 = cc in omega arith)
 
 -- a file that is there
-accepts-file : {A : Type 0} (has : Bool) (x : Reading A) (stage : Stage) (next : List A → Outcome) (n p : ℕ) (b : ℤ) → cond has (ofReading stage next x) (Refused stage n p) ≡ Accepted b → Accepts x next b
+accepts-file : {A : Type 0} (has : Bool) (x : Reading A) (stage : Stage) (next : List A → Outcome) (n p : ℕ) (b : ℤ) → cond has (afterReading stage next x) (Refused stage n p) ≡ Accepted b → Accepts x next b
 accepts-file true x stage next n p b e = accepts-text x stage next b e
 accepts-file false x stage next n p b e = absurd (let z : _≡_ {A = ℕ} 0 1 = cc in omega arith)
 

@@ -70,8 +70,8 @@ abbrev pub ofEnd : Stage → Outcome → End → Outcome
 ofEnd stage next table.all = next
 ofEnd stage next (table.refused number place) = Refused stage number place
 
-abbrev pub ofReading : {A : Type 0} → Stage → (List A → Outcome) → Reading A → Outcome
-ofReading stage next x = ofEnd stage (next (x .rows)) (x .end)
+abbrev pub afterReading : {A : Type 0} → Stage → (List A → Outcome) → Reading A → Outcome
+afterReading stage next x = ofEnd stage (next (x .rows)) (x .end)
 
 -- a text, read into columns that have a place for as many rows as a table may have
 abbrev pub blockReading : Bool → List ℕ → Reading BlockRow
@@ -93,10 +93,10 @@ hasLoops Both = true
 
 -- "Setting comes first, then blocks, loops, table; 107 carries the stage of its file."
 unfoldable pub loopsStage : Bool → Files → List ℕ → (List LoopRow → Routine) → Outcome
-loopsStage headerRow files loops with-loops = cond (hasLoops files) (ofReading Loops (λ ls. tableStage (with-loops ls)) (loopReading headerRow loops)) (Refused Loops 107 2)
+loopsStage headerRow files loops with-loops = cond (hasLoops files) (afterReading Loops (λ ls. tableStage (with-loops ls)) (loopReading headerRow loops)) (Refused Loops 107 2)
 
 unfoldable pub blocksStage : Bool → Files → List ℕ → List ℕ → Outcome
-blocksStage headerRow files blocks loops = cond (hasBlocks files) (ofReading Blocks (λ bs. loopsStage headerRow files loops (routineOf bs)) (blockReading headerRow blocks)) (Refused Blocks 107 1)
+blocksStage headerRow files blocks loops = cond (hasBlocks files) (afterReading Blocks (λ bs. loopsStage headerRow files loops (routineOf bs)) (blockReading headerRow blocks)) (Refused Blocks 107 1)
 
 -- "it holds for both files"
 abbrev pub settingStage : Header → Files → List ℕ → List ℕ → Outcome

@@ -15,7 +15,7 @@ use mir.Facts.{toZ-ofZ}
 use borrow.Rule.Slice.PartMut.{putMid, take-put, postOf}
 use Rattle.libc.specs.Io.{Moved}
 use Rattle.streams.specs.declared.Content.{Content}
-use Rattle.streams.specs.Calls.{Call, Within, Answered, Took, Opened, After, ReadCalls, countOf, bytesOf, Gave, AllRead, FileRead, WriteCalls, Written}
+use Rattle.streams.specs.Calls.{Call, Within, Answered, Took, Opened, After, ReadCalls, countOf, bytesOf, Gave, AllRead, FileRead, WriteCalls, WroteTo}
 
 -- ---- an answer
 
@@ -139,12 +139,12 @@ pub left : (s : List ℕ) (done : ℕ) → take (length s - done) (drop done s) 
 left s done = take-all (length s - done) (drop done s) (omega (arith, length-drop done s))
 
 module _ (fd : ℤ) (s : List ℕ) (done : ℕ) (S : WrittenSoFar fd s done) where
-  pub wrote-all : length s ≤ done → Written fd s true
+  pub wrote-all : length s ≤ done → WroteTo fd s true
   unfolding WriteCalls
   wrote-all h = record { answers = S .answers ++ []; made = S .follow [] true (drop-of-length-le s h, refl) }
 
   module _ (z : ℤ) (h : done < length s) (T : Took fd (drop done s) z) where
-    pub wrote-failed : leZ z (pos 0) ≡ true → Written fd s false
+    pub wrote-failed : leZ z (pos 0) ≡ true → WroteTo fd s false
     unfolding WriteCalls
     wrote-failed t = record { answers = S .answers ++ z ∷ []; made = S .follow (z ∷ []) false (turn z T t) }
       where

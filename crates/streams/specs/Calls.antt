@@ -92,6 +92,6 @@ WriteCalls fd s [] written = (s ≡ []) × (written ≡ true)
 WriteCalls fd s (z ∷ zs) written = (0 < length s) × Took fd s z × After z (λ (b : Bool). (zs ≡ []) × (written ≡ false)) (λ (k : ℕ). WriteCalls fd (drop k s) zs written)
 
 -- the bytes s went to fd, all of them where `written` is true
-pub record Written (fd : ℤ) (s : List ℕ) (written : Bool) : Type 0 where
+pub record WroteTo (fd : ℤ) (s : List ℕ) (written : Bool) : Type 0 where
   pub answers : List ℤ
   pub made : WriteCalls fd s answers written

@@ -2,7 +2,7 @@
 ghost use mathlib.Core.Path.{_≡_};
 ghost use lib.ListN.{length, take};
 ghost use Rattle.libc.specs.Io.{Moved};
-ghost use Rattle.streams.specs.Calls.{Within, Answered, Took, Opened, AllRead, FileRead, Written};
+ghost use Rattle.streams.specs.Calls.{Within, Answered, Took, Opened, AllRead, FileRead, WroteTo};
 
 // What reading gave: the count of bytes in the buffer, or an error.
 pub struct Content {
@@ -91,7 +91,7 @@ pub fn prefix(buffer: &[u8], len: usize) -> &[u8]
 
 // Writes all of the bytes and returns true, or stops at the first call that fails or takes none.
 pub fn write_all(fd: i32, bytes: &[u8]) -> bool
-    ensures { λ r. ⌜ Written fd (now (bytes .entry)) r ⌝ }
+    ensures { λ r. ⌜ WroteTo fd (now (bytes .entry)) r ⌝ }
 {
     let mut done: usize = 0;
     while done < bytes.len() {
