@@ -3,17 +3,19 @@
 use mathlib.Core.Path.{_≡_, refl}
 use mathlib.Core.Bool.{Bool, true, false, cond}
 use mathlib.Core.List.{List, [], _∷_}
-use Prim.Native.Nat.{ℕ, suc, _+_, _≤_}
+use Prim.Native.Nat.{ℕ, suc, _+_, _≤_, min}
 use native.Mathlib.Omega.{arith}
 use borrow.Author.Tests.{le-leb}
 use lib.ListN.{length}
 use lib.Dec.{eqb, leb}
-use Rattle.limits.specs.Limits.{mostTextBytes}
+use Rattle.limits.specs.Limits.{mostBlocks, mostLoops, mostTextBytes}
 use Rattle.csv.specs.Grammar.{Record, records}
 use Rattle.csv.specs.Write.{Line, write, Allowed, recordsAs, AllSound, Written}
 use Rattle.csv.proofs.Inverse.{read-back, write-again}
-use Rattle.rows.specs.Row.{Verdict, taken, fault}
-use Rattle.tables.specs.Table.{all, refused, stopped, readingAfter, reading, afterHeaderRow, tableOf}
+use Rattle.rows.specs.Row.{blockFields, loopFields, Verdict, taken, fault}
+use Rattle.rows.specs.Judge.{judgeBlock, judgeLoop}
+use Rattle.rows.proofs.Taken.{block-taken, loop-taken}
+use Rattle.tables.specs.Table.{all, refused, stopped, readingAfter, reading, afterHeaderRow, tableOf, blockTable, loopTable}
 
 refuse : {n place : ℕ} {B : Type 0} → refused n place ≡ all → B
 refuse q = absurd (let z : _≡_ {A = ℕ} 0 1 = cc in omega arith)
@@ -45,7 +47,7 @@ module _ {A : Type 0} (judge : ℕ → Record → Verdict A) where
         go true false g e = refuse e
         go false b g e = refuse e
 
-    -- THEOREM: every accepted text is written by RFC 4180.
+    -- every accepted text is written by RFC 4180
     pub accepted-written : (count : ℕ) (headerRow : Bool) (s : List ℕ) → tableOf count judge headerRow s .end ≡ all → Written s
     unfolding tableOf
     accepted-written count headerRow s e = write-again s (long (leb (length s) mostTextBytes) e)
@@ -57,3 +59,10 @@ module _ {A : Type 0} (judge : ℕ → Record → Verdict A) where
         long : (b : Bool) → cond b (cond headerRow (afterHeaderRow count judge (records s)) (reading judge 1 0 (records s))) (stopped 101 0) .end ≡ all → AllSound (records s)
         long true e = told headerRow e
         long false e = refuse e
+
+-- THEOREM: every text that is accepted as one of the two tables is written by RFC 4180.
+pub blocks-written : (places : ℕ) (headerRow : Bool) (s : List ℕ) → blockTable places headerRow s .end ≡ all → Written s
+blocks-written places = accepted-written (judgeBlock (min places mostBlocks)) (λ k r w e. block-taken (min places mostBlocks) k r w e .0) blockFields
+
+pub loops-written : (places : ℕ) (headerRow : Bool) (s : List ℕ) → loopTable places headerRow s .end ≡ all → Written s
+loops-written places = accepted-written (judgeLoop (min places mostLoops)) (λ k r w e. loop-taken (min places mostLoops) k r w e .0) loopFields
