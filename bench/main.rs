@@ -80,7 +80,7 @@ fn reading(routine: &Routine) {
         &format!("reading a plain block table of 1024 rows, {} bytes", bytes.len()),
         (bytes.len() as f64, "B"),
         (400, 5),
-        &[1.0, 1.0, 1.5],
+        &[1.6, 1.0, 3.5],
         &mut [
             Measure::new("rolkeyda_read_blocks", || keep(Library::read_blocks(black_box(bytes), &mut ours))),
             Measure::new("csv-core, reader kept", || keep(reading::csv_core(&mut reader, black_box(bytes), &mut kept))),
@@ -98,7 +98,7 @@ fn checking(routine: &Routine) {
         &format!("checking 1024 blocks, 64 loops (bound {})", ours.value),
         (1024.0, "blocks"),
         (400, 20),
-        &[1.0],
+        &[1.3],
         &mut [
             Measure::new("rolkeyda_check", || keep(Library::check(black_box(routine)))),
             Measure::new("straight Rust", || keep(straight::check(black_box(routine)))),
@@ -115,7 +115,7 @@ fn walking(routine: &Routine) {
         &format!("a walk of {} blocks (cost {})", walk.len(), ours.value),
         (walk.len() as f64, "blocks"),
         (60, 1),
-        &[0.9],
+        &[1.5],
         &mut [
             Measure::new("rolkeyda_walk", || keep(Library::walk(routine, black_box(&walk)))),
             Measure::new("straight Rust", || keep(straight::walk(routine, black_box(&walk)))),
