@@ -19,7 +19,7 @@ use Rattle.csv.specs.declared.Close.{Close}
 use Rattle.csv.specs.declared.Close.the-variants.{At, Never}
 use Rattle.csv.specs.declared.Found.{Found}
 use Rattle.csv.specs.declared.Found.the-variants.{Comma, Ends, Broken}
-use Rattle.csv.specs.declared.Ending.the-variants.{CrLf, EndOfText}
+use Rattle.csv.specs.declared.Ending.the-variants.{CrLf, Lf, EndOfText}
 
 -- the bytes from a place within the text: the byte there, and those from the next place on
 pub next-byte : (s : List ℕ) (i : ℕ) → i < length s → drop i s ≡ getD s i 0 ∷ drop (i + 1) s
@@ -143,7 +143,7 @@ module _ (s : List ℕ) (at : ℕ) where
 found-after : (at n : ℕ) (t : List ℕ) → foundAt (at + n) (following 0 t) ≡ foundAt at (following n t)
 unfolding following
 found-after at n [] = rw add-zero
-found-after at n (b ∷ t) = go (isComma b) (isCr b)
+found-after at n (b ∷ t) = go (isComma b) (isCr b) (isLf b)
   where
     line : (t : List ℕ) → foundAt (at + n) (lineFeed 0 t) ≡ foundAt at (lineFeed n t)
     line [] = refl
@@ -153,10 +153,11 @@ found-after at n (b ∷ t) = go (isComma b) (isCr b)
         feed true = rw add-zero
         feed false = refl
 
-    go : (f g : Bool) → foundAt (at + n) (cond f (comma 0) (cond g (lineFeed 0 t) broken)) ≡ foundAt at (cond f (comma n) (cond g (lineFeed n t) broken))
-    go true g = rw add-zero
-    go false true = line t
-    go false false = refl
+    go : (f g h : Bool) → foundAt (at + n) (cond f (comma 0) (cond g (lineFeed 0 t) (cond h (ends Lf 0) broken))) ≡ foundAt at (cond f (comma n) (cond g (lineFeed n t) (cond h (ends Lf n) broken)))
+    go true g h = rw add-zero
+    go false true h = line t
+    go false false true = rw add-zero
+    go false false false = refl
 
 pub found-from : (s : List ℕ) (at n e : ℕ) → e ≡ at + n → foundAt e (following 0 (drop e s)) ≡ foundAt at (following n (drop n (drop at s)))
 found-from s at n e i = rw (i, drop-drop n at s) (found-after at n (drop (at + n) s))
@@ -172,9 +173,13 @@ module _ (s : List ℕ) (e : ℕ) where
     unfolding following
     follow-comma m = rw (next-byte s e h, eq-eqb _ _ m, add-zero)
 
-    pub follow-other : (getD s e 0 ≡ 44 → ⊥) → (getD s e 0 ≡ 13 → ⊥) → Broken ≡ foundAt e (following 0 (drop e s))
+    pub follow-lf : getD s e 0 ≡ 10 → Ends Lf e ≡ foundAt e (following 0 (drop e s))
     unfolding following
-    follow-other m o = rw (next-byte s e h, ne-eqb _ _ m, ne-eqb _ _ o)
+    follow-lf m = rw (next-byte s e h, m, add-zero)
+
+    pub follow-other : (getD s e 0 ≡ 44 → ⊥) → (getD s e 0 ≡ 10 → ⊥) → (getD s e 0 ≡ 13 → ⊥) → Broken ≡ foundAt e (following 0 (drop e s))
+    unfolding following
+    follow-other m l o = rw (next-byte s e h, ne-eqb _ _ m, ne-eqb _ _ o, ne-eqb _ _ l)
 
     module _ (m : getD s e 0 ≡ 44 → ⊥) (o : getD s e 0 ≡ 13) where
       after-cr : following 0 (drop e s) ≡ lineFeed 0 (drop (e + 1) s)

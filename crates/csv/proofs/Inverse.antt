@@ -1,4 +1,5 @@
--- Reading what RFC 4180 writes gives what was written, and every text whose records are all sound is written so.
+-- Reading what RFC 4180 writes, with CR LF or with LF, gives what was written, and every text whose records are all sound and end alike is
+-- written so.
 -- Assumes nothing.
 use mathlib.Core.Path.{_≡_, refl, sym, ap, _∙_}
 use mathlib.Core.Bool.{Bool, true, false, cond, not, _||_, and-eq-true-iff, false≢true}
@@ -10,11 +11,11 @@ use borrow.Author.Tests.{eqb-true, leb-true, le-leb}
 use lib.ListN.{length, take, drop, length-append, length-drop, take-append-drop}
 use lib.Seq.{length-take-le, take-append-seam, drop-append-seam, drop-append-add, drop-drop}
 use lib.Dec.{leb}
-use Rattle.csv.specs.Grammar.{isQuote, isComma, isCr, isLf, isText, Extent, size, unclosed, longer, plain, insideQuotes, afterQuote, extent, undoubled, content, width, Field, comma, ends, broken, lineFeed, following, limited, field, Record, recordWith, recordIn, recordOf, recordsIn, records}
+use Rattle.csv.specs.Grammar.{isQuote, isComma, isCr, isLf, isText, Extent, size, unclosed, longer, plain, insideQuotes, afterQuote, extent, undoubled, content, width, Field, comma, ends, broken, lineFeed, following, limited, field, Record, recordWith, recordIn, recordOf, recordsIn, records, firstEnding, alike}
 use Rattle.limits.specs.Limits.{mostFieldBytes}
-use Rattle.csv.specs.Write.{Entry, bare, quoted, entryText, doubled, written, allText, Unmarked, Writable, Line, writeFields, writeLine, write, AllWritable, LastLine, Allowed, recordAs, recordsAs, AllSound, Written}
+use Rattle.csv.specs.Write.{Entry, bare, quoted, entryText, doubled, written, allText, Unmarked, Writable, Line, writeFields, writeLine, LineEnd, crLf, lf, endBytes, endingOf, write, AllWritable, LastLine, Allowed, recordAs, recordsAs, SoundAlike, Written}
 use Rattle.csv.specs.declared.Ending.{Ending}
-use Rattle.csv.specs.declared.Ending.the-variants.{CrLf, EndOfText}
+use Rattle.csv.specs.declared.Ending.the-variants.{CrLf, Lf, EndOfText}
 use Rattle.csv.proofs.Records.{record-step, records-none, records-step, Spans, record-spans}
 
 -- what may follow a field: nothing, or a byte that is neither text nor a quote mark
@@ -69,15 +70,18 @@ field-written f t w h = rw (extent-written f t (w .unmarked) h, le-leb (length (
 -- what follows the last field of a record
 abbrev pub ending : Ending → List ℕ → List ℕ
 ending CrLf t = 13 ∷ 10 ∷ t
+ending Lf t = 10 ∷ t
 ending EndOfText t = []
 
 ending-stops : (e : Ending) (t : List ℕ) → Stops (ending e t)
 ending-stops CrLf t = (refl, refl)
+ending-stops Lf t = (refl, refl)
 ending-stops EndOfText t = tt
 
 pub following-ending : (e : Ending) (n : ℕ) (t : List ℕ) → following n (ending e t) ≡ ends e n
 unfolding following
 following-ending CrLf n t = refl
+following-ending Lf n t = refl
 following-ending EndOfText n t = refl
 
 pub following-comma : (n : ℕ) (t : List ℕ) → following n (44 ∷ t) ≡ comma n
@@ -96,12 +100,12 @@ line-record f (g ∷ gs) e t w =
     rw (append-assoc (written f) (44 ∷ writeFields g gs) (ending e t))
     (record-step (written f ++ 44 ∷ y) ∙ rw (field-written f (44 ∷ y) (w .0) (refl, refl), following-comma n y, take-append-seam (written f) (44 ∷ y), d, line-record g gs e t (w .1), l))
 
--- THEOREM: reading what is written gives the records that were written, whichever fields stand between quote marks, and whether or
--- not the last line end is there.
-pub read-back : (ls : List Line) (ended : Bool) → Allowed ls ended → records (write ls ended) ≡ recordsAs ls ended
+-- THEOREM: reading what is written gives the records that were written, whichever fields stand between quote marks, whichever line end the
+-- file has, and whether or not the last one is there.
+pub read-back : (e : LineEnd) (ls : List Line) (ended : Bool) → Allowed ls ended → records (write e ls ended) ≡ recordsAs e ls ended
 unfolding write recordsAs
-read-back [] ended a = records-none [] refl
-read-back (l ∷ []) ended a = last ended (a .1)
+read-back e [] ended a = records-none [] refl
+read-back e (l ∷ []) ended a = last e ended (a .1)
   where
     step : (e : Ending) → 0 < length (writeLine l ++ ending e []) → records (writeLine l ++ ending e []) ≡ recordAs l e ∷ []
     step e h =
@@ -110,15 +114,18 @@ read-back (l ∷ []) ended a = last ended (a .1)
       where
         rest : (e : Ending) → records (drop (width e) (ending e [])) ≡ []
         rest CrLf = records-none [] refl
+        rest Lf = records-none [] refl
         rest EndOfText = records-none [] refl
 
-    last : (ended : Bool) → LastLine l ended → records (writeLine l ++ cond ended (13 ∷ 10 ∷ []) []) ≡ recordAs l (cond ended CrLf EndOfText) ∷ []
-    last true h = step CrLf (rw length-append (omega arith))
-    last false h = step EndOfText (rw length-append (omega arith))
-read-back (l ∷ m ∷ ls) ended a =
-    let t : List ℕ = write (m ∷ ls) ended in
-    let r : recordOf (writeLine l ++ 13 ∷ 10 ∷ t) ≡ recordAs l CrLf = line-record (l .first) (l .more) CrLf t (a .0) in
-    records-step (writeLine l ++ 13 ∷ 10 ∷ t) (rw length-append (omega arith)) ∙ rw (r, drop-append-add (writeLine l) (13 ∷ 10 ∷ t) 2, read-back (m ∷ ls) ended (a .1))
+    last : (e : LineEnd) (ended : Bool) → LastLine l ended → records (writeLine l ++ cond ended (endBytes e []) []) ≡ recordAs l (cond ended (endingOf e) EndOfText) ∷ []
+    last crLf true h = step CrLf (rw length-append (omega arith))
+    last lf true h = step Lf (rw length-append (omega arith))
+    last e false h = step EndOfText (rw length-append (omega arith))
+read-back e (l ∷ m ∷ ls) ended a = next e (write e (m ∷ ls) ended) (read-back e (m ∷ ls) ended (a .1))
+  where
+    next : (e : LineEnd) (t : List ℕ) {rs : List Record} → records t ≡ rs → records (writeLine l ++ endBytes e t) ≡ recordAs l (endingOf e) ∷ rs
+    next crLf t h = records-step (writeLine l ++ 13 ∷ 10 ∷ t) (rw length-append (omega arith)) ∙ rw (line-record (l .first) (l .more) CrLf t (a .0), drop-append-add (writeLine l) (13 ∷ 10 ∷ t) 2, h)
+    next lf t h = records-step (writeLine l ++ 10 ∷ t) (rw length-append (omega arith)) ∙ rw (line-record (l .first) (l .more) Lf t (a .0), drop-append-add (writeLine l) (10 ∷ t) 1, h)
 
 -- The text of a field that was written is the text that was to be written.
 undoubled-doubled : (u : List ℕ) → undoubled (doubled u) ≡ u
@@ -147,11 +154,11 @@ contents [] w = refl
 contents (f ∷ fs) w = rw (content-written f (w .0 .unmarked), contents fs (w .1))
 
 -- THEOREM: the same of the texts of the fields, without quote marks.
-pub read-texts : (ls : List Line) (ended : Bool) → Allowed ls ended → map (λ (r : Record). map content (r .fields)) (records (write ls ended)) ≡ map (λ (l : Line). map entryText (l .first ∷ l .more)) ls
+pub read-texts : (e : LineEnd) (ls : List Line) (ended : Bool) → Allowed ls ended → map (λ (r : Record). map content (r .fields)) (records (write e ls ended)) ≡ map (λ (l : Line). map entryText (l .first ∷ l .more)) ls
 unfolding recordsAs
-read-texts ls ended a = rw (read-back ls ended a) (go ls ended a)
+read-texts e ls ended a = rw (read-back e ls ended a) (go ls ended a)
   where
-    go : (ls : List Line) (ended : Bool) → Allowed ls ended → map (λ (r : Record). map content (r .fields)) (recordsAs ls ended) ≡ map (λ (l : Line). map entryText (l .first ∷ l .more)) ls
+    go : (ls : List Line) (ended : Bool) → Allowed ls ended → map (λ (r : Record). map content (r .fields)) (recordsAs e ls ended) ≡ map (λ (l : Line). map entryText (l .first ∷ l .more)) ls
     go [] ended a = refl
     go (l ∷ []) ended a = rw (contents (l .first ∷ l .more) (a .0))
     go (l ∷ m ∷ ls) ended a = rw (contents (l .first ∷ l .more) (a .0), go (m ∷ ls) ended (a .1))
@@ -269,12 +276,13 @@ module _ (s : List ℕ) (n : ℕ) (a : Again n s) (l : n ≤ mostFieldBytes) whe
   following-again : (t : List ℕ) → drop n s ≡ t → FieldAgain s (following n t)
   unfolding following
   following-again [] d = begins [] d
-  following-again (b ∷ t) d = next (isComma b) (isCr b) refl refl
+  following-again (b ∷ t) d = next (isComma b) (isCr b) (isLf b) refl refl refl
     where
-      next : (f g : Bool) → isComma b ≡ f → isCr b ≡ g → FieldAgain s (cond f (comma n) (cond g (lineFeed n t) broken))
-      next true g e h = begins (44 ∷ drop (n + 1) s) (d ∙ rw (eqb-true b 44 e, ← drop-drop 1 n s, d))
-      next false true e h = line-again b t h d
-      next false false e h = tt
+      next : (f g k : Bool) → isComma b ≡ f → isCr b ≡ g → isLf b ≡ k → FieldAgain s (cond f (comma n) (cond g (lineFeed n t) (cond k (ends Lf n) broken)))
+      next true g k e h i = begins (44 ∷ drop (n + 1) s) (d ∙ rw (eqb-true b 44 e, ← drop-drop 1 n s, d))
+      next false true k e h i = line-again b t h d
+      next false false true e h i = begins (10 ∷ drop (n + 1) s) (d ∙ rw (eqb-true b 10 i, ← drop-drop 1 n s, d))
+      next false false false e h i = tt
 
 field-again : (s : List ℕ) → FieldAgain s (field s)
 unfolding field
@@ -314,40 +322,72 @@ line-of : (s : List ℕ) → recordOf s .sound ≡ true → LineAgain s (recordO
 unfolding recordOf
 line-of s e = record-again (suc (length s)) s e
 
--- one line in front of a text that is written
-joined-lines : (l : Line) (x : Ending) (s t : List ℕ) → AllWritable (l .first ∷ l .more) → 0 < length s → s ≡ writeLine l ++ ending x t → Written t → Written s
+nothing-written : (e : LineEnd) → Written e []
 unfolding write
-joined-lines l EndOfText s t w h e rest = record { lines = l ∷ []; ended = false; allowed = (w, omega (arith, simp length-append at (ap length e))); text = sym e }
-joined-lines l CrLf s t w h e rest = go (rest .lines) (rest .allowed) (rest .text)
-  where
-    go : (ls : List Line) → Allowed ls (rest .ended) → write ls (rest .ended) ≡ t → Written s
-    go [] a q = record { lines = l ∷ []; ended = true; allowed = (w, tt); text = rw (← q) at (sym e) }
-    go (m ∷ ls) a q = record { lines = l ∷ m ∷ ls; ended = rest .ended; allowed = (w, a); text = ap (λ (x : List ℕ). writeLine l ++ 13 ∷ 10 ∷ x) q ∙ sym e }
+nothing-written e = record { lines = []; ended = true; allowed = tt; text = refl }
 
-nothing-written : Written []
-unfolding write
-nothing-written = record { lines = []; ended = true; allowed = tt; text = refl }
+-- one line in front of a text that is written: it ends with the text, or it has the line end
+module _ (l : Line) (w : AllWritable (l .first ∷ l .more)) (s : List ℕ) where
+  last-line : (e : LineEnd) → 0 < length s → s ≡ writeLine l ++ [] → Written e s
+  unfolding write
+  last-line e h q = record { lines = l ∷ []; ended = false; allowed = (w, omega (arith, simp length-append at (ap length q))); text = sym q }
 
-records-again : (k : ℕ) (s : List ℕ) → length s ≤ k → AllSound (recordsIn k s) → Written s
+  joined-lines : (e : LineEnd) (t : List ℕ) → s ≡ writeLine l ++ endBytes e t → Written e t → Written e s
+  unfolding write
+  joined-lines e t q rest = go (rest .lines) (rest .allowed) (rest .text)
+    where
+      go : (ls : List Line) → Allowed ls (rest .ended) → write e ls (rest .ended) ≡ t → Written e s
+      go [] a p = record { lines = l ∷ []; ended = true; allowed = (w, tt); text = rw (← p) at (sym q) }
+      go (m ∷ ls) a p = record { lines = l ∷ m ∷ ls; ended = rest .ended; allowed = (w, a); text = ap (λ (x : List ℕ). writeLine l ++ endBytes e x) p ∙ sym q }
+
+  -- the ending x of the line may stand in a file with the line end e
+  more-lines : (e : LineEnd) (x : Ending) (t : List ℕ) → alike (endingOf e) x ≡ true → 0 < length s → s ≡ writeLine l ++ ending x t → Written e t → Written e s
+  more-lines e EndOfText t f h q rest = last-line e h q
+  more-lines crLf CrLf t f h q rest = joined-lines crLf t q rest
+  more-lines crLf Lf t f h q rest = absurd (false≢true f)
+  more-lines lf CrLf t f h q rest = absurd (false≢true f)
+  more-lines lf Lf t f h q rest = joined-lines lf t q rest
+
+records-again : (e : LineEnd) (k : ℕ) (s : List ℕ) → length s ≤ k → SoundAlike (endingOf e) (recordsIn k s) → Written e s
 unfolding recordsIn
-records-again zero [] l h = nothing-written
-records-again zero (b ∷ s) l h = absurd (omega arith)
-records-again (suc k) [] l h = nothing-written
-records-again (suc k) (b ∷ s) l h = go (λ t. records-again k t)
+records-again e zero [] l h = nothing-written e
+records-again e zero (b ∷ s) l h = absurd (omega arith)
+records-again e (suc k) [] l h = nothing-written e
+records-again e (suc k) (b ∷ s) l h = go (λ t. records-again e k t)
   where
     sound : recordOf (b ∷ s) .sound ≡ true
     sound = h .0
 
-    go : ((t : List ℕ) → length t ≤ k → AllSound (recordsIn k t) → Written t) → Written (b ∷ s)
+    go : ((t : List ℕ) → length t ≤ k → SoundAlike (endingOf e) (recordsIn k t) → Written e t) → Written e (b ∷ s)
     go ih =
         let r : Record = recordOf (b ∷ s) in
         let a : LineAgain (b ∷ s) r = line-of (b ∷ s) sound in
         let p : Spans r (suc (length s)) = record-spans (b ∷ s) sound in
         let m : 0 < r .bytes = p .some (omega arith) in
-        let rest : AllSound (recordsIn k (drop (r .bytes) (b ∷ s))) = rw sound at (h .1) in
-        joined-lines (a .line) (r .ending) (b ∷ s) (drop (r .bytes) (b ∷ s)) (a .writable) (omega arith) (a .text) (ih (drop (r .bytes) (b ∷ s)) (rw length-drop (omega arith)) rest)
+        let rest : SoundAlike (endingOf e) (recordsIn k (drop (r .bytes) (b ∷ s))) = rw sound at (h .2) in
+        more-lines (a .line) (a .writable) (b ∷ s) e (r .ending) (drop (r .bytes) (b ∷ s)) (h .1) (omega arith) (a .text) (ih (drop (r .bytes) (b ∷ s)) (rw length-drop (omega arith)) rest)
 
--- THEOREM: every text whose records are all sound is written so.
-pub write-again : (s : List ℕ) → AllSound (records s) → Written s
+pub alike-same : (x : Ending) → alike x x ≡ true
+alike-same CrLf = refl
+alike-same Lf = refl
+alike-same EndOfText = refl
+
+-- a text whose first record ends with it has a line end of either kind
+alike-open : (x : Ending) → alike EndOfText x ≡ true → alike CrLf x ≡ true
+alike-open CrLf e = absurd (false≢true e)
+alike-open Lf e = absurd (false≢true e)
+alike-open EndOfText e = refl
+
+all-open : (rs : List Record) → SoundAlike EndOfText rs → SoundAlike CrLf rs
+all-open [] h = tt
+all-open (r ∷ rs) h = (h .0, alike-open (r .ending) (h .1), all-open rs (h .2))
+
+-- THEOREM: every text whose records are all sound and end alike is written so.
+pub write-again : (s : List ℕ) → SoundAlike (firstEnding (records s)) (records s) → (e : LineEnd) × Written e s
 unfolding records
-write-again s h = records-again (length s) s (omega arith) h
+write-again s h = go (firstEnding (records s)) h
+  where
+    go : (x : Ending) → SoundAlike x (records s) → (e : LineEnd) × Written e s
+    go CrLf h = (crLf, records-again crLf (length s) s (omega arith) h)
+    go Lf h = (lf, records-again lf (length s) s (omega arith) h)
+    go EndOfText h = (crLf, records-again crLf (length s) s (omega arith) (all-open (records s) h))

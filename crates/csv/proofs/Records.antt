@@ -8,8 +8,8 @@ use native.Mathlib.Omega.{arith}
 use lib.ListN.{length, take, drop, length-drop}
 use lib.Dec.{leb}
 use Rattle.limits.specs.Limits.{mostFieldBytes}
-use Rattle.csv.specs.declared.Ending.the-variants.{CrLf, EndOfText}
-use Rattle.csv.specs.Grammar.{Extent, size, unclosed, longer, plain, insideQuotes, afterQuote, extent, isQuote, isComma, isCr, isLf, isText, Field, comma, ends, width, broken, following, lineFeed, limited, field, Record, recordWith, recordIn, recordOf, joined, recordsAfter, recordsIn, records}
+use Rattle.csv.specs.declared.Ending.the-variants.{CrLf, Lf, EndOfText}
+use Rattle.csv.specs.Grammar.{Extent, size, unclosed, longer, plain, insideQuotes, afterQuote, extent, isQuote, isComma, isCr, isLf, isText, Field, comma, ends, width, broken, following, lineFeed, limited, field, Record, recordWith, recordIn, recordOf, joined, recordsAfter, recordsIn, records, firstEnding}
 
 -- at most l bytes
 abbrev Bounded : ℕ → Extent → Type 0
@@ -66,12 +66,13 @@ line-within l n (b ∷ t) e = go (isLf b)
 following-within : (l n : ℕ) (t : List ℕ) → n + length t ≡ l → Within l (following n t)
 unfolding following
 following-within l n [] e = (omega arith, λ z. omega arith)
-following-within l n (b ∷ t) e = go (isComma b) (isCr b)
+following-within l n (b ∷ t) e = go (isComma b) (isCr b) (isLf b)
   where
-    go : (f g : Bool) → Within l (cond f (comma n) (cond g (lineFeed n t) broken))
-    go true g = omega arith
-    go false true = line-within l n t e
-    go false false = tt
+    go : (f g h : Bool) → Within l (cond f (comma n) (cond g (lineFeed n t) (cond h (ends Lf n) broken)))
+    go true g h = omega arith
+    go false true h = line-within l n t e
+    go false false true = (omega arith, λ z. absurd (omega arith))
+    go false false false = tt
 
 pub field-within : (s : List ℕ) → Within (length s) (field s)
 unfolding field
@@ -121,6 +122,7 @@ spans-in (suc k) s h e = go (λ t. spans-in k t) (field s) (field-within s) e
         let t : Spans (recordIn k (drop (n + 1) s)) (length (drop (n + 1) s)) = ih (drop (n + 1) s) (rw length-drop (omega arith)) e in
         record { within = omega (arith, rw length-drop at (t .within)); some = λ z. omega arith }
     go ih (ends CrLf n) w e = record { within = omega arith; some = λ z. omega arith }
+    go ih (ends Lf n) w e = record { within = omega arith; some = λ z. omega arith }
     go ih (ends EndOfText n) w e = record { within = omega arith; some = λ z. omega (arith, w .1 refl) }
     go ih broken w e = absurd (false≢true e)
 
@@ -162,3 +164,9 @@ records-step (b ∷ s) h = ap (λ (l : List Record). recordOf (b ∷ s) ∷ l) (
         at : (t : Bool) → r .sound ≡ t → cond t (recordsIn (length s) (drop (r .bytes) (b ∷ s))) [] ≡ cond t (records (drop (r .bytes) (b ∷ s))) []
         at true e = let m : 0 < r .bytes = h e .some (omega arith) in records-enough (length s) (length (drop (r .bytes) (b ∷ s))) (drop (r .bytes) (b ∷ s)) (rw length-drop (omega arith)) (omega arith)
         at false e = refl
+
+-- how the first record ends; a text without a byte has none, and nothing is read there up to the end of the text
+pub first-ends : (s : List ℕ) → recordOf s .ending ≡ firstEnding (records s)
+unfolding field extent following
+first-ends [] = rw (record-step [], records-none [] refl)
+first-ends (b ∷ s) = rw (records-step (b ∷ s) (omega arith))

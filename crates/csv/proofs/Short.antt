@@ -11,18 +11,19 @@ use lib.Dec.{leb}
 use Rattle.limits.specs.Limits.{mostFieldBytes}
 use Rattle.csv.specs.Grammar.{isComma, isCr, isLf, isText, isQuote, size, extent, Field, comma, ends, broken, lineFeed, following, limited, field}
 use Rattle.csv.specs.Write.{bare, allText}
-use Rattle.csv.specs.declared.Ending.the-variants.{CrLf}
+use Rattle.csv.specs.declared.Ending.the-variants.{CrLf, Lf}
 use Rattle.csv.proofs.Inverse.{Stops, extent-written}
 
 stops : (n : ℕ) (t : List ℕ) → (following n t ≡ broken → ⊥) → Stops t
 unfolding following
 stops n [] f = tt
-stops n (b ∷ t) f = go (isComma b) (isCr b) refl refl f
+stops n (b ∷ t) f = go (isComma b) (isCr b) (isLf b) refl refl refl f
   where
-    go : (c r : Bool) → isComma b ≡ c → isCr b ≡ r → (cond c (comma n) (cond r (lineFeed n t) broken) ≡ broken → ⊥) → (isText b ≡ false) × (isQuote b ≡ false)
-    go true r e h f = let z : b ≡ 44 = eqb-true b 44 e in (rw z, rw z)
-    go false true e h f = let z : b ≡ 13 = eqb-true b 13 h in (rw z, rw z)
-    go false false e h f = absurd (f refl)
+    go : (c r l : Bool) → isComma b ≡ c → isCr b ≡ r → isLf b ≡ l → (cond c (comma n) (cond r (lineFeed n t) (cond l (ends Lf n) broken)) ≡ broken → ⊥) → (isText b ≡ false) × (isQuote b ≡ false)
+    go true r l e h i f = let z : b ≡ 44 = eqb-true b 44 e in (rw z, rw z)
+    go false true l e h i f = let z : b ≡ 13 = eqb-true b 13 h in (rw z, rw z)
+    go false false true e h i f = let z : b ≡ 10 = eqb-true b 10 i in (rw z, rw z)
+    go false false false e h i f = absurd (f refl)
 
 -- LAW: n text bytes at the start of s, with what follows them, are what the grammar finds there.
 pub short-field : (s : List ℕ) (n : ℕ) → n ≤ length s → allText (take n s) ≡ true → (limited s (size n) ≡ broken → ⊥) → field s ≡ limited s (size n)
@@ -56,12 +57,13 @@ short-sized s n = go (leb n mostFieldBytes)
 
     next : (t : List ℕ) → Sized n (following n t)
     next [] = refl
-    next (b ∷ t) = at (isComma b) (isCr b)
+    next (b ∷ t) = at (isComma b) (isCr b) (isLf b)
       where
-        at : (f g : Bool) → Sized n (cond f (comma n) (cond g (lineFeed n t) broken))
-        at true g = refl
-        at false true = line t
-        at false false = tt
+        at : (f g h : Bool) → Sized n (cond f (comma n) (cond g (lineFeed n t) (cond h (ends Lf n) broken)))
+        at true g h = refl
+        at false true h = line t
+        at false false true = refl
+        at false false false = tt
 
     go : (b : Bool) → Sized n (cond b (following n (drop n s)) broken)
     go true = next (drop n s)

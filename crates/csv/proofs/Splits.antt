@@ -12,14 +12,14 @@ use lib.ListN.{length, take, drop, getD, set, length-drop, length-take, length-s
 use lib.Seq.{drop-drop, getD-set-same, getD-set-other, length-take-le}
 use native.Mathlib.Decide.{decLe}
 use lib.Dec.{leb, ltb, leb·zero}
-use Rattle.csv.specs.Grammar.{Field, comma, ends, broken, width, field, Record, recordOf, recordIn, recordWith, joined, only, unsound}
+use Rattle.csv.specs.Grammar.{Field, comma, ends, broken, width, field, Record, recordOf, recordIn, recordWith, joined, only, unsound, records, firstEnding}
 use Rattle.csv.specs.Place.{foundAt, noPlaces, note, noted, startsOf, stopsOf, splitOf, partOf, fieldAt}
 use Rattle.csv.specs.declared.Ending.{Ending}
 use Rattle.csv.specs.declared.Ending.the-variants.{EndOfText}
 use Rattle.csv.specs.declared.Found.{Found}
 use Rattle.csv.specs.declared.Found.the-variants.{Comma, Ends, Broken}
 use Rattle.csv.specs.declared.Split.{Split}
-use Rattle.csv.proofs.Records.{Within, field-within, record-step}
+use Rattle.csv.proofs.Records.{Within, field-within, record-step, first-ends}
 
 -- Each way through `note_bounds`.
 pub put-in : (places : List ℕ) (i x : ℕ) → i < 8 → set places i x ≡ note places i x
@@ -209,3 +209,7 @@ split-field s p i h =
     place xs =
         let e : 0 + i ≡ i = omega arith in
         rw e at (noted-at noPlaces 0 xs i refl (omega arith) ∙ ap (getD xs i) (getD-replicate 8 (0 + i) 0 0 (omega arith)))
+
+-- how the first record of a text ends
+pub first-split : (s : List ℕ) {r : Split} → r ≡ splitOf noPlaces noPlaces 0 0 (recordOf (drop 0 s)) → r .ending ≡ firstEnding (records s)
+first-split s q = ap (λ (x : Split). x .ending) q ∙ first-ends s

@@ -1,6 +1,6 @@
 -- The grammar of RFC 4180, section 2, over a list of bytes: fields, what follows a field, records, and the text. It departs from
--- the RFC where document 01 does: TEXTDATA is every byte that is no quote mark, comma, CR or LF; an empty text has no records;
--- and a field has at most `mostFieldBytes` bytes as written.
+-- the RFC where the papers do. Document 01: TEXTDATA is every byte that is no quote mark, comma, CR or LF; an empty text has no records;
+-- and a field has at most `mostFieldBytes` bytes as written. Document 02, §1, "widens RFC 4180": LF ends a record as CR LF does.
 -- Assumes nothing: these are definitions.
 use Prim.Native.Nat.{ℕ, zero, suc, _+_, _-_}
 use mathlib.Core.Bool.{Bool, true, false, cond, not, _||_}
@@ -9,7 +9,7 @@ use lib.ListN.{length, take, drop}
 use lib.Dec.{leb, eqb}
 use Rattle.limits.specs.Limits.{mostFieldBytes}
 use Rattle.csv.specs.declared.Ending.{Ending}
-use Rattle.csv.specs.declared.Ending.the-variants.{CrLf, EndOfText}
+use Rattle.csv.specs.declared.Ending.the-variants.{CrLf, Lf, EndOfText}
 
 -- DQUOTE = %x22, COMMA = %x2C, CR = %x0D, LF = %x0A
 abbrev pub isQuote : ℕ → Bool
@@ -60,9 +60,11 @@ unfoldable pub extent : List ℕ → Extent
 extent [] = size 0
 extent (b ∷ s) = cond (isQuote b) (longer (insideQuotes s)) (size (plain (b ∷ s)))
 
--- "Records end in CR LF; the last one may end with the text": the bytes that an ending takes
+-- Document 02, §1: "The step that splits off one record must also say which line end it found: CR LF, LF or the end of the text." The
+-- bytes that each takes:
 abbrev pub width : Ending → ℕ
 width CrLf = 2
+width Lf = 1
 width EndOfText = 0
 
 -- The first field of a text: how many bytes it has as written, by what follows it: a comma, or the end of its record. `broken`: it
@@ -72,15 +74,15 @@ pub data Field : Type 0 where
   ends : Ending → ℕ → Field
   broken : Field
 
--- CRLF = CR LF: an LF follows a CR
+-- CRLF = CR LF: an LF follows a CR, since a CR alone ends no record
 abbrev pub lineFeed : ℕ → List ℕ → Field
 lineFeed n [] = broken
 lineFeed n (b ∷ s) = cond (isLf b) (ends CrLf n) broken
 
--- what follows a field of n bytes
+-- what follows a field of n bytes. "102 no longer covers an LF without CR outside quotes": an LF alone ends the record too.
 unfoldable pub following : ℕ → List ℕ → Field
 following n [] = ends EndOfText n
-following n (b ∷ s) = cond (isComma b) (comma n) (cond (isCr b) (lineFeed n s) broken)
+following n (b ∷ s) = cond (isComma b) (comma n) (cond (isCr b) (lineFeed n s) (cond (isLf b) (ends Lf n) broken))
 
 -- a field of s that is taken to have a given extent: "A field as written, its quote marks included, has at most 64 bytes."
 abbrev pub limited : List ℕ → Extent → Field
@@ -111,6 +113,7 @@ pub record Record : Type 0 where
   pub sound : Bool
   pub ending : Ending
 
+-- where the first field is broken. The papers leave the ending of such a record open, and no reply shows it.
 abbrev pub unsound : Record
 unsound = record { fields = []; bytes = 0; sound = false; ending = EndOfText }
 
@@ -138,9 +141,9 @@ recordOf s = recordIn (suc (length s)) s
 abbrev pub recordsAfter : (List ℕ → List Record) → List ℕ → Record → List Record
 recordsAfter rest s r = cond (r .sound) (rest (drop (r .bytes) s)) []
 
--- file = [header CRLF] record *(CRLF record) [CRLF], where a header is a record like the others: the records up to the first that is not
--- sound. "An empty text has no records", so a final line end opens none. A record that another follows has two bytes or more, so a text of
--- n bytes has at most n records.
+-- file = [header CRLF] record *(CRLF record) [CRLF], where a header is a record like the others and LF may stand for CRLF: the records up to
+-- the first that is not sound. "An empty text has no records", so a final line end opens none. A record that another follows has a byte or
+-- more, so a text of n bytes has at most n records. Whether the records end alike is not asked here; see `alike`, below.
 unfoldable pub recordsIn : ℕ → List ℕ → List Record
 recordsIn zero s = []
 recordsIn (suc k) [] = []
@@ -148,3 +151,19 @@ recordsIn (suc k) (b ∷ s) = recordOf (b ∷ s) ∷ recordsAfter (recordsIn k) 
 
 unfoldable pub records : List ℕ → List Record
 records s = recordsIn (length s) s
+
+-- "the first record's line end ..; for an empty text it is the end of the text"
+abbrev pub firstEnding : List Record → Ending
+firstEnding [] = EndOfText
+firstEnding (r ∷ rs) = r .ending
+
+-- "All records of a file must end alike, though the last may still end with the text": whether a record may end in the second way where the
+-- first record ends in the first way. A record that ends with the text is the last one, so no record comes after a first one that does.
+abbrev pub alike : Ending → Ending → Bool
+alike first EndOfText = true
+alike CrLf CrLf = true
+alike Lf Lf = true
+alike CrLf Lf = false
+alike Lf CrLf = false
+alike EndOfText CrLf = false
+alike EndOfText Lf = false

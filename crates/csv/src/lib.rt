@@ -1,9 +1,10 @@
-// Comma-separated text by RFC 4180: where a field ends, how a record splits into fields, and a field without its quote marks.
+// Comma-separated text by RFC 4180, with LF beside CR LF: where a field ends, how a record splits into fields, and a field without its quote
+// marks.
 ghost use mathlib.Core.Path.{_≡_};
 ghost use Prim.Native.Nat.{_+_};
 ghost use lib.ListN.{drop};
 ghost use Rattle.limits.specs.Limits.{mostFieldBytes};
-ghost use Rattle.csv.specs.Grammar.{isText, plain, insideQuotes, afterQuote, extent, following, field, recordOf, width};
+ghost use Rattle.csv.specs.Grammar.{isText, plain, insideQuotes, afterQuote, extent, following, field, recordOf, records, firstEnding, alike, width};
 ghost use Rattle.csv.specs.Place.{closeAt, foundAt, splitOf, noPlaces, note, partOf, fieldAt, inner};
 use limits::MOST_FIELD_BYTES;
 
@@ -16,6 +17,7 @@ pub enum Close {
 // How a record ends.
 pub enum Ending {
     CrLf,
+    Lf,
     EndOfText,
 }
 
@@ -27,7 +29,8 @@ pub enum Found {
 }
 
 // A record: the bounds of its first eight fields, the count of all its fields, where the next record starts,
-// and how it ends. A record with a broken field is not sound: only the fields before that one are noted, and `next` is where it starts.
+// and how it ends. A record with a broken field is not sound: only the fields before that one are noted, `next` is where it starts, and the
+// ending is the end of the text.
 pub struct Split {
     pub starts: [usize; 8],
     pub ends: [usize; 8],
@@ -126,6 +129,9 @@ pub fn follow(text: &[u8], end: usize) -> Found
     if b == b',' {
         return Found::Comma(end);
     }
+    if b == 10 {
+        return Found::Ends(Ending::Lf, end);
+    }
     if b != 13 {
         return Found::Broken;
     }
@@ -155,7 +161,27 @@ pub fn width_of(x: Ending) -> usize
 {
     match x {
         Ending::CrLf => 2,
+        Ending::Lf => 1,
         Ending::EndOfText => 0,
+    }
+}
+
+// Whether a record may end so in a text whose first record ends in the way `first`.
+pub fn ends_alike(first: Ending, own: Ending) -> bool
+    ensures { λ r. ⌜ r ≡ alike first own ⌝ }
+{
+    match own {
+        Ending::EndOfText => true,
+        Ending::CrLf => match first {
+            Ending::CrLf => true,
+            Ending::Lf => false,
+            Ending::EndOfText => false,
+        },
+        Ending::Lf => match first {
+            Ending::Lf => true,
+            Ending::CrLf => false,
+            Ending::EndOfText => false,
+        },
     }
 }
 
@@ -207,6 +233,14 @@ pub fn scan_record(text: &[u8], at: usize) -> Split
             }
         }
     }
+}
+
+// How the first record of a text ends. That of an empty text, or of a first record that is not sound, is the end of the text.
+pub fn first_ending(text: &[u8]) -> Ending
+    ensures { λ r. ⌜ r ≡ firstEnding (records (now (text .entry))) ⌝ }
+{
+    let split = scan_record(text, 0);
+    split.ending
 }
 
 // The part of the text between two bounds, no copy. It is empty where they do not lie in the text, or not in order.

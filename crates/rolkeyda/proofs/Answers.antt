@@ -23,6 +23,7 @@ use Rattle.certificate.specs.declared.TableReply.the-variants as table
 use Rattle.walk.specs.Reply.{meaning}
 use Rattle.walk.specs.declared.WalkReply.{WalkReply}
 use Rattle.walk.specs.declared.WalkReply.the-variants as walk
+use Rattle.csv.specs.declared.Ending.{Ending}
 use Rattle.tables.specs.Columns.{BlockColumns, LoopColumns, shortestBlock, shortestLoop, BlocksRead, LoopsRead}
 use Rattle.tables.specs.Table.{blockTable, loopTable}
 use Rattle.tables.proofs.Whole.{blocks-short, loops-short}
@@ -30,7 +31,7 @@ use Rattle.limits.specs.Limits.{mostBlocks, mostLoops}
 use Rattle.tables.specs.declared.ReadReply.{ReadReply}
 use Rattle.tables.specs.declared.ReadReply.the-variants.{Rows, Refused}
 use Rattle.rolkeyda.specs.declared.Reply.{Reply}
-use Rattle.rolkeyda.specs.Replies.{acceptance, refusing, ofTables, ofWalk, ofReading, PlaceFits, ValueFits, TablesReplied, WalkReplied, BlocksReplied, LoopsReplied}
+use Rattle.rolkeyda.specs.Replies.{acceptance, refusing, ofTables, ofWalk, endingNumber, ofReading, PlaceFits, ValueFits, TablesReplied, WalkReplied, BlocksReplied, LoopsReplied}
 use Rattle.rolkeyda.proofs.Ranges.{Small, table-place, walk-place, Finished, walk-finished, reading-small}
 
 -- ---- 201 to 207
@@ -193,12 +194,12 @@ module _ (t : Routine) (w : List ℕ) (a : WalkReply) (C : WalkChecked t w (mean
 
 -- ---- readings
 
-module _ {a : ReadReply} (F : ValueFits (ofReading a)) (k : ℕ) (e : a ≡ Rows k) where
+module _ {a : ReadReply} (F : ValueFits (ofReading a)) (k : ℕ) (first : Ending) (e : a ≡ Rows k first) where
   pub count-fits : SFits w64 (pos k)
-  count-fits = value-fits k {m = 0} (record { value = rw e at (F .value) })
+  count-fits = value-fits k {m = endingNumber first} (record { value = rw e at (F .value) })
 
-  pub rows-told : {r : Reply} → r ≡ acceptance (toZ w64 k) 0 → r ≡ ofReading a
-  rows-told q = q ∙ ap (λ (z : ℤ). acceptance z 0) (toZ-pos w64 (count-fits .sfits)) ∙ ap ofReading (sym e)
+  pub rows-told : {n : ℕ} → n ≡ endingNumber first → {r : Reply} → r ≡ acceptance (toZ w64 k) n → r ≡ ofReading a
+  rows-told {n} i q = q ∙ ap (λ (z : ℤ). acceptance z n) (toZ-pos w64 (count-fits .sfits)) ∙ ap (acceptance (pos k)) i ∙ ap ofReading (sym e)
 
 pub record-fits : {a : ReadReply} → PlaceFits (ofReading a) → (n p : ℕ) → a ≡ Refused n p → p < 2 ^ 32
 record-fits F n p e = rw e at (F .place)

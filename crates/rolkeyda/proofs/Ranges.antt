@@ -168,5 +168,5 @@ pub reading-small : {A : Type 0} (x : Reading A) {room : ℕ} → Short room (2 
 reading-small x {room} S few e = rw e (go (x .end) refl)
   where
     go : (y : End) → x .end ≡ y → Small (ofReading (replyBy (length (x .rows)) y))
-    go all q = record { place = record { place = omega arith }; value = record { value = omega (ints, S .rows) } }
+    go (all first) q = record { place = record { place = omega arith }; value = record { value = omega (ints, S .rows) } }
     go (table.refused n p) q = record { place = record { place = omega (arith, S .place n p q) }; value = record { value = omega ints } }

@@ -13,6 +13,8 @@ use Rattle.wcet.specs.Run.{runCost}
 use Rattle.limits.specs.Limits.{longestWalk}
 use Rattle.wcet.specs.Walk.{Walked, walkReply}
 use Rattle.wcet.specs.Claim.{WcetBound, AllHold, FinishedRun}
+use Rattle.csv.specs.declared.Ending.{Ending}
+use Rattle.csv.specs.declared.Ending.the-variants.{CrLf, Lf, EndOfText}
 use Rattle.tables.specs.Table.{blockTable, loopTable}
 use Rattle.tables.specs.Columns.{replyOf, BlockColumns, shortestBlock, BlocksRead, LoopColumns, shortestLoop, LoopsRead}
 use Rattle.tables.specs.declared.ReadReply.{ReadReply}
@@ -37,9 +39,14 @@ abbrev pub ofWalk : Answer Walked → Reply
 ofWalk (accepted w) = acceptance (pos (w .total)) (w .steps)
 ofWalk (refused n p) = refusing n p
 
--- of a reading, the row count
+-- of a reading, the row count, and "the first record's line end beside the row count" (document 02, §1) as the interface numbers it
+abbrev pub endingNumber : Ending → ℕ
+endingNumber CrLf = 0
+endingNumber Lf = 1
+endingNumber EndOfText = 2
+
 abbrev pub ofReading : ReadReply → Reply
-ofReading (Rows k) = acceptance (pos k) 0
+ofReading (Rows k ending) = acceptance (pos k) (endingNumber ending)
 ofReading (Refused n p) = refusing n p
 
 -- numbers that fit their widths: for functions that are no public entry

@@ -6,14 +6,16 @@ ghost use Rattle.nesting.specs.Answers.{refusal};
 ghost use Rattle.certificate.specs.Answers.{tableMeaning};
 ghost use Rattle.walk.specs.Reply.{meaning};
 ghost use Rattle.tables.specs.Columns.{blocks, loops};
-ghost use Rattle.rolkeyda.specs.Replies.{acceptance, refusing, ofTables, ofWalk, ofReading, PlaceFits, ValueFits, TablesReplied, WalkReplied, BlocksReplied, LoopsReplied};
+ghost use Rattle.rolkeyda.specs.Replies.{acceptance, refusing, ofTables, ofWalk, endingNumber, ofReading, PlaceFits, ValueFits, TablesReplied, WalkReplied, BlocksReplied, LoopsReplied};
 ghost use Prim.Native.Nat.{_<_, _^_};
 use certificate::TableReply;
+use csv::Ending;
 use nesting::StructureFault;
 use tables::ReadReply;
 use walk::WalkReply;
 
-// number 0: accepted, with value the row count, the bound or the cost, and more the steps of a walk. Else the number and place of a refusal.
+// number 0: accepted, with value the row count, the bound or the cost, and more the line end of a text's first record (0 CR LF, 1 LF, 2 the
+// end of the text) or the steps of a walk. Else the number and place of a refusal.
 #[repr(C)]
 pub struct Reply {
     pub number: u32,
@@ -89,12 +91,22 @@ fn walk_reply(answer: WalkReply) -> Reply
     }
 }
 
+fn ending_number(ending: Ending) -> u64
+    ensures { λ r. ⌜ r ≡ endingNumber ending ⌝ }
+{
+    match ending {
+        Ending::CrLf => 0,
+        Ending::Lf => 1,
+        Ending::EndOfText => 2,
+    }
+}
+
 fn read_reply(answer: ReadReply) -> Reply
     requires { ⌜ PlaceFits (ofReading answer) × ValueFits (ofReading answer) ⌝ }
     ensures { λ r. ⌜ r ≡ ofReading answer ⌝ }
 {
     match answer {
-        ReadReply::Rows(count) => accepted(count as i64, 0),
+        ReadReply::Rows { count, ending } => accepted(count as i64, ending_number(ending)),
         ReadReply::Refused { number, record } => refused(number, record),
     }
 }

@@ -1,7 +1,7 @@
 -- Each way through the functions up to `block_at` and `loop_at`: what the cells of a record say of its verdict.
 -- Assumes nothing.
 use mathlib.Core.Path.{_≡_, refl, sym, ap, _∙_}
-use mathlib.Core.Bool.{true, false}
+use mathlib.Core.Bool.{Bool, true, false}
 use mathlib.Core.Logic.{_⊎_, inl, inr}
 use mathlib.Core.List.{List}
 use Prim.Native.Nat.{ℕ, _+_, _-_, _<_, _≤_, _^_}
@@ -14,7 +14,8 @@ use mir.Syntax.{w16, w32, w64}
 use mir.Val.{Fits, SFits, toZ, ofZ}
 use mir.Facts.{toZ-ofZ}
 use denote.Enum.Declared.{tagOf}
-use Rattle.csv.specs.Grammar.{Record, recordOf}
+use Rattle.csv.specs.Grammar.{Record, recordOf, alike}
+use Rattle.csv.specs.declared.Ending.{Ending}
 use Rattle.csv.specs.Place.{splitOf, noPlaces, noted, startsOf, stopsOf, fieldAt}
 use Rattle.csv.specs.declared.Split.{Split}
 use Rattle.csv.proofs.Splits.{split-field}
@@ -78,32 +79,36 @@ pub missing-is : {v : Value} → v ≡ Missing → Number 65535 ≡ orMissing v
 missing-is e = sym (ap orMissing e)
 
 -- Each way through `turn_of`.
-module _ (room k n : ℕ) where
-  pub turn-out : (n ≡ k → ⊥) → Fault 105 ≡ turnOf room k n
+module _ (room k : ℕ) (alike : Bool) (n : ℕ) where
+  pub turn-out : (n ≡ k → ⊥) → Fault 105 ≡ turnOf room k alike n
   unfolding turnOf
   turn-out f = rw (ne-eqb n k f)
 
   module _ (e : n ≡ k) where
-    pub turn-full : room ≤ k → Fault 106 ≡ turnOf room k n
+    pub turn-full : room ≤ k → Fault 106 ≡ turnOf room k alike n
     unfolding turnOf
     turn-full f = rw (eq-eqb n k e, le-ltb k room f)
 
-    pub turn-due : k < room → Due ≡ turnOf room k n
+    pub turn-unlike : k < room → alike ≡ false → Fault 108 ≡ turnOf room k alike n
     unfolding turnOf
-    turn-due f = rw (eq-eqb n k e, lt-ltb k room f)
+    turn-unlike f g = rw (eq-eqb n k e, lt-ltb k room f, g)
+
+    pub turn-due : k < room → alike ≡ true → Due ≡ turnOf room k alike n
+    unfolding turnOf
+    turn-due f g = rw (eq-eqb n k e, lt-ltb k room f, g)
 
 -- Each way through `placed_block` and `placed_loop`; t is the turn.
-module _ {t : Turn} (room k n : ℕ) (q : t ≡ turnOf room k n) where
-  pub block-due : (w : BlockRow) → t ≡ Due → Taken w ≡ blockVerdict (inTurn w (turnOf room k n))
+module _ {t : Turn} (room k : ℕ) (alike : Bool) (n : ℕ) (q : t ≡ turnOf room k alike n) where
+  pub block-due : (w : BlockRow) → t ≡ Due → Taken w ≡ blockVerdict (inTurn w (turnOf room k alike n))
   block-due w e = rw (← q, e)
 
-  pub block-out : (w : BlockRow) (m : ℕ) → t ≡ Fault m → BlockFault m ≡ blockVerdict (inTurn w (turnOf room k n))
+  pub block-out : (w : BlockRow) (m : ℕ) → t ≡ Fault m → BlockFault m ≡ blockVerdict (inTurn w (turnOf room k alike n))
   block-out w m e = rw (← q, e)
 
-  pub loop-due : (w : LoopRow) → t ≡ Due → TakenLoop w ≡ loopVerdict (inTurn w (turnOf room k n))
+  pub loop-due : (w : LoopRow) → t ≡ Due → TakenLoop w ≡ loopVerdict (inTurn w (turnOf room k alike n))
   loop-due w e = rw (← q, e)
 
-  pub loop-out : (w : LoopRow) (m : ℕ) → t ≡ Fault m → LoopFault m ≡ loopVerdict (inTurn w (turnOf room k n))
+  pub loop-out : (w : LoopRow) (m : ℕ) → t ≡ Fault m → LoopFault m ≡ loopVerdict (inTurn w (turnOf room k alike n))
   loop-out w m e = rw (← q, e)
 
 -- The cells that fields say fit their columns.
@@ -131,67 +136,67 @@ fits-missing v h {u} q n e = go v h (sym e ∙ q)
     go Bad h f = absurd (let z : _≡_ {A = ℕ} 0 1 = cc in omega arith)
 
 -- Each way through `block_row`, over the cells x: one level for each cell that is a number.
-module _ (room k : ℕ) (x : BlockCells) where
-  pub block-0 : None (x .number) → BlockFault 104 ≡ blockVerdict (blockRow room k x)
+module _ (room k : ℕ) (alike : Bool) (x : BlockCells) where
+  pub block-0 : None (x .number) → BlockFault 104 ≡ blockVerdict (blockRow room k alike x)
   unfolding blockRow
   block-0 f = rw (needed-none (x .number) _ f)
 
   module _ (n : ℕ) (e₀ : x .number ≡ Number n) where
-    pub block-1 : None (x .cost) → BlockFault 104 ≡ blockVerdict (blockRow room k x)
+    pub block-1 : None (x .cost) → BlockFault 104 ≡ blockVerdict (blockRow room k alike x)
     unfolding blockRow
     block-1 f = rw (e₀, needed-none (x .cost) _ f)
 
     module _ (c : ℕ) (e₁ : x .cost ≡ Number c) where
-      pub block-2 : None (x .innermost) → BlockFault 104 ≡ blockVerdict (blockRow room k x)
+      pub block-2 : None (x .innermost) → BlockFault 104 ≡ blockVerdict (blockRow room k alike x)
       unfolding blockRow
       block-2 f = rw (e₀, e₁, needed-none (x .innermost) _ f)
 
       module _ (l : ℕ) (e₂ : x .innermost ≡ Number l) {v₃ : Value} (q₃ : v₃ ≡ orMissing (x .first)) where
-        pub block-3 : None v₃ → BlockFault 104 ≡ blockVerdict (blockRow room k x)
+        pub block-3 : None v₃ → BlockFault 104 ≡ blockVerdict (blockRow room k alike x)
         unfolding blockRow
         block-3 f = rw (e₀, e₁, e₂, ← q₃, needed-none v₃ _ f)
 
         module _ (a : ℕ) (e₃ : v₃ ≡ Number a) {v₄ : Value} (q₄ : v₄ ≡ orMissing (x .second)) where
-          pub block-4 : None v₄ → BlockFault 104 ≡ blockVerdict (blockRow room k x)
+          pub block-4 : None v₄ → BlockFault 104 ≡ blockVerdict (blockRow room k alike x)
           unfolding blockRow
           block-4 f = rw (e₀, e₁, e₂, ← q₃, e₃, ← q₄, needed-none v₄ _ f)
 
           module _ (b : ℕ) (e₄ : v₄ ≡ Number b) where
-            pub block-5 : NoneSigned (x .figure) → BlockFault 104 ≡ blockVerdict (blockRow room k x)
+            pub block-5 : NoneSigned (x .figure) → BlockFault 104 ≡ blockVerdict (blockRow room k alike x)
             unfolding blockRow
             block-5 f = rw (e₀, e₁, e₂, ← q₃, e₃, ← q₄, e₄, signed-none (x .figure) _ f)
 
-            pub block-placed : (z : ℤ) → x .figure ≡ Signed z → SignedFits (x .figure) → {v : BlockVerdict} → v ≡ blockVerdict (inTurn (record { number = n; cost = c; innermost = l; first = a; second = b; figure = toZ w64 (ofZ w64 z) }) (turnOf room k n)) → v ≡ blockVerdict (blockRow room k x)
+            pub block-placed : (z : ℤ) → x .figure ≡ Signed z → SignedFits (x .figure) → {v : BlockVerdict} → v ≡ blockVerdict (inTurn (record { number = n; cost = c; innermost = l; first = a; second = b; figure = toZ w64 (ofZ w64 z) }) (turnOf room k alike n)) → v ≡ blockVerdict (blockRow room k alike x)
             unfolding blockRow
             block-placed z e₅ f d = d ∙ rw (toZ-ofZ (f z e₅)) (rw (e₀, e₁, e₂, ← q₃, e₃, ← q₄, e₄, e₅))
 
 -- The same of `loop_row`.
-module _ (room k : ℕ) (x : LoopCells) where
-  pub loop-0 : None (x .number) → LoopFault 104 ≡ loopVerdict (loopRow room k x)
+module _ (room k : ℕ) (alike : Bool) (x : LoopCells) where
+  pub loop-0 : None (x .number) → LoopFault 104 ≡ loopVerdict (loopRow room k alike x)
   unfolding loopRow
   loop-0 f = rw (needed-none (x .number) _ f)
 
   module _ (n : ℕ) (e₀ : x .number ≡ Number n) where
-    pub loop-1 : None (x .parent) → LoopFault 104 ≡ loopVerdict (loopRow room k x)
+    pub loop-1 : None (x .parent) → LoopFault 104 ≡ loopVerdict (loopRow room k alike x)
     unfolding loopRow
     loop-1 f = rw (e₀, needed-none (x .parent) _ f)
 
     module _ (p : ℕ) (e₁ : x .parent ≡ Number p) where
-      pub loop-2 : None (x .header) → LoopFault 104 ≡ loopVerdict (loopRow room k x)
+      pub loop-2 : None (x .header) → LoopFault 104 ≡ loopVerdict (loopRow room k alike x)
       unfolding loopRow
       loop-2 f = rw (e₀, e₁, needed-none (x .header) _ f)
 
       module _ (h : ℕ) (e₂ : x .header ≡ Number h) where
-        pub loop-3 : None (x .limit) → LoopFault 104 ≡ loopVerdict (loopRow room k x)
+        pub loop-3 : None (x .limit) → LoopFault 104 ≡ loopVerdict (loopRow room k alike x)
         unfolding loopRow
         loop-3 f = rw (e₀, e₁, e₂, needed-none (x .limit) _ f)
 
         module _ (l : ℕ) (e₃ : x .limit ≡ Number l) where
-          pub loop-4 : None (x .multiplier) → LoopFault 104 ≡ loopVerdict (loopRow room k x)
+          pub loop-4 : None (x .multiplier) → LoopFault 104 ≡ loopVerdict (loopRow room k alike x)
           unfolding loopRow
           loop-4 f = rw (e₀, e₁, e₂, e₃, needed-none (x .multiplier) _ f)
 
-          pub loop-placed : (m : ℕ) → x .multiplier ≡ Number m → {v : LoopVerdict} → v ≡ loopVerdict (inTurn (record { number = n; parent = p; header = h; limit = l; multiplier = m }) (turnOf room k n)) → v ≡ loopVerdict (loopRow room k x)
+          pub loop-placed : (m : ℕ) → x .multiplier ≡ Number m → {v : LoopVerdict} → v ≡ loopVerdict (inTurn (record { number = n; parent = p; header = h; limit = l; multiplier = m }) (turnOf room k alike n)) → v ≡ loopVerdict (loopRow room k alike x)
           unfolding loopRow
           loop-placed m e₄ d = d ∙ rw (e₀, e₁, e₂, e₃, e₄)
 
@@ -210,7 +215,7 @@ pub loop-cells : (w : ℕ → List ℕ) {n p h l m : Value} → n ≡ unsigned 6
 loop-cells w e₀ e₁ e₂ e₃ e₄ = λ i. record { number = e₀ i; parent = e₁ i; header = e₂ i; limit = e₃ i; multiplier = e₄ i }
 
 -- Each way through `scanned_block` and `loop_at`; r is the split of the record.
-module _ (s : List ℕ) (room k at : ℕ) {r : Split} (q : r ≡ splitOf noPlaces noPlaces 0 at (recordOf (drop at s))) where
+module _ (s : List ℕ) (room : ℕ) (first : Ending) (k at : ℕ) {r : Split} (q : r ≡ splitOf noPlaces noPlaces 0 at (recordOf (drop at s))) where
   next-is : r .next ≡ at + recordOf (drop at s) .bytes
   next-is = ap (λ (x : Split). x .next) q
 
@@ -220,37 +225,40 @@ module _ (s : List ℕ) (room k at : ℕ) {r : Split} (q : r ≡ splitOf noPlace
   sound-is : recordOf (drop at s) .sound ≡ r .sound
   sound-is = sym (ap (λ (x : Split). x .sound) q)
 
+  alike-is : {a : Bool} → a ≡ alike first (r .ending) → a ≡ alike first (recordOf (drop at s) .ending)
+  alike-is e = e ∙ ap (λ (x : Split). alike first (x .ending)) q
+
   fields-are : (i : ℕ) → i < 8 → fieldAt s (r .starts) (r .ends) i ≡ fieldOf (recordOf (drop at s)) i
   fields-are i h = rw q (split-field s at i h)
 
-  block-step : {v : BlockVerdict} → v ≡ blockVerdict (judgeBlock room k (recordOf (drop at s))) → record { verdict = v; next = r .next } ≡ blockStep room k at (recordOf (drop at s))
+  block-step : {v : BlockVerdict} → v ≡ blockVerdict (judgeBlock room first k (recordOf (drop at s))) → record { verdict = v; next = r .next } ≡ blockStep room first k at (recordOf (drop at s))
   block-step e = λ i. record { verdict = e i; next = next-is i }
 
-  loop-step : {v : LoopVerdict} → v ≡ loopVerdict (judgeLoop room k (recordOf (drop at s))) → record { verdict = v; next = r .next } ≡ loopStep room k at (recordOf (drop at s))
+  loop-step : {v : LoopVerdict} → v ≡ loopVerdict (judgeLoop room first k (recordOf (drop at s))) → record { verdict = v; next = r .next } ≡ loopStep room first k at (recordOf (drop at s))
   loop-step e = λ i. record { verdict = e i; next = next-is i }
 
   module _ (f : r .sound ≡ false) where
-    pub block-unsound : record { verdict = BlockFault 102; next = r .next } ≡ blockStep room k at (recordOf (drop at s))
+    pub block-unsound : record { verdict = BlockFault 102; next = r .next } ≡ blockStep room first k at (recordOf (drop at s))
     unfolding judgeBlock
     block-unsound = block-step (rw (sound-is ∙ f))
 
-    pub loop-unsound : record { verdict = LoopFault 102; next = r .next } ≡ loopStep room k at (recordOf (drop at s))
+    pub loop-unsound : record { verdict = LoopFault 102; next = r .next } ≡ loopStep room first k at (recordOf (drop at s))
     unfolding judgeLoop
     loop-unsound = loop-step (rw (sound-is ∙ f))
 
   module _ (f : r .sound ≡ true) where
-    pub block-count : (r .count ≡ blockFields → ⊥) → record { verdict = BlockFault 103; next = r .next } ≡ blockStep room k at (recordOf (drop at s))
+    pub block-count : (r .count ≡ blockFields → ⊥) → record { verdict = BlockFault 103; next = r .next } ≡ blockStep room first k at (recordOf (drop at s))
     unfolding judgeBlock
     block-count g = block-step (rw (sound-is ∙ f, ne-eqb (length (recordOf (drop at s) .fields)) blockFields (λ e. g (count-is ∙ e))))
 
-    pub loop-count : (r .count ≡ loopFields → ⊥) → record { verdict = LoopFault 103; next = r .next } ≡ loopStep room k at (recordOf (drop at s))
+    pub loop-count : (r .count ≡ loopFields → ⊥) → record { verdict = LoopFault 103; next = r .next } ≡ loopStep room first k at (recordOf (drop at s))
     unfolding judgeLoop
     loop-count g = loop-step (rw (sound-is ∙ f, ne-eqb (length (recordOf (drop at s) .fields)) loopFields (λ e. g (count-is ∙ e))))
 
-    pub block-scanned : r .count ≡ blockFields → {x : BlockCells} → x ≡ blockCells (fieldAt s (r .starts) (r .ends)) → {v : BlockVerdict} → v ≡ blockVerdict (blockRow room k x) → record { verdict = v; next = r .next } ≡ blockStep room k at (recordOf (drop at s))
+    pub block-scanned : r .count ≡ blockFields → {x : BlockCells} → x ≡ blockCells (fieldAt s (r .starts) (r .ends)) → {a : Bool} → a ≡ alike first (r .ending) → {v : BlockVerdict} → v ≡ blockVerdict (blockRow room k a x) → record { verdict = v; next = r .next } ≡ blockStep room first k at (recordOf (drop at s))
     unfolding judgeBlock
-    block-scanned g e d = block-step (d ∙ rw (sound-is ∙ f, eq-eqb (length (recordOf (drop at s) .fields)) blockFields (sym count-is ∙ g), e ∙ block-ext (fieldAt s (r .starts) (r .ends)) (fieldOf (recordOf (drop at s))) fields-are))
+    block-scanned g e l d = block-step (d ∙ rw (sound-is ∙ f, alike-is l, eq-eqb (length (recordOf (drop at s) .fields)) blockFields (sym count-is ∙ g), e ∙ block-ext (fieldAt s (r .starts) (r .ends)) (fieldOf (recordOf (drop at s))) fields-are))
 
-    pub loop-scanned : r .count ≡ loopFields → {x : LoopCells} → x ≡ loopCells (fieldAt s (r .starts) (r .ends)) → {v : LoopVerdict} → v ≡ loopVerdict (loopRow room k x) → record { verdict = v; next = r .next } ≡ loopStep room k at (recordOf (drop at s))
+    pub loop-scanned : r .count ≡ loopFields → {x : LoopCells} → x ≡ loopCells (fieldAt s (r .starts) (r .ends)) → {a : Bool} → a ≡ alike first (r .ending) → {v : LoopVerdict} → v ≡ loopVerdict (loopRow room k a x) → record { verdict = v; next = r .next } ≡ loopStep room first k at (recordOf (drop at s))
     unfolding judgeLoop
-    loop-scanned g e d = loop-step (d ∙ rw (sound-is ∙ f, eq-eqb (length (recordOf (drop at s) .fields)) loopFields (sym count-is ∙ g), e ∙ loop-ext (fieldAt s (r .starts) (r .ends)) (fieldOf (recordOf (drop at s))) fields-are))
+    loop-scanned g e l d = loop-step (d ∙ rw (sound-is ∙ f, alike-is l, eq-eqb (length (recordOf (drop at s) .fields)) loopFields (sym count-is ∙ g), e ∙ loop-ext (fieldAt s (r .starts) (r .ends)) (fieldOf (recordOf (drop at s))) fields-are))

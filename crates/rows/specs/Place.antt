@@ -43,11 +43,11 @@ loopVerdict (taken w) = TakenLoop w
 loopVerdict (fault n) = LoopFault n
 
 -- the verdict on the record r that starts at p, where row k is due, and where the next record starts
-abbrev pub blockStep : ℕ → ℕ → ℕ → Record → BlockStep
-blockStep room k p r = record { verdict = blockVerdict (judgeBlock room k r); next = p + r .bytes }
+abbrev pub blockStep : ℕ → Ending → ℕ → ℕ → Record → BlockStep
+blockStep room first k p r = record { verdict = blockVerdict (judgeBlock room first k r); next = p + r .bytes }
 
-abbrev pub loopStep : ℕ → ℕ → ℕ → Record → LoopStep
-loopStep room k p r = record { verdict = loopVerdict (judgeLoop room k r); next = p + r .bytes }
+abbrev pub loopStep : ℕ → Ending → ℕ → ℕ → Record → LoopStep
+loopStep room first k p r = record { verdict = loopVerdict (judgeLoop room first k r); next = p + r .bytes }
 
 -- numbers that fit the columns of their fields
 abbrev pub AtMost : ℕ → Value → Type 0
@@ -81,26 +81,26 @@ abbrev pub CommaAt : List ℕ → ℕ → ℕ → CommaCell → Type 0
 CommaAt s at greatest (Field v e) = CommaField s at e greatest v
 CommaAt s at greatest Other = Unit {0}
 
--- the last field of a record, which ends before `next`
-pub record FigureField (s : List ℕ) (at next : ℕ) (v : SignedValue) : Type 0 where
-  pub ending : Ending
+-- the last field of a record, which ends before `next` in the way x
+pub record FigureField (s : List ℕ) (at : ℕ) (v : SignedValue) (x : Ending) (next : ℕ) : Type 0 where
   pub size : ℕ
   pub inside : next ≤ length s
-  pub field : field (drop at s) ≡ ends ending size
+  pub field : field (drop at s) ≡ ends x size
   pub value : v ≡ signed (take size (drop at s))
-  pub after : next ≡ at + size + width ending
+  pub after : next ≡ at + size + width x
 
 abbrev pub LastAt : List ℕ → ℕ → LastCell → Type 0
-LastAt s at (Last v next) = FigureField s at next v
+LastAt s at (Last v x next) = FigureField s at v x next
 LastAt s at NoLast = Unit {0}
 
 -- what is known of a block that the short way read
-pub record BlockAt (s : List ℕ) (at : ℕ) (x : BlockCells) (next : ℕ) : Type 0 where
+pub record BlockAt (s : List ℕ) (at : ℕ) (c : BlockCells) (x : Ending) (next : ℕ) : Type 0 where
   pub sound : recordOf (drop at s) .sound ≡ true
   pub count : length (recordOf (drop at s) .fields) ≡ blockFields
-  pub cells : x ≡ blockCells (fieldOf (recordOf (drop at s)))
+  pub cells : c ≡ blockCells (fieldOf (recordOf (drop at s)))
+  pub ending : x ≡ recordOf (drop at s) .ending
   pub after : next ≡ at + recordOf (drop at s) .bytes
 
 abbrev pub ShortAt : List ℕ → ℕ → ShortBlock → Type 0
-ShortAt s at (Cells x next) = BlockAt s at x next
+ShortAt s at (Cells c x next) = BlockAt s at c x next
 ShortAt s at NoCells = Unit {0}

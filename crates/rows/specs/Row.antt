@@ -2,7 +2,7 @@
 -- "Reading the text".
 -- Assumes nothing: these are definitions.
 use Prim.Native.Nat.{ℕ, _-_, _^_}
-use mathlib.Core.Bool.{cond}
+use mathlib.Core.Bool.{Bool, cond}
 use mathlib.Core.List.{List}
 use lib.Dec.{eqb, ltb}
 use lib.IntN.{ℤ}
@@ -47,9 +47,10 @@ orMissing (Number n) = Number n
 orMissing Missing = Number 65535
 orMissing Bad = Bad
 
--- 105: "row number out of turn", for row n where row k is due; then 106, where only `room` rows have a place
-unfoldable pub turnOf : ℕ → ℕ → ℕ → Turn
-turnOf room k n = cond (eqb n k) (cond (ltb k room) Due (Fault 106)) (Fault 105)
+-- 105: "row number out of turn", for row n where row k is due; then 106, where only `room` rows have a place; then 108, where `alike` is
+-- false. Document 02, §1: "108, place the record, when its line end is neither the first record's nor the end of the text, after 106"
+unfoldable pub turnOf : ℕ → ℕ → Bool → ℕ → Turn
+turnOf room k alike n = cond (eqb n k) (cond (ltb k room) (cond alike Due (Fault 108)) (Fault 106)) (Fault 105)
 
 abbrev pub inTurn : {A : Type 0} → A → Turn → Verdict A
 inTurn w Due = taken w
@@ -61,28 +62,28 @@ inTurn w (Fault n) = fault n
 abbrev pub blockCells : (ℕ → List ℕ) → BlockCells
 blockCells w = record { number = unsigned 65535 (w 0); cost = unsigned (2 ^ 32 - 1) (w 1); innermost = unsigned 65535 (w 2); first = unsigned 65534 (w 3); second = unsigned 65534 (w 4); figure = signed (w 5) }
 
-unfoldable pub blockRow : ℕ → ℕ → BlockCells → Verdict BlockRow
-blockRow room k x =
+unfoldable pub blockRow : ℕ → ℕ → Bool → BlockCells → Verdict BlockRow
+blockRow room k alike x =
     needed (x .number) λ n.
     needed (x .cost) λ c.
     needed (x .innermost) λ l.
     needed (orMissing (x .first)) λ a.
     needed (orMissing (x .second)) λ b.
     neededSigned (x .figure) λ z.
-    inTurn (record { number = n; cost = c; innermost = l; first = a; second = b; figure = z }) (turnOf room k n)
+    inTurn (record { number = n; cost = c; innermost = l; first = a; second = b; figure = z }) (turnOf room k alike n)
 
 -- "number, parent, header, limit, multiplier"
 abbrev pub loopCells : (ℕ → List ℕ) → LoopCells
 loopCells w = record { number = unsigned 65535 (w 0); parent = unsigned 65535 (w 1); header = unsigned 65535 (w 2); limit = unsigned (2 ^ 32 - 1) (w 3); multiplier = unsigned (2 ^ 64 - 1) (w 4) }
 
-unfoldable pub loopRow : ℕ → ℕ → LoopCells → Verdict LoopRow
-loopRow room k x =
+unfoldable pub loopRow : ℕ → ℕ → Bool → LoopCells → Verdict LoopRow
+loopRow room k alike x =
     needed (x .number) λ n.
     needed (x .parent) λ p.
     needed (x .header) λ h.
     needed (x .limit) λ l.
     needed (x .multiplier) λ m.
-    inTurn (record { number = n; parent = p; header = h; limit = l; multiplier = m }) (turnOf room k n)
+    inTurn (record { number = n; parent = p; header = h; limit = l; multiplier = m }) (turnOf room k alike n)
 
 -- what a row puts into each column
 abbrev pub costOf : BlockRow → ℕ

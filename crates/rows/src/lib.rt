@@ -1,4 +1,4 @@
-// What one record says where a row of a table is due: the row, or the number of its lowest fault.
+// What one record says where a row of a table is due: the row, or the number of its first fault.
 ghost use mathlib.Core.Path.{_≡_};
 ghost use Prim.Native.Nat.{_≤_};
 ghost use lib.ListN.{length, drop};
@@ -7,6 +7,7 @@ ghost use Rattle.csv.specs.Place.{fieldAt};
 ghost use Rattle.cells.specs.Cell.{unsigned, signed};
 ghost use Rattle.rows.specs.Row.{orMissing, turnOf, inTurn, blockCells, blockRow, loopCells, loopRow};
 ghost use Rattle.rows.specs.Place.{blockVerdict, blockStep, loopVerdict, loopStep, BlockFits, LoopFits, CommaAt, LastAt, ShortAt};
+use csv::Ending;
 use csv::Found;
 use numbers::SignedValue;
 use numbers::Value;
@@ -36,7 +37,7 @@ pub struct BlockRow {
     pub figure: i64,
 }
 
-// What a record says where a block is due: its row, or the number of its lowest fault.
+// What a record says where a block is due: its row, or the number of its first fault.
 pub enum BlockVerdict {
     Taken(BlockRow),
     Fault(u32),
@@ -54,15 +55,16 @@ pub enum CommaCell {
     Other,
 }
 
-// The last field of a record, that one scan finds and reads: what it says, and where the next record starts.
+// The last field of a record, that one scan finds and reads: what it says, how the record ends, and where the next one starts.
 pub enum LastCell {
-    Field(SignedValue, usize),
+    Field(SignedValue, Ending, usize),
     Other,
 }
 
-// The cells of a block that the short way can read, and where the next record starts. Other: the record needs the long way.
+// The cells of a block that the short way can read, how its record ends, and where the next one starts. Other: the record needs the long
+// way.
 pub enum ShortBlock {
-    Cells(BlockCells, usize),
+    Cells(BlockCells, Ending, usize),
     Other,
 }
 
@@ -96,7 +98,7 @@ pub struct LoopStep {
     pub next: usize,
 }
 
-// Whether a row is due and has a place, or the number of its fault.
+// Whether a row is due, has a place and may end as it does, or the number of its fault.
 pub enum Turn {
     Due,
     Fault(u32),
@@ -147,9 +149,9 @@ fn or_missing(value: Value) -> Value
 
 // ---- the row
 
-// Row `number` where row k is due.
-fn turn_of(number: u16, k: usize, room: usize) -> Turn
-    ensures { λ r. ⌜ r ≡ turnOf room k number ⌝ }
+// Row `number` where row k is due. `alike`: its record may end so.
+fn turn_of(number: u16, k: usize, room: usize, alike: bool) -> Turn
+    ensures { λ r. ⌜ r ≡ turnOf room k alike number ⌝ }
 {
     if number as usize != k {
         return Turn::Fault(105);
@@ -157,33 +159,33 @@ fn turn_of(number: u16, k: usize, room: usize) -> Turn
     if k >= room {
         return Turn::Fault(106);
     }
-    Turn::Due
+    if alike { Turn::Due } else { Turn::Fault(108) }
 }
 
 // The verdict on a block where row k is due.
-fn placed_block(row: BlockRow, k: usize, room: usize) -> BlockVerdict
-    ensures { λ r. ⌜ r ≡ blockVerdict (inTurn row (turnOf room k (row .number))) ⌝ }
+fn placed_block(row: BlockRow, k: usize, room: usize, alike: bool) -> BlockVerdict
+    ensures { λ r. ⌜ r ≡ blockVerdict (inTurn row (turnOf room k alike (row .number))) ⌝ }
 {
-    match turn_of(row.number, k, room) {
+    match turn_of(row.number, k, room, alike) {
         Turn::Due => BlockVerdict::Taken(row),
         Turn::Fault(fault) => BlockVerdict::Fault(fault),
     }
 }
 
 // The verdict on a loop where row k is due.
-fn placed_loop(row: LoopRow, k: usize, room: usize) -> LoopVerdict
-    ensures { λ r. ⌜ r ≡ loopVerdict (inTurn row (turnOf room k (row .number))) ⌝ }
+fn placed_loop(row: LoopRow, k: usize, room: usize, alike: bool) -> LoopVerdict
+    ensures { λ r. ⌜ r ≡ loopVerdict (inTurn row (turnOf room k alike (row .number))) ⌝ }
 {
-    match turn_of(row.number, k, room) {
+    match turn_of(row.number, k, room, alike) {
         Turn::Due => LoopVerdict::Taken(row),
         Turn::Fault(fault) => LoopVerdict::Fault(fault),
     }
 }
 
 // The block that the cells say, where row k is due.
-fn block_row(cells: BlockCells, k: usize, room: usize) -> BlockVerdict
+fn block_row(cells: BlockCells, k: usize, room: usize, alike: bool) -> BlockVerdict
     requires { ⌜ BlockFits cells ⌝ }
-    ensures { λ r. ⌜ r ≡ blockVerdict (blockRow room k cells) ⌝ }
+    ensures { λ r. ⌜ r ≡ blockVerdict (blockRow room k alike cells) ⌝ }
 {
     let number = cells.number;
     let Value::Number(number) = number else {
@@ -217,13 +219,13 @@ fn block_row(cells: BlockCells, k: usize, room: usize) -> BlockVerdict
         second: second as u16,
         figure,
     };
-    placed_block(row, k, room)
+    placed_block(row, k, room, alike)
 }
 
 // The loop that the cells say, where row k is due.
-fn loop_row(cells: LoopCells, k: usize, room: usize) -> LoopVerdict
+fn loop_row(cells: LoopCells, k: usize, room: usize, alike: bool) -> LoopVerdict
     requires { ⌜ LoopFits cells ⌝ }
-    ensures { λ r. ⌜ r ≡ loopVerdict (loopRow room k cells) ⌝ }
+    ensures { λ r. ⌜ r ≡ loopVerdict (loopRow room k alike cells) ⌝ }
 {
     let number = cells.number;
     let Value::Number(number) = number else {
@@ -252,7 +254,7 @@ fn loop_row(cells: LoopCells, k: usize, room: usize) -> LoopVerdict
         limit: limit as u32,
         multiplier,
     };
-    placed_loop(row, k, room)
+    placed_loop(row, k, room, alike)
 }
 
 // ---- the long way: one scan notes the bounds of the fields, and each field is read where it stands
@@ -282,8 +284,8 @@ fn loop_cells(text: &[u8], starts: &[usize; 8], ends: &[usize; 8]) -> LoopCells
     }
 }
 
-fn scanned_block(text: &[u8], at: usize, k: usize, room: usize) -> BlockStep
-    ensures { λ r. ⌜ r ≡ blockStep room k at (recordOf (drop at (now (text .entry)))) ⌝ }
+fn scanned_block(text: &[u8], at: usize, k: usize, room: usize, ending: Ending) -> BlockStep
+    ensures { λ r. ⌜ r ≡ blockStep room ending k at (recordOf (drop at (now (text .entry)))) ⌝ }
 {
     let split = csv::scan_record(text, at);
     let next = split.next;
@@ -295,16 +297,19 @@ fn scanned_block(text: &[u8], at: usize, k: usize, room: usize) -> BlockStep
         let starts = split.starts;
         let ends = split.ends;
         let cells = block_cells(text, &starts, &ends);
-        let verdict = block_row(cells, k, room);
+        let own = split.ending;
+        let alike = csv::ends_alike(ending, own);
+        let verdict = block_row(cells, k, room, alike);
         return BlockStep { verdict, next };
     }
     let verdict = BlockVerdict::Fault(102);
     BlockStep { verdict, next }
 }
 
-// The record that starts at `at`, where loop k is due and `room` loops have a place.
-pub fn loop_at(text: &[u8], at: usize, k: usize, room: usize) -> LoopStep
-    ensures { λ r. ⌜ r ≡ loopStep room k at (recordOf (drop at (now (text .entry)))) ⌝ }
+// The record that starts at `at`, where loop k is due and `room` loops have a place. `ending` is how the first record of
+// the text ends.
+pub fn loop_at(text: &[u8], at: usize, k: usize, room: usize, ending: Ending) -> LoopStep
+    ensures { λ r. ⌜ r ≡ loopStep room ending k at (recordOf (drop at (now (text .entry)))) ⌝ }
 {
     let split = csv::scan_record(text, at);
     let next = split.next;
@@ -316,7 +321,9 @@ pub fn loop_at(text: &[u8], at: usize, k: usize, room: usize) -> LoopStep
         let starts = split.starts;
         let ends = split.ends;
         let cells = loop_cells(text, &starts, &ends);
-        let verdict = loop_row(cells, k, room);
+        let own = split.ending;
+        let alike = csv::ends_alike(ending, own);
+        let verdict = loop_row(cells, k, room, alike);
         return LoopStep { verdict, next };
     }
     let verdict = LoopVerdict::Fault(102);
@@ -349,7 +356,7 @@ fn last_cell(text: &[u8], at: usize) -> LastCell
     let Found::Ends(ending, end) = found else {
         return LastCell::Other;
     };
-    LastCell::Field(value, end + csv::width_of(ending))
+    LastCell::Field(value, ending, end + csv::width_of(ending))
 }
 
 // The cells of a block, one scan for each field.
@@ -371,7 +378,7 @@ fn short_block(text: &[u8], at: usize) -> ShortBlock
     let CommaCell::Field(second, e) = comma_cell(text, d + 1, 65534) else {
         return ShortBlock::Other;
     };
-    let LastCell::Field(figure, next) = last_cell(text, e + 1) else {
+    let LastCell::Field(figure, ending, next) = last_cell(text, e + 1) else {
         return ShortBlock::Other;
     };
     let cells = BlockCells {
@@ -382,18 +389,20 @@ fn short_block(text: &[u8], at: usize) -> ShortBlock
         second,
         figure,
     };
-    ShortBlock::Cells(cells, next)
+    ShortBlock::Cells(cells, ending, next)
 }
 
-// The record that starts at `at`, where block k is due and `room` blocks have a place.
-pub fn block_at(text: &[u8], at: usize, k: usize, room: usize) -> BlockStep
-    ensures { λ r. ⌜ r ≡ blockStep room k at (recordOf (drop at (now (text .entry)))) ⌝ }
+// The record that starts at `at`, where block k is due and `room` blocks have a place. `ending` is how the first record of
+// the text ends.
+pub fn block_at(text: &[u8], at: usize, k: usize, room: usize, ending: Ending) -> BlockStep
+    ensures { λ r. ⌜ r ≡ blockStep room ending k at (recordOf (drop at (now (text .entry)))) ⌝ }
 {
     match short_block(text, at) {
-        ShortBlock::Cells(cells, next) => {
-            let verdict = block_row(cells, k, room);
+        ShortBlock::Cells(cells, own, next) => {
+            let alike = csv::ends_alike(ending, own);
+            let verdict = block_row(cells, k, room, alike);
             BlockStep { verdict, next }
         }
-        ShortBlock::Other => scanned_block(text, at, k, room),
+        ShortBlock::Other => scanned_block(text, at, k, room, ending),
     }
 }

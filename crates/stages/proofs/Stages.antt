@@ -16,6 +16,7 @@ use Rattle.limits.specs.Limits.{mostBlocks, mostLoops}
 use Rattle.rows.specs.Row.{costOf, innermostOf, firstOf, secondOf, figureOf, parentOf, loopHeaderOf, limitOf, multiplierOf}
 use Rattle.rows.specs.declared.BlockRow.{BlockRow}
 use Rattle.rows.specs.declared.LoopRow.{LoopRow}
+use Rattle.csv.specs.declared.Ending.{Ending}
 use Rattle.tables.specs.Table as table
 use Rattle.tables.specs.Table.{End, Reading}
 use Rattle.tables.proofs.Whole.{blocks-short, loops-short}
@@ -66,19 +67,20 @@ pub reading-refused : {A : Type 0} {o : Outcome} (x : Reading A) {a : ReadReply}
 reading-refused x stage next n p e q t = t ∙ go (x .end) (sym q ∙ e)
   where
     go : (y : End) → read.Refused n p ≡ replyBy (length (x .rows)) y → Refused stage n p ≡ ofEnd stage (next (x .rows)) y
-    go table.all f = absurd (let z : _≡_ {A = ℕ} 0 1 = cc in omega arith)
+    go (table.all first) f = absurd (let z : _≡_ {A = ℕ} 0 1 = cc in omega arith)
     go (table.refused m q) f = let number : n ≡ m = cc in let place : p ≡ q = cc in rw (number, place)
 
 -- a text that is taken, with m rows
 record Taken {A : Type 0} (x : Reading A) (m : ℕ) : Type 0 where
-  end : x .end ≡ table.all
+  ending : Ending
+  end : x .end ≡ table.all ending
   count : m ≡ length (x .rows)
 
-taken : {A : Type 0} (x : Reading A) {a : ReadReply} (m : ℕ) → a ≡ replyOf x → a ≡ read.Rows m → Taken x m
-taken x m e q = go (x .end) refl (sym q ∙ e)
+taken : {A : Type 0} (x : Reading A) {a : ReadReply} (m : ℕ) (first : Ending) → a ≡ replyOf x → a ≡ read.Rows m first → Taken x m
+taken x m first e q = go (x .end) refl (sym q ∙ e)
   where
-    go : (y : End) → x .end ≡ y → read.Rows m ≡ replyBy (length (x .rows)) y → Taken x m
-    go table.all z f = record { end = z; count = cc }
+    go : (y : End) → x .end ≡ y → read.Rows m first ≡ replyBy (length (x .rows)) y → Taken x m
+    go (table.all own) z f = record { ending = own; end = z; count = cc }
     go (table.refused n p) z f = absurd (let z : _≡_ {A = ℕ} 0 1 = cc in omega arith)
 
 module _ {A : Type 0} (x : Reading A) (m : ℕ) (T : Taken x m) where
@@ -111,12 +113,12 @@ module _ (headerRow : Bool) (files : Files) (s : List ℕ) (costs innermost firs
   unfolding loopsStage
   loops-refused h L n p t e = rw h (reading-refused text Loops (λ ls. tableStage (routineWith ls)) n p (L .reply) e t)
 
-  pub loops-taken : {o : Outcome} {a : ReadReply} {new : LoopColumns} → hasLoops files ≡ true → LoopsRead s headerRow noLoops a new → (m : ℕ)
+  pub loops-taken : {o : Outcome} {a : ReadReply} {new : LoopColumns} → hasLoops files ≡ true → LoopsRead s headerRow noLoops a new → (m : ℕ) (first : Ending)
       → {parents headers limits multipliers : List ℕ} → parents ≡ take m (new .parent) → headers ≡ take m (new .header) → limits ≡ take m (new .limit) → multipliers ≡ take m (new .multiplier)
-      → o ≡ tableStage (routine costs innermost firsts seconds figures parents headers limits multipliers) → a ≡ read.Rows m → o ≡ loopsStage headerRow files s routineWith
+      → o ≡ tableStage (routine costs innermost firsts seconds figures parents headers limits multipliers) → a ≡ read.Rows m first → o ≡ loopsStage headerRow files s routineWith
   unfolding loopsStage
-  loops-taken h L m a b c d t e =
-      let T : Taken text m = taken text m (L .reply) e in
+  loops-taken h L m first a b c d t e =
+      let T : Taken text m = taken text m first (L .reply) e in
       let few : length (text .rows) ≤ mostLoops = let S = loops-short mostLoops headerRow s in omega (arith, S .rows) in
       rw h (after-rows text m T Loops (λ ls. tableStage (routineWith ls))
       (rw (← column text m T parentOf (replicate mostLoops 0) few (L .parent) a, ← column text m T loopHeaderOf (replicate mostLoops 0) few (L .header) b, ← column text m T limitOf (replicate mostLoops 0) few (L .limit) c, ← column text m T multiplierOf (replicate mostLoops 0) few (L .multiplier) d) t))
@@ -141,12 +143,12 @@ module _ (headerRow : Bool) (files : Files) (s loops : List ℕ) where
   unfolding blocksStage
   blocks-refused h B n p t e = rw h (reading-refused block-text Blocks next n p (B .reply) e t)
 
-  pub blocks-taken : {o : Outcome} {a : ReadReply} {new : BlockColumns} → hasBlocks files ≡ true → BlocksRead s headerRow noBlocks a new → (m : ℕ)
+  pub blocks-taken : {o : Outcome} {a : ReadReply} {new : BlockColumns} → hasBlocks files ≡ true → BlocksRead s headerRow noBlocks a new → (m : ℕ) (first : Ending)
       → {costs innermost firsts seconds : List ℕ} {figures : List ℤ} → costs ≡ take m (new .cost) → innermost ≡ take m (new .loops) → firsts ≡ take m (new .first) → seconds ≡ take m (new .second) → figures ≡ take m (new .figure)
-      → o ≡ loopsStage headerRow files loops (withLoops costs innermost firsts seconds figures) → a ≡ read.Rows m → o ≡ blocksStage headerRow files s loops
+      → o ≡ loopsStage headerRow files loops (withLoops costs innermost firsts seconds figures) → a ≡ read.Rows m first → o ≡ blocksStage headerRow files s loops
   unfolding blocksStage
-  blocks-taken h B m a b c d f t e =
-      let T : Taken block-text m = taken block-text m (B .reply) e in
+  blocks-taken h B m first a b c d f t e =
+      let T : Taken block-text m = taken block-text m first (B .reply) e in
       let few : length (block-text .rows) ≤ mostBlocks = let S = blocks-short mostBlocks headerRow s in omega (arith, S .rows) in
       rw h (after-rows block-text m T Blocks next
       (rw (← column block-text m T costOf (replicate mostBlocks 0) few (B .cost) a, ← column block-text m T innermostOf (replicate mostBlocks 0) few (B .loops) b, ← column block-text m T firstOf (replicate mostBlocks 0) few (B .first) c, ← column block-text m T secondOf (replicate mostBlocks 0) few (B .second) d, ← column block-text m T figureOf (replicate mostBlocks (pos 0)) few (B .figure) f) t))

@@ -14,6 +14,7 @@ use Rattle.wcet.proofs.Bound.{wcet-bound}
 use Rattle.tables.specs.Table as table
 use Rattle.tables.specs.Table.{End, Reading, tableOf}
 use Rattle.csv.specs.Grammar.{Record}
+use Rattle.csv.specs.declared.Ending.{Ending}
 use Rattle.limits.specs.Limits.{mostBlocks, mostLoops, mostTextBytes}
 use Rattle.rows.specs.Row.{Verdict, blockFields, loopFields}
 use Rattle.rows.specs.Judge.{judgeBlock, judgeLoop}
@@ -51,7 +52,7 @@ header-first s = rw (
 )
 
 -- a text that is too long is so by its first bytes
-text-first : {A : Type 0} (count : ℕ) (judge : ℕ → Record → Verdict A) (headerRow : Bool) (s : List ℕ) → tableOf count judge headerRow (take textRoom s) ≡ tableOf count judge headerRow s
+text-first : {A : Type 0} (count : ℕ) (judge : Ending → ℕ → Record → Verdict A) (headerRow : Bool) (s : List ℕ) → tableOf count judge headerRow (take textRoom s) ≡ tableOf count judge headerRow s
 unfolding tableOf
 text-first count judge headerRow s = go (leb (length s) mostTextBytes) refl
   where
@@ -79,14 +80,15 @@ first-bytes setting files blocks loops = rw (header-first setting) (go (headerOf
 
 -- an acceptance after a text comes from its rows
 record Accepts {A : Type 0} (x : Reading A) (next : List A → Outcome) (b : ℤ) : Type 0 where
-  read : x ≡ record { rows = x .rows; end = table.all }
+  ending : Ending
+  read : x ≡ record { rows = x .rows; end = table.all ending }
   accepts : next (x .rows) ≡ Accepted b
 
 accepts-text : {A : Type 0} (x : Reading A) (stage : Stage) (next : List A → Outcome) (b : ℤ) → afterReading stage next x ≡ Accepted b → Accepts x next b
 accepts-text x stage next b e = go (x .end) refl e
   where
     go : (y : End) → x .end ≡ y → ofEnd stage (next (x .rows)) y ≡ Accepted b → Accepts x next b
-    go table.all f q = record { read = ap (λ (y : End). record { rows = x .rows; end = y }) f; accepts = q }
+    go (table.all first) f q = record { ending = first; read = ap (λ (y : End). record { rows = x .rows; end = y }) f; accepts = q }
     go (table.refused n p) f q = absurd (let z : _≡_ {A = ℕ} 0 1 = cc in omega arith)
 
 -- a file that is there
@@ -116,6 +118,8 @@ certified setting files blocks loops b e = go (headerOf setting) refl e
           said = h;
           block-rows = x .rows;
           loop-rows = y .rows;
+          block-ending = B .ending;
+          loop-ending = L .ending;
           blocks-read = B .read;
           loops-read = L .read;
           replied = replied;
@@ -145,7 +149,7 @@ in-turn-blocks h files blocks loops has e = go h e
       where
         ended : (y : End) → wantedBy (ofEnd Blocks (Refused Loops 107 2) y) ≡ Nothing
             → ofEnd Blocks (loopsStage headerRow files loops (routineOf (blockReading headerRow blocks .rows))) y ≡ ofEnd Blocks (Refused Loops 107 2) y
-        ended table.all q = absurd (let z : _≡_ {A = ℕ} 0 1 = cc in omega arith)
+        ended (table.all first) q = absurd (let z : _≡_ {A = ℕ} 0 1 = cc in omega arith)
         ended (table.refused n p) q = refl
 
     go : (h : Header) → wantedBy (settingStage h OnlyBlocks blocks []) ≡ Nothing → settingStage h files blocks loops ≡ settingStage h OnlyBlocks blocks []

@@ -16,6 +16,7 @@ use Rattle.nesting.specs.Columns.{routine}
 use Rattle.rows.specs.Row.{costOf, innermostOf, firstOf, secondOf, figureOf, parentOf, loopHeaderOf, limitOf, multiplierOf}
 use Rattle.rows.specs.declared.BlockRow.{BlockRow}
 use Rattle.rows.specs.declared.LoopRow.{LoopRow}
+use Rattle.csv.specs.declared.Ending.{Ending}
 use Rattle.tables.specs.Table as table
 use Rattle.tables.specs.Table.{End, Reading, blockTable, loopTable}
 use Rattle.report.specs.Line.{bytes}
@@ -65,9 +66,9 @@ ofAnswer (refused number place) = Refused Table number place
 abbrev pub tableStage : Routine → Outcome
 tableStage t = ofAnswer (tableReply t)
 
--- a text that is refused, 101 to 106, or what comes after its rows
+-- a text that is refused, 101 to 106 and 108, or what comes after its rows, whatever its line end
 abbrev pub ofEnd : Stage → Outcome → End → Outcome
-ofEnd stage next table.all = next
+ofEnd stage next (table.all ending) = next
 ofEnd stage next (table.refused number place) = Refused stage number place
 
 abbrev pub afterReading : {A : Type 0} → Stage → (List A → Outcome) → Reading A → Outcome
@@ -129,8 +130,10 @@ pub record Certified (setting blocks loops : List ℕ) (b : ℤ) : Type 0 where
   pub said : headerOf setting ≡ cond header-row Present Absent
   pub block-rows : List BlockRow
   pub loop-rows : List LoopRow
-  pub blocks-read : blockReading header-row blocks ≡ record { rows = block-rows; end = table.all }
-  pub loops-read : loopReading header-row loops ≡ record { rows = loop-rows; end = table.all }
+  pub block-ending : Ending
+  pub loop-ending : Ending
+  pub blocks-read : blockReading header-row blocks ≡ record { rows = block-rows; end = table.all block-ending }
+  pub loops-read : loopReading header-row loops ≡ record { rows = loop-rows; end = table.all loop-ending }
   pub replied : tableReply (routineOf block-rows loop-rows) ≡ accepted b
   pub bounded : WcetBound (routineOf block-rows loop-rows) b
 

@@ -172,7 +172,10 @@ fn loops_stage(
     let read = tables::read_loops(loops, header_row, &mut p, &mut h, &mut l, &mut m);
     match read {
         ReadReply::Refused { number, record } => refused(Stage::Loops, number, record),
-        ReadReply::Rows(rows) => table_stage(certificate::check(
+        ReadReply::Rows {
+            count: rows,
+            ending: _,
+        } => table_stage(certificate::check(
             cost,
             innermost,
             first,
@@ -209,7 +212,10 @@ fn blocks_stage(header_row: bool, files: Files, blocks: &[u8], loops: &[u8]) -> 
     );
     match read {
         ReadReply::Refused { number, record } => refused(Stage::Blocks, number, record),
-        ReadReply::Rows(n) => loops_stage(
+        ReadReply::Rows {
+            count: n,
+            ending: _,
+        } => loops_stage(
             header_row,
             files,
             loops,

@@ -76,7 +76,7 @@ module _ {A C : Type 0} (store : C → ℕ → A → C) (none : C) (x : Reading 
   count-fits = go (x .end) count-is
     where
       go : (y : End) → count ≡ rowCount (replyBy (length (x .rows)) y) → count ≤ room
-      go all g = omega arith
+      go (all first) g = omega arith
       go (refused n place) g = omega arith
 
   -- a column that has at least `room` places
@@ -90,5 +90,5 @@ module _ {A C : Type 0} (store : C → ℕ → A → C) (none : C) (x : Reading 
       stored = sets-eq (map f (x .rows)) (column none) 0 (rw (n, zero-add) (omega arith))
 
       go : (y : End) → take (rowCount (replyBy (length (x .rows)) y)) (sets (column none) 0 (map f (x .rows))) ≡ map f (acceptedBy (x .rows) y)
-      go all = rw (stored, ← n) (take-append-seam (map f (x .rows)) (drop (0 + length (map f (x .rows))) (column none)))
+      go (all first) = rw (stored, ← n) (take-append-seam (map f (x .rows)) (drop (0 + length (map f (x .rows))) (column none)))
       go (refused m place) = refl

@@ -13,7 +13,8 @@ use mir.Syntax.{w64}
 use mir.Val.{toZ, ofZ}
 use mir.Facts.{toZ-ofZ}
 use Rattle.csv.specs.Grammar as grammar
-use Rattle.csv.specs.Grammar.{Record, recordOf, records}
+use Rattle.csv.specs.Grammar.{Record, recordOf, records, alike}
+use Rattle.csv.specs.declared.Ending.{Ending}
 use Rattle.csv.proofs.Records.{Spans, record-spans, records-none, records-step}
 use Rattle.rows.specs.Row.{Verdict, taken, fault}
 use Rattle.tables.specs.Table.{End, readingAfter, reading}
@@ -25,22 +26,22 @@ use Rattle.rows.specs.declared.BlockStep.{BlockStep}
 use Rattle.rows.specs.declared.LoopRow.{LoopRow}
 use Rattle.rows.specs.declared.LoopVerdict.the-variants.{Taken as TakenLoop, Fault as LoopFault}
 use Rattle.rows.specs.declared.LoopStep.{LoopStep}
-use Rattle.rows.proofs.Taken.{BlockTaken, block-taken, loop-taken}
+use Rattle.rows.proofs.Taken.{BlockTaken, block-taken, LoopTaken, loop-taken}
 use Rattle.tables.specs.Columns.{replyBy, BlockColumns, blocks, LoopColumns}
 use Rattle.tables.specs.Place.{stores, storeBlock, storeLoop, Gathered, gathered, leaving}
 use Rattle.tables.specs.declared.ReadReply.the-variants.{Rows, Refused}
 
-module _ {A C : Type 0} (store : C → ℕ → A → C) (judge : ℕ → Record → Verdict A) (s : List ℕ) (start : ℕ) where
+module _ {A C : Type 0} (store : C → ℕ → A → C) (judge : Ending → ℕ → Record → Verdict A) (s : List ℕ) (first : Ending) (start : ℕ) where
   -- the record at p, where row k is due
   module _ (k p : ℕ) (h : p < length s) where
     some : 0 < length (drop p s)
     some = rw length-drop (omega arith)
 
-    pub pass-fault : (n : ℕ) → judge k (recordOf (drop p s)) ≡ fault n → {x : Gathered C} (columns : C) → x ≡ gathered store columns k (reading judge start k (records (drop p s))) → leaving (Refused n (start + k)) columns ≡ x
+    pub pass-fault : (n : ℕ) → judge first k (recordOf (drop p s)) ≡ fault n → {x : Gathered C} (columns : C) → x ≡ gathered store columns k (reading judge first start k (records (drop p s))) → leaving (Refused n (start + k)) columns ≡ x
     unfolding reading stores
     pass-fault n e columns f = sym (f ∙ rw (records-step (drop p s) some, e))
 
-    module _ (w : A) (e : judge k (recordOf (drop p s)) ≡ taken w) (sound : recordOf (drop p s) .sound ≡ true) (next : ℕ) (i : next ≡ p + recordOf (drop p s) .bytes) where
+    module _ (w : A) (e : judge first k (recordOf (drop p s)) ≡ taken w) (sound : recordOf (drop p s) .sound ≡ true) (next : ℕ) (i : next ≡ p + recordOf (drop p s) .bytes) where
       pub pass-range : (p < next) × (next ≤ length s)
       pass-range =
           let x : Spans (recordOf (drop p s)) (length (drop p s)) = record-spans (drop p s) sound in
@@ -51,7 +52,7 @@ module _ {A C : Type 0} (store : C → ℕ → A → C) (judge : ℕ → Record 
       rest : grammar.recordsAfter records (drop p s) (recordOf (drop p s)) ≡ records (drop next s)
       rest = rw (sound, drop-drop, ← i)
 
-      row-reading : reading judge start k (records (drop p s)) ≡ readingAfter (reading judge start (suc k) (records (drop next s))) (start + k) (taken w)
+      row-reading : reading judge first start k (records (drop p s)) ≡ readingAfter (reading judge first start (suc k) (records (drop next s))) (start + k) (taken w)
       unfolding reading
       row-reading = rw (records-step (drop p s) some ∙ ap (λ (l : List Record). recordOf (drop p s) ∷ l) rest, e)
 
@@ -61,11 +62,11 @@ module _ {A C : Type 0} (store : C → ℕ → A → C) (judge : ℕ → Record 
           let z : k + suc (length ws) ≡ suc k + length ws = omega arith in
           ap (λ (n : ℕ). leaving (replyBy n x) (stores store (store columns k w) (suc k) ws)) z
 
-      pub pass-on : {x : Gathered C} (columns : C) → x ≡ gathered store columns k (reading judge start k (records (drop p s))) → x ≡ gathered store (store columns k w) (k + 1) (reading judge start (k + 1) (records (drop next s)))
-      pass-on columns f = f ∙ rw (row-reading, add-one k) (one-more columns (reading judge start (suc k) (records (drop next s)) .rows) (reading judge start (suc k) (records (drop next s)) .end))
+      pub pass-on : {x : Gathered C} (columns : C) → x ≡ gathered store columns k (reading judge first start k (records (drop p s))) → x ≡ gathered store (store columns k w) (k + 1) (reading judge first start (k + 1) (records (drop next s)))
+      pass-on columns f = f ∙ rw (row-reading, add-one k) (one-more columns (reading judge first start (suc k) (records (drop next s)) .rows) (reading judge first start (suc k) (records (drop next s)) .end))
 
   -- the end of the text
-  pub pass-done : (k p : ℕ) → length s ≤ p → {x : Gathered C} (columns : C) → x ≡ gathered store columns k (reading judge start k (records (drop p s))) → leaving (Rows k) columns ≡ x
+  pub pass-done : (k p : ℕ) → length s ≤ p → {x : Gathered C} (columns : C) → x ≡ gathered store columns k (reading judge first start k (records (drop p s))) → leaving (Rows k first) columns ≡ x
   unfolding reading stores
   pass-done k p h columns f = sym (f ∙ rw (records-none (drop p s) (rw length-drop (omega arith)), add-zero))
 
@@ -78,25 +79,25 @@ block-fault-of : (v : Verdict BlockRow) (n : ℕ) → blockVerdict v ≡ BlockFa
 block-fault-of (taken u) n e = absurd (let z : _≡_ {A = ℕ} 0 1 = cc in omega arith)
 block-fault-of (fault m) n e = cc
 
-module _ (s : List ℕ) (room start k p : ℕ) {r : BlockStep} (q : r ≡ blockStep room k p (recordOf (drop p s))) (h : p < length s) where
-  block-verdict : blockVerdict (judgeBlock room k (recordOf (drop p s))) ≡ r .verdict
+module _ (s : List ℕ) (room : ℕ) (first : Ending) (start k p : ℕ) {r : BlockStep} (q : r ≡ blockStep room first k p (recordOf (drop p s))) (h : p < length s) where
+  block-verdict : blockVerdict (judgeBlock room first k (recordOf (drop p s))) ≡ r .verdict
   block-verdict = sym (ap (λ (x : BlockStep). x .verdict) q)
 
-  pub blocks-fault : (n : ℕ) → r .verdict ≡ BlockFault n → {x : Gathered BlockColumns} (columns : BlockColumns) → x ≡ gathered storeBlock columns k (reading (judgeBlock room) start k (records (drop p s))) → leaving (Refused n (start + k)) columns ≡ x
-  blocks-fault n e = pass-fault storeBlock (judgeBlock room) s start k p h n (block-fault-of (judgeBlock room k (recordOf (drop p s))) n (block-verdict ∙ e))
+  pub blocks-fault : (n : ℕ) → r .verdict ≡ BlockFault n → {x : Gathered BlockColumns} (columns : BlockColumns) → x ≡ gathered storeBlock columns k (reading (judgeBlock room) first start k (records (drop p s))) → leaving (Refused n (start + k)) columns ≡ x
+  blocks-fault n e = pass-fault storeBlock (judgeBlock room) s first start k p h n (block-fault-of (judgeBlock room first k (recordOf (drop p s))) n (block-verdict ∙ e))
 
   module _ (w : BlockRow) (e : r .verdict ≡ TakenBlock w) where
-    block-here : judgeBlock room k (recordOf (drop p s)) ≡ taken w
-    block-here = block-of (judgeBlock room k (recordOf (drop p s))) w (block-verdict ∙ e)
+    block-here : judgeBlock room first k (recordOf (drop p s)) ≡ taken w
+    block-here = block-of (judgeBlock room first k (recordOf (drop p s))) w (block-verdict ∙ e)
 
-    block-known : (recordOf (drop p s) .sound ≡ true) × BlockTaken room k w
-    block-known = block-taken room k (recordOf (drop p s)) w block-here
+    block-known : (recordOf (drop p s) .sound ≡ true) × BlockTaken room k (alike first (recordOf (drop p s) .ending)) w
+    block-known = block-taken room first k (recordOf (drop p s)) w block-here
 
     pub blocks-range : (p < r .next) × (r .next ≤ length s) × (k < room)
-    blocks-range = let x = pass-range storeBlock (judgeBlock room) s start k p h w block-here (block-known .0) (r .next) (ap (λ (x : BlockStep). x .next) q) in (x .0, x .1, block-known .1 .0)
+    blocks-range = let x = pass-range storeBlock (judgeBlock room) s first start k p h w block-here (block-known .0) (r .next) (ap (λ (x : BlockStep). x .next) q) in (x .0, x .1, block-known .1 .1)
 
-    pub blocks-on : {x : Gathered BlockColumns} (columns : BlockColumns) → x ≡ gathered storeBlock columns k (reading (judgeBlock room) start k (records (drop p s))) → x ≡ gathered storeBlock (blocks (set (columns .cost) k (w .cost)) (set (columns .loops) k (w .innermost)) (set (columns .first) k (w .first)) (set (columns .second) k (w .second)) (set (columns .figure) k (toZ w64 (ofZ w64 (w .figure))))) (k + 1) (reading (judgeBlock room) start (k + 1) (records (drop (r .next) s)))
-    blocks-on columns f = rw (toZ-ofZ (block-known .1 .1)) (pass-on storeBlock (judgeBlock room) s start k p h w block-here (block-known .0) (r .next) (ap (λ (x : BlockStep). x .next) q) columns f)
+    pub blocks-on : {x : Gathered BlockColumns} (columns : BlockColumns) → x ≡ gathered storeBlock columns k (reading (judgeBlock room) first start k (records (drop p s))) → x ≡ gathered storeBlock (blocks (set (columns .cost) k (w .cost)) (set (columns .loops) k (w .innermost)) (set (columns .first) k (w .first)) (set (columns .second) k (w .second)) (set (columns .figure) k (toZ w64 (ofZ w64 (w .figure))))) (k + 1) (reading (judgeBlock room) first start (k + 1) (records (drop (r .next) s)))
+    blocks-on columns f = rw (toZ-ofZ (block-known .1 .2)) (pass-on storeBlock (judgeBlock room) s first start k p h w block-here (block-known .0) (r .next) (ap (λ (x : BlockStep). x .next) q) columns f)
 
 -- The same of a loop table; r is what `loop_at` gave.
 loop-of : (v : Verdict LoopRow) (w : LoopRow) → loopVerdict v ≡ TakenLoop w → v ≡ taken w
@@ -107,22 +108,22 @@ loop-fault-of : (v : Verdict LoopRow) (n : ℕ) → loopVerdict v ≡ LoopFault 
 loop-fault-of (taken u) n e = absurd (let z : _≡_ {A = ℕ} 0 1 = cc in omega arith)
 loop-fault-of (fault m) n e = cc
 
-module _ (s : List ℕ) (room start k p : ℕ) {r : LoopStep} (q : r ≡ loopStep room k p (recordOf (drop p s))) (h : p < length s) where
-  loop-verdict : loopVerdict (judgeLoop room k (recordOf (drop p s))) ≡ r .verdict
+module _ (s : List ℕ) (room : ℕ) (first : Ending) (start k p : ℕ) {r : LoopStep} (q : r ≡ loopStep room first k p (recordOf (drop p s))) (h : p < length s) where
+  loop-verdict : loopVerdict (judgeLoop room first k (recordOf (drop p s))) ≡ r .verdict
   loop-verdict = sym (ap (λ (x : LoopStep). x .verdict) q)
 
-  pub loops-fault : (n : ℕ) → r .verdict ≡ LoopFault n → {x : Gathered LoopColumns} (columns : LoopColumns) → x ≡ gathered storeLoop columns k (reading (judgeLoop room) start k (records (drop p s))) → leaving (Refused n (start + k)) columns ≡ x
-  loops-fault n e = pass-fault storeLoop (judgeLoop room) s start k p h n (loop-fault-of (judgeLoop room k (recordOf (drop p s))) n (loop-verdict ∙ e))
+  pub loops-fault : (n : ℕ) → r .verdict ≡ LoopFault n → {x : Gathered LoopColumns} (columns : LoopColumns) → x ≡ gathered storeLoop columns k (reading (judgeLoop room) first start k (records (drop p s))) → leaving (Refused n (start + k)) columns ≡ x
+  loops-fault n e = pass-fault storeLoop (judgeLoop room) s first start k p h n (loop-fault-of (judgeLoop room first k (recordOf (drop p s))) n (loop-verdict ∙ e))
 
   module _ (w : LoopRow) (e : r .verdict ≡ TakenLoop w) where
-    loop-here : judgeLoop room k (recordOf (drop p s)) ≡ taken w
-    loop-here = loop-of (judgeLoop room k (recordOf (drop p s))) w (loop-verdict ∙ e)
+    loop-here : judgeLoop room first k (recordOf (drop p s)) ≡ taken w
+    loop-here = loop-of (judgeLoop room first k (recordOf (drop p s))) w (loop-verdict ∙ e)
 
-    loop-known : (recordOf (drop p s) .sound ≡ true) × (k < room)
-    loop-known = loop-taken room k (recordOf (drop p s)) w loop-here
+    loop-known : (recordOf (drop p s) .sound ≡ true) × LoopTaken room k (alike first (recordOf (drop p s) .ending)) w
+    loop-known = loop-taken room first k (recordOf (drop p s)) w loop-here
 
     pub loops-range : (p < r .next) × (r .next ≤ length s) × (k < room)
-    loops-range = let x = pass-range storeLoop (judgeLoop room) s start k p h w loop-here (loop-known .0) (r .next) (ap (λ (x : LoopStep). x .next) q) in (x .0, x .1, loop-known .1)
+    loops-range = let x = pass-range storeLoop (judgeLoop room) s first start k p h w loop-here (loop-known .0) (r .next) (ap (λ (x : LoopStep). x .next) q) in (x .0, x .1, loop-known .1 .1)
 
-    pub loops-on : {x : Gathered LoopColumns} (columns : LoopColumns) → x ≡ gathered storeLoop columns k (reading (judgeLoop room) start k (records (drop p s))) → x ≡ gathered storeLoop (storeLoop columns k w) (k + 1) (reading (judgeLoop room) start (k + 1) (records (drop (r .next) s)))
-    loops-on columns f = pass-on storeLoop (judgeLoop room) s start k p h w loop-here (loop-known .0) (r .next) (ap (λ (x : LoopStep). x .next) q) columns f
+    pub loops-on : {x : Gathered LoopColumns} (columns : LoopColumns) → x ≡ gathered storeLoop columns k (reading (judgeLoop room) first start k (records (drop p s))) → x ≡ gathered storeLoop (storeLoop columns k w) (k + 1) (reading (judgeLoop room) first start (k + 1) (records (drop (r .next) s)))
+    loops-on columns f = pass-on storeLoop (judgeLoop room) s first start k p h w loop-here (loop-known .0) (r .next) (ap (λ (x : LoopStep). x .next) q) columns f

@@ -11,7 +11,8 @@ use lib.ListN.{length, drop}
 use lib.Dec.{leb, eqb}
 use Rattle.limits.specs.Limits.{mostTextBytes}
 use Rattle.csv.specs.Grammar as grammar
-use Rattle.csv.specs.Grammar.{Record, recordOf, records}
+use Rattle.csv.specs.Grammar.{Record, recordOf, records, firstEnding}
+use Rattle.csv.specs.declared.Ending.{Ending}
 use Rattle.csv.specs.Place.{splitOf, noPlaces}
 use Rattle.csv.specs.declared.Split.{Split}
 use Rattle.csv.proofs.Records.{Spans, record-spans, records-none, records-step}
@@ -44,10 +45,11 @@ module _ (s : List ℕ) (count : ℕ) where
       pub header-count : (r .count ≡ count → ⊥) → Refused 103 1 ≡ startAfter count (records s)
       header-count g = rw (stepped, sound-is ∙ f, ne-eqb (length (recordOf s .fields)) count (λ i. g (count-is ∙ i)))
 
-      pub header-passed : r .count ≡ count → At (r .next) 2 ≡ startAfter count (records s)
+      pub header-passed : r .count ≡ count → At (r .next) 2 (r .ending) ≡ startAfter count (records s)
       header-passed g =
           let n : r .next ≡ recordOf s .bytes = ap (λ (x : Split). x .next) y ∙ zero-add (recordOf s .bytes) in
-          rw (stepped, sound-is ∙ f, eq-eqb (length (recordOf s .fields)) count (sym count-is ∙ g), n)
+          let x : r .ending ≡ recordOf s .ending = ap (λ (x : Split). x .ending) y in
+          rw (stepped, sound-is ∙ f, eq-eqb (length (recordOf s .fields)) count (sym count-is ∙ g), n, x)
 
 -- Each way through `start_of`.
 module _ (s : List ℕ) (count : ℕ) (headerRow : Bool) where
@@ -56,9 +58,9 @@ module _ (s : List ℕ) (count : ℕ) (headerRow : Bool) where
   start-long h = rw (lt-leb (length s) mostTextBytes h)
 
   module _ (h : length s ≤ mostTextBytes) where
-    pub start-plain : headerRow ≡ false → At 0 1 ≡ startOf count headerRow s
+    pub start-plain : headerRow ≡ false → {x : Ending} → x ≡ firstEnding (records s) → At 0 1 x ≡ startOf count headerRow s
     unfolding startOf
-    start-plain e = rw (le-leb (length s) mostTextBytes h, e)
+    start-plain e q = rw (le-leb (length s) mostTextBytes h, e, q)
 
     pub start-headed : headerRow ≡ true → {x : Start} → x ≡ startAfter count (records s) → x ≡ startOf count headerRow s
     unfolding startOf
@@ -70,11 +72,11 @@ pub record Inside (s : List ℕ) (at start : ℕ) : Type 0 where
   pub record-number : start ≤ 2
 
 -- what a start says of the reading
-abbrev Says : {A : Type 0} → (ℕ → Record → Verdict A) → List ℕ → Reading A → Start → Type 0
-Says judge s x (At at start) = Inside s at start × (x ≡ reading judge start 0 (records (drop at s)))
+abbrev Says : {A : Type 0} → (Ending → ℕ → Record → Verdict A) → List ℕ → Reading A → Start → Type 0
+Says judge s x (At at start first) = Inside s at start × (x ≡ reading judge first start 0 (records (drop at s)))
 Says judge s x (Refused n place) = x ≡ stopped n place
 
-starts : {A : Type 0} (judge : ℕ → Record → Verdict A) (s : List ℕ) (count : ℕ) (headerRow : Bool) → Says judge s (tableOf count judge headerRow s) (startOf count headerRow s)
+starts : {A : Type 0} (judge : Ending → ℕ → Record → Verdict A) (s : List ℕ) (count : ℕ) (headerRow : Bool) → Says judge s (tableOf count judge headerRow s) (startOf count headerRow s)
 unfolding tableOf startOf
 starts judge s count headerRow = long (leb (length s) mostTextBytes)
   where
@@ -84,7 +86,7 @@ starts judge s count headerRow = long (leb (length s) mostTextBytes)
     some : 0 < length s → Says judge s (afterHeaderRow count judge (recordOf s ∷ grammar.recordsAfter records s (recordOf s))) (startAfter count (recordOf s ∷ grammar.recordsAfter records s (recordOf s)))
     some h = go (recordOf s .sound) (eqb (length (recordOf s .fields)) count) refl
       where
-        go : (a b : Bool) → recordOf s .sound ≡ a → Says judge s (cond a (cond b (reading judge 2 0 (cond (recordOf s .sound) (records (drop (recordOf s .bytes) s)) [])) (stopped 103 1)) (stopped 102 1)) (cond a (cond b (At (recordOf s .bytes) 2) (Refused 103 1)) (Refused 102 1))
+        go : (a b : Bool) → recordOf s .sound ≡ a → Says judge s (cond a (cond b (reading judge (recordOf s .ending) 2 0 (cond (recordOf s .sound) (records (drop (recordOf s .bytes) s)) [])) (stopped 103 1)) (stopped 102 1)) (cond a (cond b (At (recordOf s .bytes) 2 (recordOf s .ending)) (Refused 103 1)) (Refused 102 1))
         go true true f = (record { place = record-spans s f .within; record-number = omega arith }, rw f)
         go true false f = refl
         go false b f = refl
@@ -93,25 +95,25 @@ starts judge s count headerRow = long (leb (length s) mostTextBytes)
     head zero e = rw (records-none s e) none
     head (suc n) e = let h : 0 < length s = omega arith in rw (records-step s h) (some h)
 
-    told : (b : Bool) → Says judge s (cond b (afterHeaderRow count judge (records s)) (reading judge 1 0 (records s))) (cond b (startAfter count (records s)) (At 0 1))
+    told : (b : Bool) → Says judge s (cond b (afterHeaderRow count judge (records s)) (reading judge (firstEnding (records s)) 1 0 (records s))) (cond b (startAfter count (records s)) (At 0 1 (firstEnding (records s))))
     told true = head (length s) refl
     told false = (record { place = omega arith; record-number = omega arith }, refl)
 
-    long : (b : Bool) → Says judge s (cond b (cond headerRow (afterHeaderRow count judge (records s)) (reading judge 1 0 (records s))) (stopped 101 0)) (cond b (cond headerRow (startAfter count (records s)) (At 0 1)) (Refused 101 0))
+    long : (b : Bool) → Says judge s (cond b (cond headerRow (afterHeaderRow count judge (records s)) (reading judge (firstEnding (records s)) 1 0 (records s))) (stopped 101 0)) (cond b (cond headerRow (startAfter count (records s)) (At 0 1 (firstEnding (records s)))) (Refused 101 0))
     long true = told headerRow
     long false = refl
 
-module _ {A : Type 0} (judge : ℕ → Record → Verdict A) (s : List ℕ) (count : ℕ) (headerRow : Bool) {x : Start} (q : x ≡ startOf count headerRow s) where
-  pub start-says : (at start : ℕ) → x ≡ At at start → Inside s at start × (tableOf count judge headerRow s ≡ reading judge start 0 (records (drop at s)))
-  start-says at start e = rw (sym q ∙ e) at (starts judge s count headerRow)
+module _ {A : Type 0} (judge : Ending → ℕ → Record → Verdict A) (s : List ℕ) (count : ℕ) (headerRow : Bool) {x : Start} (q : x ≡ startOf count headerRow s) where
+  pub start-says : (at start : ℕ) (first : Ending) → x ≡ At at start first → Inside s at start × (tableOf count judge headerRow s ≡ reading judge first start 0 (records (drop at s)))
+  start-says at start first e = rw (sym q ∙ e) at (starts judge s count headerRow)
 
   pub start-refused : (n place : ℕ) → x ≡ Refused n place → tableOf count judge headerRow s ≡ stopped n place
   start-refused n place e = rw (sym q ∙ e) at (starts judge s count headerRow)
 
   -- Each way through `gather_block_table` and `gather_loop_table`.
   module _ {C : Type 0} (store : C → ℕ → A → C) (columns : C) where
-    pub table-started : (at start : ℕ) → x ≡ At at start → {g : Gathered C} → g ≡ gathered store columns 0 (reading judge start 0 (records (drop at s))) → g ≡ gathered store columns 0 (tableOf count judge headerRow s)
-    table-started at start e p = p ∙ ap (gathered store columns 0) (sym (start-says at start e .1))
+    pub table-started : (at start : ℕ) (first : Ending) → x ≡ At at start first → {g : Gathered C} → g ≡ gathered store columns 0 (reading judge first start 0 (records (drop at s))) → g ≡ gathered store columns 0 (tableOf count judge headerRow s)
+    table-started at start first e p = p ∙ ap (gathered store columns 0) (sym (start-says at start first e .1))
 
     pub table-stopped : (n place : ℕ) → x ≡ Refused n place → leaving (Unread n place) columns ≡ gathered store columns 0 (tableOf count judge headerRow s)
     unfolding stores

@@ -22,10 +22,10 @@ use Rattle.tables.proofs.Copies.{column-length, reply-is, count-fits, c
 
 -- the rows of each table have places, and a refusal's record is near them
 pub blocks-short : (room : ℕ) (headerRow : Bool) (s : List ℕ) → Short room (2 + room) 0 (tableOf blockFields (judgeBlock room) headerRow s)
-blocks-short room = table-short (judgeBlock room) room (λ k r w e. block-taken room k r w e .1 .0) blockFields
+blocks-short room = table-short (judgeBlock room) room (λ first k r w e. block-taken room first k r w e .1 .1) blockFields
 
 pub loops-short : (room : ℕ) (headerRow : Bool) (s : List ℕ) → Short room (2 + room) 0 (tableOf loopFields (judgeLoop room) headerRow s)
-loops-short room = table-short (judgeLoop room) room (λ k r w e. loop-taken room k r w e .1) loopFields
+loops-short room = table-short (judgeLoop room) room (λ first k r w e. loop-taken room first k r w e .1 .1) loopFields
 
 -- the room of a block table, from that of its successors
 pub block-room : (c l a b z : ℕ) {s r : ℕ} → s ≡ min a b → r ≡ min (min c (min l (min s z))) mostBlocks → r ≡ min (min c (min l (min a (min b z)))) mostBlocks

@@ -13,9 +13,10 @@ use Rattle.tables.specs.Table.{End, all, refused, Reading, blockTable, l
 use Rattle.tables.specs.declared.ReadReply.{ReadReply}
 use Rattle.tables.specs.declared.ReadReply.the-variants.{Rows, Refused}
 
--- "On acceptance the reader gives the row count"; "Each refusal is a number and a place"
+-- "On acceptance the reader gives the row count", and by document 02, §1, "the first record's line end beside the row count"; "Each refusal
+-- is a number and a place"
 abbrev pub replyBy : ℕ → End → ReadReply
-replyBy k all = Rows k
+replyBy k (all ending) = Rows k ending
 replyBy k (refused n place) = Refused n place
 
 abbrev pub replyOf : {A : Type 0} → Reading A → ReadReply
@@ -23,7 +24,7 @@ replyOf x = replyBy (length (x .rows)) (x .end)
 
 -- the rows of an accepted text; a refusal "changes no lent column"
 abbrev pub acceptedBy : {A : Type 0} → List A → End → List A
-acceptedBy ws all = ws
+acceptedBy ws (all ending) = ws
 acceptedBy ws (refused n place) = []
 
 abbrev pub accepted : {A : Type 0} → Reading A → List A

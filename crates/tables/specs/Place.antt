@@ -5,7 +5,7 @@ use mathlib.Core.List.{List, [], _∷_}
 use lib.ListN.{length, set}
 use lib.Dec.{leb, eqb}
 use Rattle.limits.specs.Limits.{mostTextBytes}
-use Rattle.csv.specs.Grammar.{Record, records}
+use Rattle.csv.specs.Grammar.{Record, records, firstEnding}
 use Rattle.rows.specs.declared.BlockRow.{BlockRow}
 use Rattle.rows.specs.declared.LoopRow.{LoopRow}
 use Rattle.tables.specs.Table.{Reading}
@@ -15,13 +15,13 @@ use Rattle.tables.specs.declared.ReadReply.the-variants.{Rows, Refused}
 use Rattle.tables.specs.declared.Start.{Start}
 use Rattle.tables.specs.declared.Start.the-variants.{At, Refused as NoStart}
 
--- where the rows of a text start and in which record, or the refusal before them
+-- where the rows of a text start, in which record, and how the first record ends, or the refusal before them
 abbrev pub startAfter : ℕ → List Record → Start
 startAfter count [] = NoStart 103 1
-startAfter count (r ∷ rs) = cond (r .sound) (cond (eqb (length (r .fields)) count) (At (r .bytes) 2) (NoStart 103 1)) (NoStart 102 1)
+startAfter count (r ∷ rs) = cond (r .sound) (cond (eqb (length (r .fields)) count) (At (r .bytes) 2 (r .ending)) (NoStart 103 1)) (NoStart 102 1)
 
 unfoldable pub startOf : ℕ → Bool → List ℕ → Start
-startOf count headerRow s = cond (leb (length s) mostTextBytes) (cond headerRow (startAfter count (records s)) (At 0 1)) (NoStart 101 0)
+startOf count headerRow s = cond (leb (length s) mostTextBytes) (cond headerRow (startAfter count (records s)) (At 0 1 (firstEnding (records s)))) (NoStart 101 0)
 
 -- columns with a store for each row, from place k on, by the store of one row
 unfoldable pub stores : {A C : Type 0} → (C → ℕ → A → C) → C → ℕ → List A → C
@@ -48,5 +48,5 @@ leaving r columns = record { columns = columns; reply = r }
 
 -- the count of rows in a reply
 abbrev pub rowCount : ReadReply → ℕ
-rowCount (Rows count) = count
+rowCount (Rows count ending) = count
 rowCount (Refused n place) = 0

@@ -10,6 +10,7 @@ ghost use Rattle.tables.specs.Table.{reading, tableOf};
 ghost use Rattle.rows.specs.Row.{blockFields, loopFields};
 ghost use Rattle.tables.specs.Columns.{over, blocks, loops, BlocksRead, LoopsRead};
 ghost use Rattle.tables.specs.Place.{startAfter, startOf, storeBlock, storeLoop, gathered, leaving, rowCount};
+use csv::Ending;
 use limits::MOST_BLOCKS;
 use limits::MOST_LOOPS;
 use limits::MOST_TEXT_BYTES;
@@ -18,16 +19,23 @@ use rows::BlockVerdict;
 use rows::LOOP_FIELDS;
 use rows::LoopVerdict;
 
-// The reply of a reader: the count of rows, or the number of a refusal and its place, a record (0 for 101).
+// The reply of a reader: the count of rows and how the first record ends, or the number of a refusal and its place, a record (0 for 101).
 pub enum ReadReply {
-    Rows(usize),
+    Rows { count: usize, ending: Ending },
     Refused { number: u32, record: usize },
 }
 
-// Where the rows of a text start, and in which record; or a refusal before the first row.
+// Where the rows of a text start, in which record, and how the first record ends; or a refusal before the first row.
 pub enum Start {
-    At { at: usize, record: usize },
-    Refused { number: u32, record: usize },
+    At {
+        at: usize,
+        record: usize,
+        ending: Ending,
+    },
+    Refused {
+        number: u32,
+        record: usize,
+    },
 }
 
 // ---- one pass over the text
@@ -50,9 +58,11 @@ fn header_start(text: &[u8], count: usize) -> Start
                 record: 1,
             };
         }
+        let ending = split.ending;
         return Start::At {
             at: split.next,
             record: 2,
+            ending,
         };
     }
     Start::Refused {
@@ -74,14 +84,20 @@ fn start_of(text: &[u8], header_row: bool, count: usize) -> Start
     if header_row {
         return header_start(text, count);
     }
-    Start::At { at: 0, record: 1 }
+    let ending = csv::first_ending(text);
+    Start::At {
+        at: 0,
+        record: 1,
+        ending,
+    }
 }
 
-// The records from `at` on, of which row 0 stands in record `start`, into columns.
+// The records from `at` on, of which row 0 stands in record `start`, into columns. `ending` is how the first record of the text ends.
 fn gather_blocks(
     text: &[u8],
     at: usize,
     start: usize,
+    ending: Ending,
     room: usize,
     cost: &mut [u32; MOST_BLOCKS],
     loops: &mut [u16; MOST_BLOCKS],
@@ -90,12 +106,12 @@ fn gather_blocks(
     figure: &mut [i64; MOST_BLOCKS],
 ) -> ReadReply
     requires { ⌜ (at ≤ length (now text)) × (start ≤ 2) × (room ≤ mostBlocks) ⌝ }
-    ensures { λ r. ⌜ leaving r (blocks (now (cost .exit)) (now (loops .exit)) (now (first .exit)) (now (second .exit)) (now (figure .exit))) ≡ gathered storeBlock (blocks (now (cost .entry)) (now (loops .entry)) (now (first .entry)) (now (second .entry)) (now (figure .entry))) 0 (reading (judgeBlock room) start 0 (records (drop at (now (text .entry))))) ⌝ }
+    ensures { λ r. ⌜ leaving r (blocks (now (cost .exit)) (now (loops .exit)) (now (first .exit)) (now (second .exit)) (now (figure .exit))) ≡ gathered storeBlock (blocks (now (cost .entry)) (now (loops .entry)) (now (first .entry)) (now (second .entry)) (now (figure .entry))) 0 (reading (judgeBlock room) ending start 0 (records (drop at (now (text .entry))))) ⌝ }
 {
     let mut p = at;
     let mut k: usize = 0;
     while p < text.len() {
-        let step = rows::block_at(text, p, k, room);
+        let step = rows::block_at(text, p, k, room, ending);
         let verdict = step.verdict;
         match verdict {
             BlockVerdict::Taken(row) => {
@@ -114,7 +130,7 @@ fn gather_blocks(
             }
         }
     }
-    ReadReply::Rows(k)
+    ReadReply::Rows { count: k, ending }
 }
 
 // The same of loops.
@@ -122,6 +138,7 @@ fn gather_loops(
     text: &[u8],
     at: usize,
     start: usize,
+    ending: Ending,
     room: usize,
     parent: &mut [u16; MOST_LOOPS],
     header: &mut [u16; MOST_LOOPS],
@@ -129,12 +146,12 @@ fn gather_loops(
     multiplier: &mut [u64; MOST_LOOPS],
 ) -> ReadReply
     requires { ⌜ (at ≤ length (now text)) × (start ≤ 2) × (room ≤ mostLoops) ⌝ }
-    ensures { λ r. ⌜ leaving r (loops (now (parent .exit)) (now (header .exit)) (now (limit .exit)) (now (multiplier .exit))) ≡ gathered storeLoop (loops (now (parent .entry)) (now (header .entry)) (now (limit .entry)) (now (multiplier .entry))) 0 (reading (judgeLoop room) start 0 (records (drop at (now (text .entry))))) ⌝ }
+    ensures { λ r. ⌜ leaving r (loops (now (parent .exit)) (now (header .exit)) (now (limit .exit)) (now (multiplier .exit))) ≡ gathered storeLoop (loops (now (parent .entry)) (now (header .entry)) (now (limit .entry)) (now (multiplier .entry))) 0 (reading (judgeLoop room) ending start 0 (records (drop at (now (text .entry))))) ⌝ }
 {
     let mut p = at;
     let mut k: usize = 0;
     while p < text.len() {
-        let step = rows::loop_at(text, p, k, room);
+        let step = rows::loop_at(text, p, k, room, ending);
         let verdict = step.verdict;
         match verdict {
             LoopVerdict::Taken(row) => {
@@ -151,7 +168,7 @@ fn gather_loops(
             }
         }
     }
-    ReadReply::Rows(k)
+    ReadReply::Rows { count: k, ending }
 }
 
 // The whole text of a block table into columns.
@@ -169,8 +186,19 @@ fn gather_block_table(
     ensures { λ r. ⌜ leaving r (blocks (now (cost .exit)) (now (loops .exit)) (now (first .exit)) (now (second .exit)) (now (figure .exit))) ≡ gathered storeBlock (blocks (now (cost .entry)) (now (loops .entry)) (now (first .entry)) (now (second .entry)) (now (figure .entry))) 0 (tableOf blockFields (judgeBlock room) «header_row» (now (text .entry))) ⌝ }
 {
     match start_of(text, header_row, BLOCK_FIELDS) {
-        Start::At { at, record } => {
-            gather_blocks(text, at, record, room, cost, loops, first, second, figure)
+        Start::At { at, record, ending } => {
+            gather_blocks(
+                text,
+                at,
+                record,
+                ending,
+                room,
+                cost,
+                loops,
+                first,
+                second,
+                figure,
+            )
         }
         Start::Refused { number, record } => ReadReply::Refused { number, record },
     }
@@ -190,8 +218,18 @@ fn gather_loop_table(
     ensures { λ r. ⌜ leaving r (loops (now (parent .exit)) (now (header .exit)) (now (limit .exit)) (now (multiplier .exit))) ≡ gathered storeLoop (loops (now (parent .entry)) (now (header .entry)) (now (limit .entry)) (now (multiplier .entry))) 0 (tableOf loopFields (judgeLoop room) «header_row» (now (text .entry))) ⌝ }
 {
     match start_of(text, header_row, LOOP_FIELDS) {
-        Start::At { at, record } => {
-            gather_loops(text, at, record, room, parent, header, limit, multiplier)
+        Start::At { at, record, ending } => {
+            gather_loops(
+                text,
+                at,
+                record,
+                ending,
+                room,
+                parent,
+                header,
+                limit,
+                multiplier,
+            )
         }
         Start::Refused { number, record } => ReadReply::Refused { number, record },
     }
@@ -251,7 +289,7 @@ fn row_count(reply: ReadReply) -> usize
     ensures { λ r. ⌜ r ≡ rowCount reply ⌝ }
 {
     match reply {
-        ReadReply::Rows(count) => count,
+        ReadReply::Rows { count, ending: _ } => count,
         ReadReply::Refused {
             number: _,
             record: _,
@@ -281,8 +319,8 @@ fn loop_room(parent: usize, header: usize, limit: usize, multiplier: usize) -> u
     least(places, MOST_LOOPS)
 }
 
-// Reads a block table into the columns: the count of its rows, or the number of a refusal and its record (0 for 101). A refusal leaves the
-// columns as they were.
+// Reads a block table into the columns: the count of its rows and how its first record ends, or the number of a refusal and its record (0
+// for 101). A refusal leaves the columns as they were.
 pub fn read_blocks(
     text: &[u8],
     header_row: bool,

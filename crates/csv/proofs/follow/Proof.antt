@@ -1,4 +1,4 @@
-use Rattle.csv.proofs.Fields.{follow-last, follow-comma, follow-other, follow-cr-last, follow-line, follow-cr-other}
+use Rattle.csv.proofs.Fields.{follow-last, follow-comma, follow-lf, follow-other, follow-cr-last, follow-line, follow-cr-other}
 use borrow.Author.Needs.{needs}
 use Rattle.csv.proofs.follow.Statement.{statement}
 use Rattle.csv.proofs.follow.Tie as tie
@@ -15,25 +15,28 @@ returns-2 : tie.Need-returns-2
 returns-2 c = search follow-comma
 
 returns-3 : tie.Need-returns-3
-returns-3 c = search follow-other
-
-sub-if4 : tie.Need-sub-if4
-sub-if4 c = search needs
+returns-3 c = search follow-lf
 
 returns-4 : tie.Need-returns-4
-returns-4 c = search follow-cr-last
+returns-4 c = search follow-other
 
-add-if5 : tie.Need-add-if5
-add-if5 c = search needs
-
-shared-slice-read-if5 : tie.Need-shared-slice-read-if5
-shared-slice-read-if5 c = search needs
+sub-if5 : tie.Need-sub-if5
+sub-if5 c = search needs
 
 returns-5 : tie.Need-returns-5
-returns-5 c = search follow-line
+returns-5 c = search follow-cr-last
+
+add-if6 : tie.Need-add-if6
+add-if6 c = search needs
+
+shared-slice-read-if6 : tie.Need-shared-slice-read-if6
+shared-slice-read-if6 c = search needs
 
 returns-6 : tie.Need-returns-6
-returns-6 c = search follow-cr-other
+returns-6 c = search follow-line
+
+returns-7 : tie.Need-returns-7
+returns-7 c = search follow-cr-other
 
 pub follow-spec : {M : Type 1} → statement M
 follow-spec =
@@ -43,9 +46,10 @@ follow-spec =
     shared-slice-read-b
     returns-2
     returns-3
-    sub-if4
     returns-4
-    add-if5
-    shared-slice-read-if5
+    sub-if5
     returns-5
-    returns-6)
+    add-if6
+    shared-slice-read-if6
+    returns-6
+    returns-7)

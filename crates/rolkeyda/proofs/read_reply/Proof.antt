@@ -4,6 +4,7 @@ use Rattle.rolkeyda.proofs.read_reply.Statement.{statement}
 use Rattle.rolkeyda.proofs.read_reply.Tie as tie
 use Rattle.rolkeyda.proofs.read_reply.Reads as reads
 use Rattle.rolkeyda.proofs.read_reply.Lts as lts
+use Rattle.rolkeyda.proofs.ending_number.Reads as ending-number-reads
 use Rattle.rolkeyda.proofs.accepted.Reads as accepted-reads
 use Rattle.rolkeyda.proofs.refused.Reads as refused-reads
 
@@ -12,6 +13,9 @@ enum-known-answer c = search needs
 
 cast-accepted : tie.Need-cast-accepted
 cast-accepted c = search count-fits
+
+ending-number-requires : tie.Need-ending-number-requires
+ending-number-requires c κs = search needs
 
 accepted-requires : tie.Need-accepted-requires
 accepted-requires c κs = search needs
@@ -34,6 +38,7 @@ read-reply-spec =
     (tie.spec
     enum-known-answer
     cast-accepted
+    ending-number-requires
     accepted-requires
     enum-known-answer-2
     refused-requires

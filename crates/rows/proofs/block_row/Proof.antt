@@ -49,20 +49,20 @@ enum-known-figure c = search needs
 returns-6 : tie.Need-returns-6
 returns-6 c = search block-5
 
-cast-t19 : tie.Need-cast-t19
-cast-t19 c = search fits16
-
 cast-t20 : tie.Need-cast-t20
-cast-t20 c = search fits32
+cast-t20 c = search fits16
 
 cast-t21 : tie.Need-cast-t21
-cast-t21 c = search fits16
+cast-t21 c = search fits32
 
 cast-t22 : tie.Need-cast-t22
-cast-t22 c = search fits-missing
+cast-t22 c = search fits16
 
 cast-t23 : tie.Need-cast-t23
 cast-t23 c = search fits-missing
+
+cast-t24 : tie.Need-cast-t24
+cast-t24 c = search fits-missing
 
 placed-block-requires : tie.Need-placed-block-requires
 placed-block-requires c κs = search needs
@@ -88,10 +88,10 @@ block-row-spec =
     returns-5
     enum-known-figure
     returns-6
-    cast-t19
     cast-t20
     cast-t21
     cast-t22
     cast-t23
+    cast-t24
     placed-block-requires
     returns-7)

@@ -5,6 +5,7 @@ use Rattle.rows.proofs.loop_at.Tie as tie
 use Rattle.rows.proofs.loop_at.Reads as reads
 use Rattle.rows.proofs.loop_at.Lts as lts
 use Rattle.csv.proofs.scan_record.Reads as scan-record-reads
+use Rattle.csv.proofs.ends_alike.Reads as ends-alike-reads
 use Rattle.rows.proofs.loop_cells.Reads as loop-cells-reads
 use Rattle.rows.proofs.loop_row.Reads as loop-row-reads
 
@@ -16,6 +17,9 @@ returns c = search loop-count
 
 loop-cells-requires : tie.Need-loop-cells-requires
 loop-cells-requires c κs = search needs
+
+ends-alike-requires : tie.Need-ends-alike-requires
+ends-alike-requires c κs = search needs
 
 loop-row-requires : tie.Need-loop-row-requires
 loop-row-requires c κs = search loop-fits
@@ -33,6 +37,7 @@ loop-at-spec =
     scan-record-requires
     returns
     loop-cells-requires
+    ends-alike-requires
     loop-row-requires
     returns-2
     returns-3)

@@ -36,9 +36,6 @@ enum-known-multiplier c = search needs
 returns-5 : tie.Need-returns-5
 returns-5 c = search loop-4
 
-cast-t15 : tie.Need-cast-t15
-cast-t15 c = search fits16
-
 cast-t16 : tie.Need-cast-t16
 cast-t16 c = search fits16
 
@@ -46,7 +43,10 @@ cast-t17 : tie.Need-cast-t17
 cast-t17 c = search fits16
 
 cast-t18 : tie.Need-cast-t18
-cast-t18 c = search fits32
+cast-t18 c = search fits16
+
+cast-t19 : tie.Need-cast-t19
+cast-t19 c = search fits32
 
 placed-loop-requires : tie.Need-placed-loop-requires
 placed-loop-requires c κs = search needs
@@ -68,9 +68,9 @@ loop-row-spec =
     returns-4
     enum-known-multiplier
     returns-5
-    cast-t15
     cast-t16
     cast-t17
     cast-t18
+    cast-t19
     placed-loop-requires
     returns-6)

@@ -5,6 +5,7 @@ use Rattle.rows.proofs.scanned_block.Tie as tie
 use Rattle.rows.proofs.scanned_block.Reads as reads
 use Rattle.rows.proofs.scanned_block.Lts as lts
 use Rattle.csv.proofs.scan_record.Reads as scan-record-reads
+use Rattle.csv.proofs.ends_alike.Reads as ends-alike-reads
 use Rattle.rows.proofs.block_cells.Reads as block-cells-reads
 use Rattle.rows.proofs.block_row.Reads as block-row-reads
 
@@ -16,6 +17,9 @@ returns c = search block-count
 
 block-cells-requires : tie.Need-block-cells-requires
 block-cells-requires c κs = search needs
+
+ends-alike-requires : tie.Need-ends-alike-requires
+ends-alike-requires c κs = search needs
 
 block-row-requires : tie.Need-block-row-requires
 block-row-requires c κs = search block-fits
@@ -33,6 +37,7 @@ scanned-block-spec =
     scan-record-requires
     returns
     block-cells-requires
+    ends-alike-requires
     block-row-requires
     returns-2
     returns-3)

@@ -88,7 +88,7 @@ returns-2 : tie.Need-returns-2
 returns-2 c = blocks-refused _ _ _ _ (has (c .before .before .before .before .before .before .before .before .before .before .before .before .before .before .before)) (c .before .before .before .before .before .before .before .before .before .read-blocks .ensures) _ _ (c .refused2 .ensures) (search needs)
 
 returns-3 : tie.Need-returns-3
-returns-3 c = blocks-taken _ _ _ _ (has (c .before .before .before .before .before .before .before .before .before .before .before .before .before .before .before .before .before .before .before .before .before .before .before .before .before)) (c .before .before .before .before .before .before .before .before .before .before .before .before .before .before .before .before .before .before .before .read-blocks .ensures) (c .before .before .before .before .before .before .before .before .before .before .before .before .read2 .given .0 .0) (c .before .before .before .before .before .before .before .before .before .first-u32 .ensures) (c .before .before .before .before .before .before .before .first-u16 .ensures) (c .before .before .before .before .before .first-u162 .ensures) (c .before .before .before .first-u163 .ensures) (c .before .first-i64 .ensures) (c .loops-stage .ensures) (search needs)
+returns-3 c = blocks-taken _ _ _ _ (has (c .before .before .before .before .before .before .before .before .before .before .before .before .before .before .before .before .before .before .before .before .before .before .before .before .before)) (c .before .before .before .before .before .before .before .before .before .before .before .before .before .before .before .before .before .before .before .read-blocks .ensures) (c .before .before .before .before .before .before .before .before .before .before .before .before .read2 .given .0 .0) (c .before .before .before .before .before .before .before .before .before .before .before .before .read2 .given .0 .1 .0) (c .before .before .before .before .before .before .before .before .before .first-u32 .ensures) (c .before .before .before .before .before .before .before .first-u16 .ensures) (c .before .before .before .before .before .first-u162 .ensures) (c .before .before .before .first-u163 .ensures) (c .before .first-i64 .ensures) (c .loops-stage .ensures) (search needs)
 
 pub blocks-stage-spec : {M : Type 1} → statement M
 blocks-stage-spec =

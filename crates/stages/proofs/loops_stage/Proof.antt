@@ -82,7 +82,7 @@ returns-2 : tie.Need-returns-2
 returns-2 c = loops-refused _ _ _ _ _ _ _ _ (has (c .before .before .before .before .before .before .before .before .before .before .before .before .before)) (c .before .before .before .before .before .before .before .before .read-loops .ensures) _ _ (c .refused2 .ensures) (search needs)
 
 returns-3 : tie.Need-returns-3
-returns-3 c = loops-taken _ _ _ _ _ _ _ _ (has (c .before .before .before .before .before .before .before .before .before .before .before .before .before .before .before .before .before .before .before .before .before .before)) (c .before .before .before .before .before .before .before .before .before .before .before .before .before .before .before .before .before .read-loops .ensures) (c .before .before .before .before .before .before .before .before .before .before .before .read2 .given .0 .0) (c .before .before .before .before .before .before .before .before .first-u16 .ensures) (c .before .before .before .before .before .before .first-u162 .ensures) (c .before .before .before .before .first-u32 .ensures) (c .before .before .first-u64 .ensures) (table-told _ (c .before .check .result) (c .before .check .ensures) (c .table-stage .ensures)) (search needs)
+returns-3 c = loops-taken _ _ _ _ _ _ _ _ (has (c .before .before .before .before .before .before .before .before .before .before .before .before .before .before .before .before .before .before .before .before .before .before)) (c .before .before .before .before .before .before .before .before .before .before .before .before .before .before .before .before .before .read-loops .ensures) (c .before .before .before .before .before .before .before .before .before .before .before .read2 .given .0 .0) (c .before .before .before .before .before .before .before .before .before .before .before .read2 .given .0 .1 .0) (c .before .before .before .before .before .before .before .before .first-u16 .ensures) (c .before .before .before .before .before .before .first-u162 .ensures) (c .before .before .before .before .first-u32 .ensures) (c .before .before .first-u64 .ensures) (table-told _ (c .before .check .result) (c .before .check .ensures) (c .table-stage .ensures)) (search needs)
 
 pub loops-stage-spec : {M : Type 1} → statement M
 loops-stage-spec =

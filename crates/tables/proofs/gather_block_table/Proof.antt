@@ -15,7 +15,7 @@ enum-known-at : tie.Need-enum-known-at
 enum-known-at c = search needs
 
 gather-blocks-requires : tie.Need-gather-blocks-requires
-gather-blocks-requires c κs = let i = start-says (judgeBlock (c .before .before .before .before .before .before .before .before .before .before .args .room)) (c .before .before .before .before .before .before .before .before .before .before .args .text .now) _ _ (c .before .before .before .before .before .before .before .before .start-of .ensures) (c .before .before .before .before .before .before .at .given .0 .0) (c .before .before .before .before .before .before .at .given .0 .1 .0) (c .before .before .before .before .before .before .at .given .1) .0 in (i .place, i .record-number, search needs)
+gather-blocks-requires c κs = let i = start-says (judgeBlock (c .before .before .before .before .before .before .before .before .before .before .args .room)) (c .before .before .before .before .before .before .before .before .before .before .args .text .now) _ _ (c .before .before .before .before .before .before .before .before .start-of .ensures) (c .before .before .before .before .before .before .at .given .0 .0) (c .before .before .before .before .before .before .at .given .0 .1 .0) (c .before .before .before .before .before .before .at .given .0 .1 .1 .0) (c .before .before .before .before .before .before .at .given .1) .0 in (i .place, i .record-number, search needs)
 
 enum-known-number : tie.Need-enum-known-number
 enum-known-number c = search needs

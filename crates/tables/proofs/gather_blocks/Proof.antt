@@ -16,14 +16,14 @@ use Rattle.tables.proofs.gather_blocks.Lts as lts
 use Rattle.rows.proofs.block_at.Reads as block-at-reads
 
 abbrev Inv-loop : tie.InvT-loop
-Inv-loop text at start room cost₀ loops₀ first₀ second₀ figure₀ p₀ k₀ cost loops first second figure p k = (p ≤ length text) × (k ≤ p) × (gathered storeBlock (blocks cost₀ loops₀ first₀ second₀ figure₀) 0 (reading (judgeBlock room) start 0 (records (drop at text))) ≡ gathered storeBlock (blocks cost loops first second figure) k (reading (judgeBlock room) start k (records (drop p text))))
+Inv-loop text at start ending room cost₀ loops₀ first₀ second₀ figure₀ p₀ k₀ cost loops first second figure p k = (p ≤ length text) × (k ≤ p) × (gathered storeBlock (blocks cost₀ loops₀ first₀ second₀ figure₀) 0 (reading (judgeBlock room) ending start 0 (records (drop at text))) ≡ gathered storeBlock (blocks cost loops first second figure) k (reading (judgeBlock room) ending start k (records (drop p text))))
 
 abbrev μ-loop : tie.MeasureT-loop
-μ-loop text at start room cost₀ loops₀ first₀ second₀ figure₀ p₀ k₀ cost loops first second figure p k = length text - p
+μ-loop text at start ending room cost₀ loops₀ first₀ second₀ figure₀ p₀ k₀ cost loops first second figure p k = length text - p
 
 -- the record ends in the text, and the row has a place
 range : (c : tie.After-known-told Inv-loop μ-loop) → (c .before .before .before .before .before .loop .p < c .before .before .before .block-at .result .next) × (c .before .before .before .block-at .result .next ≤ length (c .before .before .before .before .before .before .before .args .text .now)) × (c .before .before .before .before .before .loop .k < c .before .before .before .before .before .before .before .args .room)
-range c = blocks-range (c .before .before .before .before .before .before .before .args .text .now) (c .before .before .before .before .before .before .before .args .room) (c .before .before .before .before .before .before .before .args .start) (c .before .before .before .before .before .loop .k) (c .before .before .before .before .before .loop .p) (c .before .before .before .block-at .ensures) (c .before .before .before .before .loop-test .taken) (c .before .verdict .given .0 .0) (c .before .verdict .given .1)
+range c = blocks-range (c .before .before .before .before .before .before .before .args .text .now) (c .before .before .before .before .before .before .before .args .room) (c .before .before .before .before .before .before .before .args .ending) (c .before .before .before .before .before .before .before .args .start) (c .before .before .before .before .before .loop .k) (c .before .before .before .before .before .loop .p) (c .before .before .before .block-at .ensures) (c .before .before .before .before .loop-test .taken) (c .before .verdict .given .0 .0) (c .before .verdict .given .1)
 
 loop-holds : tie.Need-loop-holds Inv-loop μ-loop
 loop-holds c = (omega arith, omega arith, refl)
@@ -71,7 +71,7 @@ loop-less : tie.Need-loop-less Inv-loop μ-loop
 loop-less c = omega (arith, range (c .before))
 
 loop-again : tie.Need-loop-again Inv-loop μ-loop
-loop-again c = (omega (arith, range (c .before)), omega (arith, range (c .before)), blocks-on (c .before .before .before .before .before .before .before .before .args .text .now) (c .before .before .before .before .before .before .before .before .args .room) (c .before .before .before .before .before .before .before .before .args .start) (c .before .before .before .before .before .before .loop .k) (c .before .before .before .before .before .before .loop .p) (c .before .before .before .before .block-at .ensures) (c .before .before .before .before .before .loop-test .taken) (c .before .before .verdict .given .0 .0) (c .before .before .verdict .given .1) (blocks (c .before .before .before .before .before .before .loop .cost) (c .before .before .before .before .before .before .loop .loops) (c .before .before .before .before .before .before .loop .first) (c .before .before .before .before .before .before .loop .second) (c .before .before .before .before .before .before .loop .figure)) (c .before .before .before .before .before .before .loop .inv .2))
+loop-again c = (omega (arith, range (c .before)), omega (arith, range (c .before)), blocks-on (c .before .before .before .before .before .before .before .before .args .text .now) (c .before .before .before .before .before .before .before .before .args .room) (c .before .before .before .before .before .before .before .before .args .ending) (c .before .before .before .before .before .before .before .before .args .start) (c .before .before .before .before .before .before .loop .k) (c .before .before .before .before .before .before .loop .p) (c .before .before .before .before .block-at .ensures) (c .before .before .before .before .before .loop-test .taken) (c .before .before .verdict .given .0 .0) (c .before .before .verdict .given .1) (blocks (c .before .before .before .before .before .before .loop .cost) (c .before .before .before .before .before .before .loop .loops) (c .before .before .before .before .before .before .loop .first) (c .before .before .before .before .before .before .loop .second) (c .before .before .before .before .before .before .loop .figure)) (c .before .before .before .before .before .before .loop .inv .2))
 
 enum-known-verdict-2 : tie.Need-enum-known-verdict-2 Inv-loop μ-loop
 enum-known-verdict-2 c = search needs

@@ -16,14 +16,14 @@ use Rattle.tables.proofs.gather_loops.Lts as lts
 use Rattle.rows.proofs.loop_at.Reads as loop-at-reads
 
 abbrev Inv-loop : tie.InvT-loop
-Inv-loop text at start room parent₀ header₀ limit₀ multiplier₀ p₀ k₀ parent header limit multiplier p k = (p ≤ length text) × (k ≤ p) × (gathered storeLoop (loops parent₀ header₀ limit₀ multiplier₀) 0 (reading (judgeLoop room) start 0 (records (drop at text))) ≡ gathered storeLoop (loops parent header limit multiplier) k (reading (judgeLoop room) start k (records (drop p text))))
+Inv-loop text at start ending room parent₀ header₀ limit₀ multiplier₀ p₀ k₀ parent header limit multiplier p k = (p ≤ length text) × (k ≤ p) × (gathered storeLoop (loops parent₀ header₀ limit₀ multiplier₀) 0 (reading (judgeLoop room) ending start 0 (records (drop at text))) ≡ gathered storeLoop (loops parent header limit multiplier) k (reading (judgeLoop room) ending start k (records (drop p text))))
 
 abbrev μ-loop : tie.MeasureT-loop
-μ-loop text at start room parent₀ header₀ limit₀ multiplier₀ p₀ k₀ parent header limit multiplier p k = length text - p
+μ-loop text at start ending room parent₀ header₀ limit₀ multiplier₀ p₀ k₀ parent header limit multiplier p k = length text - p
 
 -- the record ends in the text, and the row has a place
 range : (c : tie.After-known-told Inv-loop μ-loop) → (c .before .before .before .before .before .loop .p < c .before .before .before .loop-at .result .next) × (c .before .before .before .loop-at .result .next ≤ length (c .before .before .before .before .before .before .before .args .text .now)) × (c .before .before .before .before .before .loop .k < c .before .before .before .before .before .before .before .args .room)
-range c = loops-range (c .before .before .before .before .before .before .before .args .text .now) (c .before .before .before .before .before .before .before .args .room) (c .before .before .before .before .before .before .before .args .start) (c .before .before .before .before .before .loop .k) (c .before .before .before .before .before .loop .p) (c .before .before .before .loop-at .ensures) (c .before .before .before .before .loop-test .taken) (c .before .verdict .given .0 .0) (c .before .verdict .given .1)
+range c = loops-range (c .before .before .before .before .before .before .before .args .text .now) (c .before .before .before .before .before .before .before .args .room) (c .before .before .before .before .before .before .before .args .ending) (c .before .before .before .before .before .before .before .args .start) (c .before .before .before .before .before .loop .k) (c .before .before .before .before .before .loop .p) (c .before .before .before .loop-at .ensures) (c .before .before .before .before .loop-test .taken) (c .before .verdict .given .0 .0) (c .before .verdict .given .1)
 
 loop-holds : tie.Need-loop-holds Inv-loop μ-loop
 loop-holds c = (omega arith, omega arith, refl)
@@ -65,7 +65,7 @@ loop-less : tie.Need-loop-less Inv-loop μ-loop
 loop-less c = omega (arith, range c)
 
 loop-again : tie.Need-loop-again Inv-loop μ-loop
-loop-again c = (omega (arith, range c), omega (arith, range c), loops-on (c .before .before .before .before .before .before .before .args .text .now) (c .before .before .before .before .before .before .before .args .room) (c .before .before .before .before .before .before .before .args .start) (c .before .before .before .before .before .loop .k) (c .before .before .before .before .before .loop .p) (c .before .before .before .loop-at .ensures) (c .before .before .before .before .loop-test .taken) (c .before .verdict .given .0 .0) (c .before .verdict .given .1) (loops (c .before .before .before .before .before .loop .parent) (c .before .before .before .before .before .loop .header) (c .before .before .before .before .before .loop .limit) (c .before .before .before .before .before .loop .multiplier)) (c .before .before .before .before .before .loop .inv .2))
+loop-again c = (omega (arith, range c), omega (arith, range c), loops-on (c .before .before .before .before .before .before .before .args .text .now) (c .before .before .before .before .before .before .before .args .room) (c .before .before .before .before .before .before .before .args .ending) (c .before .before .before .before .before .before .before .args .start) (c .before .before .before .before .before .loop .k) (c .before .before .before .before .before .loop .p) (c .before .before .before .loop-at .ensures) (c .before .before .before .before .loop-test .taken) (c .before .verdict .given .0 .0) (c .before .verdict .given .1) (loops (c .before .before .before .before .before .loop .parent) (c .before .before .before .before .before .loop .header) (c .before .before .before .before .before .loop .limit) (c .before .before .before .before .before .loop .multiplier)) (c .before .before .before .before .before .loop .inv .2))
 
 enum-known-verdict-2 : tie.Need-enum-known-verdict-2 Inv-loop μ-loop
 enum-known-verdict-2 c = search needs
