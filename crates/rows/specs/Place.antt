@@ -7,7 +7,7 @@ use lib.ListN.{length, take, drop}
 use lib.IntN.{ℤ}
 use mir.Syntax.{w64}
 use mir.Val.{SFits}
-use Rattle.csv.specs.Grammar.{Record, comma, ends, field, width, recordOf}
+use Rattle.csv.specs.Grammar.{Record, comma, ends, field, width, recordOf, alike}
 use Rattle.csv.specs.declared.Ending.{Ending}
 use Rattle.numbers.specs.declared.Value.{Value}
 use Rattle.numbers.specs.declared.Value.the-variants.{Number}
@@ -81,26 +81,28 @@ abbrev pub CommaAt : List ℕ → ℕ → ℕ → CommaCell → Type 0
 CommaAt s at greatest (Field v e) = CommaField s at e greatest v
 CommaAt s at greatest Other = Unit {0}
 
--- the last field of a record, which ends before `next` in the way x
-pub record FigureField (s : List ℕ) (at : ℕ) (v : SignedValue) (x : Ending) (next : ℕ) : Type 0 where
+-- the last field of a record, which ends before `next`, like the first record
+pub record FigureField (s : List ℕ) (first : Ending) (at next : ℕ) (v : SignedValue) : Type 0 where
+  pub ending : Ending
   pub size : ℕ
   pub inside : next ≤ length s
-  pub field : field (drop at s) ≡ ends x size
+  pub field : field (drop at s) ≡ ends ending size
   pub value : v ≡ signed (take size (drop at s))
-  pub after : next ≡ at + size + width x
+  pub after : next ≡ at + size + width ending
+  pub so : alike first ending ≡ true
 
-abbrev pub LastAt : List ℕ → ℕ → LastCell → Type 0
-LastAt s at (Last v x next) = FigureField s at v x next
-LastAt s at NoLast = Unit {0}
+abbrev pub LastAt : List ℕ → Ending → ℕ → LastCell → Type 0
+LastAt s first at (Last v next) = FigureField s first at next v
+LastAt s first at NoLast = Unit {0}
 
 -- what is known of a block that the short way read
-pub record BlockAt (s : List ℕ) (at : ℕ) (c : BlockCells) (x : Ending) (next : ℕ) : Type 0 where
+pub record BlockAt (s : List ℕ) (first : Ending) (at : ℕ) (x : BlockCells) (next : ℕ) : Type 0 where
   pub sound : recordOf (drop at s) .sound ≡ true
   pub count : length (recordOf (drop at s) .fields) ≡ blockFields
-  pub cells : c ≡ blockCells (fieldOf (recordOf (drop at s)))
-  pub ending : x ≡ recordOf (drop at s) .ending
+  pub cells : x ≡ blockCells (fieldOf (recordOf (drop at s)))
   pub after : next ≡ at + recordOf (drop at s) .bytes
+  pub so : alike first (recordOf (drop at s) .ending) ≡ true
 
-abbrev pub ShortAt : List ℕ → ℕ → ShortBlock → Type 0
-ShortAt s at (Cells c x next) = BlockAt s at c x next
-ShortAt s at NoCells = Unit {0}
+abbrev pub ShortAt : List ℕ → Ending → ℕ → ShortBlock → Type 0
+ShortAt s first at (Cells x next) = BlockAt s first at x next
+ShortAt s first at NoCells = Unit {0}

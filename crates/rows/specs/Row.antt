@@ -25,7 +25,7 @@ blockFields = 6
 abbrev pub loopFields : ℕ
 loopFields = 5
 
--- what a record says where a row is due: the row, or the number of its lowest fault
+-- what a record says where a row is due: the row, or the number of its first fault
 pub data Verdict (A : Type 0) : Type 0 where
   taken : A → Verdict A
   fault : ℕ → Verdict A

@@ -55,16 +55,15 @@ pub enum CommaCell {
     Other,
 }
 
-// The last field of a record, that one scan finds and reads: what it says, how the record ends, and where the next one starts.
+// The last field of a record that ends as it may, that one scan finds and reads: what it says, and where the next record starts.
 pub enum LastCell {
-    Field(SignedValue, Ending, usize),
+    Field(SignedValue, usize),
     Other,
 }
 
-// The cells of a block that the short way can read, how its record ends, and where the next one starts. Other: the record needs the long
-// way.
+// The cells of a block that the short way can read, and where the next record starts. Other: the record needs the long way.
 pub enum ShortBlock {
-    Cells(BlockCells, Ending, usize),
+    Cells(BlockCells, usize),
     Other,
 }
 
@@ -345,23 +344,26 @@ fn comma_cell(text: &[u8], at: usize, greatest: u64) -> CommaCell
     CommaCell::Field(value, end)
 }
 
-// The last field of a record, where it is digits alone, or a minus sign and digits.
-fn last_cell(text: &[u8], at: usize) -> LastCell
+// The last field of a record, where it is digits alone, or a minus sign and digits, and the record ends as it may.
+fn last_cell(text: &[u8], at: usize, ending: Ending) -> LastCell
     requires { ⌜ at ≤ length (now text) ⌝ }
-    ensures { λ r. ⌜ LastAt (now (text .entry)) at r ⌝ }
+    ensures { λ r. ⌜ LastAt (now (text .entry)) ending at r ⌝ }
 {
     let cell = cells::integer_cell(text, at);
     let value = cell.value;
     let found = cell.found;
-    let Found::Ends(ending, end) = found else {
+    let Found::Ends(own, end) = found else {
         return LastCell::Other;
     };
-    LastCell::Field(value, ending, end + csv::width_of(ending))
+    if csv::ends_alike(ending, own) {
+        return LastCell::Field(value, end + csv::width_of(own));
+    }
+    LastCell::Other
 }
 
 // The cells of a block, one scan for each field.
-fn short_block(text: &[u8], at: usize) -> ShortBlock
-    ensures { λ r. ⌜ ShortAt (now (text .entry)) at r ⌝ }
+fn short_block(text: &[u8], at: usize, ending: Ending) -> ShortBlock
+    ensures { λ r. ⌜ ShortAt (now (text .entry)) ending at r ⌝ }
 {
     let CommaCell::Field(number, a) = comma_cell(text, at, 65535) else {
         return ShortBlock::Other;
@@ -378,7 +380,7 @@ fn short_block(text: &[u8], at: usize) -> ShortBlock
     let CommaCell::Field(second, e) = comma_cell(text, d + 1, 65534) else {
         return ShortBlock::Other;
     };
-    let LastCell::Field(figure, ending, next) = last_cell(text, e + 1) else {
+    let LastCell::Field(figure, next) = last_cell(text, e + 1, ending) else {
         return ShortBlock::Other;
     };
     let cells = BlockCells {
@@ -389,7 +391,7 @@ fn short_block(text: &[u8], at: usize) -> ShortBlock
         second,
         figure,
     };
-    ShortBlock::Cells(cells, ending, next)
+    ShortBlock::Cells(cells, next)
 }
 
 // The record that starts at `at`, where block k is due and `room` blocks have a place. `ending` is how the first record of
@@ -397,10 +399,9 @@ fn short_block(text: &[u8], at: usize) -> ShortBlock
 pub fn block_at(text: &[u8], at: usize, k: usize, room: usize, ending: Ending) -> BlockStep
     ensures { λ r. ⌜ r ≡ blockStep room ending k at (recordOf (drop at (now (text .entry)))) ⌝ }
 {
-    match short_block(text, at) {
-        ShortBlock::Cells(cells, own, next) => {
-            let alike = csv::ends_alike(ending, own);
-            let verdict = block_row(cells, k, room, alike);
+    match short_block(text, at, ending) {
+        ShortBlock::Cells(cells, next) => {
+            let verdict = block_row(cells, k, room, true);
             BlockStep { verdict, next }
         }
         ShortBlock::Other => scanned_block(text, at, k, room, ending),

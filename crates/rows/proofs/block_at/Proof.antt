@@ -4,7 +4,6 @@ use Rattle.rows.proofs.block_at.Statement.{statement}
 use Rattle.rows.proofs.block_at.Tie as tie
 use Rattle.rows.proofs.block_at.Reads as reads
 use Rattle.rows.proofs.block_at.Lts as lts
-use Rattle.csv.proofs.ends_alike.Reads as ends-alike-reads
 use Rattle.rows.proofs.block_row.Reads as block-row-reads
 use Rattle.rows.proofs.scanned_block.Reads as scanned-block-reads
 use Rattle.rows.proofs.short_block.Reads as short-block-reads
@@ -14,9 +13,6 @@ short-block-requires c κs = search needs
 
 enum-known-cells : tie.Need-enum-known-cells
 enum-known-cells c = search needs
-
-ends-alike-requires : tie.Need-ends-alike-requires
-ends-alike-requires c κs = search needs
 
 block-row-requires : tie.Need-block-row-requires
 block-row-requires c κs = search short-fits
@@ -39,7 +35,6 @@ block-at-spec =
     (tie.spec
     short-block-requires
     enum-known-cells
-    ends-alike-requires
     block-row-requires
     enum-told
     scanned-block-requires

@@ -97,7 +97,7 @@ returns-6 : tie.Need-returns-6
 returns-6 c = tt
 
 returns-7 : tie.Need-returns-7
-returns-7 c = short-all (c .before .before .before .before .before .before .before .before .before .before .before .before .before .before .before .before .before .before .before .before .before .before .before .before .before .args .text .now) (c .before .before .before .before .before .before .before .before .before .before .before .before .before .before .before .before .before .before .before .before .before .before .before .before .before .args .at) (c .before .before .before .before .before .before .before .before .before .before .before .before .before .before .before .before .before .before .before .before .before .before .before .comma-cell .ensures) (c .before .before .before .before .before .before .before .before .before .before .before .before .before .before .before .before .before .before .before .before .before .number .given .0 .0) (c .before .before .before .before .before .before .before .before .before .before .before .before .before .before .before .before .before .before .before .before .before .number .given .0 .1 .0) (c .before .before .before .before .before .before .before .before .before .before .before .before .before .before .before .before .before .before .before .before .before .number .given .1) (c .before .before .before .before .before .before .before .before .before .before .before .before .before .before .before .before .before .before .before .comma-cell2 .ensures) (c .before .before .before .before .before .before .before .before .before .before .before .before .before .before .before .before .before .cost .given .0 .0) (c .before .before .before .before .before .before .before .before .before .before .before .before .before .before .before .before .before .cost .given .0 .1 .0) (c .before .before .before .before .before .before .before .before .before .before .before .before .before .before .before .before .before .cost .given .1) (c .before .before .before .before .before .before .before .before .before .before .before .before .before .before .before .comma-cell3 .ensures) (c .before .before .before .before .before .before .before .before .before .before .before .before .before .innermost .given .0 .0) (c .before .before .before .before .before .before .before .before .before .before .before .before .before .innermost .given .0 .1 .0) (c .before .before .before .before .before .before .before .before .before .before .before .before .before .innermost .given .1) (c .before .before .before .before .before .before .before .before .before .before .before .comma-cell4 .ensures) (c .before .before .before .before .before .before .before .before .before .first .given .0 .0) (c .before .before .before .before .before .before .before .before .before .first .given .0 .1 .0) (c .before .before .before .before .before .before .before .before .before .first .given .1) (c .before .before .before .before .before .before .before .comma-cell5 .ensures) (c .before .before .before .before .before .second .given .0 .0) (c .before .before .before .before .before .second .given .0 .1 .0) (c .before .before .before .before .before .second .given .1) (c .before .before .before .last-cell .ensures) (c .before .figure .given .0 .0) (c .before .figure .given .0 .1 .0) (c .before .figure .given .0 .1 .1 .0) (c .before .figure .given .1)
+returns-7 c = short-all (c .before .before .before .before .before .before .before .before .before .before .before .before .before .before .before .before .before .before .before .before .before .before .before .before .before .args .text .now) (c .before .before .before .before .before .before .before .before .before .before .before .before .before .before .before .before .before .before .before .before .before .before .before .before .before .args .ending) (c .before .before .before .before .before .before .before .before .before .before .before .before .before .before .before .before .before .before .before .before .before .before .before .before .before .args .at) (c .before .before .before .before .before .before .before .before .before .before .before .before .before .before .before .before .before .before .before .before .before .before .before .comma-cell .ensures) (c .before .before .before .before .before .before .before .before .before .before .before .before .before .before .before .before .before .before .before .before .before .number .given .0 .0) (c .before .before .before .before .before .before .before .before .before .before .before .before .before .before .before .before .before .before .before .before .before .number .given .0 .1 .0) (c .before .before .before .before .before .before .before .before .before .before .before .before .before .before .before .before .before .before .before .before .before .number .given .1) (c .before .before .before .before .before .before .before .before .before .before .before .before .before .before .before .before .before .before .before .comma-cell2 .ensures) (c .before .before .before .before .before .before .before .before .before .before .before .before .before .before .before .before .before .cost .given .0 .0) (c .before .before .before .before .before .before .before .before .before .before .before .before .before .before .before .before .before .cost .given .0 .1 .0) (c .before .before .before .before .before .before .before .before .before .before .before .before .before .before .before .before .before .cost .given .1) (c .before .before .before .before .before .before .before .before .before .before .before .before .before .before .before .comma-cell3 .ensures) (c .before .before .before .before .before .before .before .before .before .before .before .before .before .innermost .given .0 .0) (c .before .before .before .before .before .before .before .before .before .before .before .before .before .innermost .given .0 .1 .0) (c .before .before .before .before .before .before .before .before .before .before .before .before .before .innermost .given .1) (c .before .before .before .before .before .before .before .before .before .before .before .comma-cell4 .ensures) (c .before .before .before .before .before .before .before .before .before .first .given .0 .0) (c .before .before .before .before .before .before .before .before .before .first .given .0 .1 .0) (c .before .before .before .before .before .before .before .before .before .first .given .1) (c .before .before .before .before .before .before .before .comma-cell5 .ensures) (c .before .before .before .before .before .second .given .0 .0) (c .before .before .before .before .before .second .given .0 .1 .0) (c .before .before .before .before .before .second .given .1) (c .before .before .before .last-cell .ensures) (c .before .figure .given .0 .0) (c .before .figure .given .0 .1 .0) (c .before .figure .given .1)
 
 pub short-block-spec : {M : Type 1} → statement M
 short-block-spec =
