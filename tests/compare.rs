@@ -78,14 +78,14 @@ impl Bench {
             columns[3].lend(&second, random),
             columns[4].lend(&figure, random),
         );
-        let rows = wanted.clone().unwrap_or_default();
+        let rows = wanted.clone().map(|(rows, _)| rows).unwrap_or_default();
         unchanged(text.holds(&case.text), "the text")?;
         unchanged(columns[0].holds(&filled(&cost, &rows.cost)), "column cost")?;
         unchanged(columns[1].holds(&filled(&inner, &rows.inner)), "column loop")?;
         unchanged(columns[2].holds(&filled(&first, &rows.first)), "column first")?;
         unchanged(columns[3].holds(&filled(&second, &rows.second)), "column second")?;
         unchanged(columns[4].holds(&filled(&figure, &rows.figure)), "column figure")?;
-        agree(reply(wanted.map(|rows| (rows.cost.len() as i64, 0))), given)
+        agree(reply(wanted.map(|(rows, first_end)| (rows.cost.len() as i64, first_end as u64))), given)
     }
 
     fn read_loops(&mut self, case: &Case) -> Result<Reply, String> {
@@ -104,13 +104,13 @@ impl Bench {
             columns[7].lend(&limit, random),
             columns[8].lend(&multiplier, random),
         );
-        let rows = wanted.clone().unwrap_or_default();
+        let rows = wanted.clone().map(|(rows, _)| rows).unwrap_or_default();
         unchanged(text.holds(&case.text), "the text")?;
         unchanged(columns[5].holds(&filled(&parent, &rows.parent)), "column parent")?;
         unchanged(columns[6].holds(&filled(&header, &rows.header)), "column header")?;
         unchanged(columns[7].holds(&filled(&limit, &rows.limit)), "column limit")?;
         unchanged(columns[8].holds(&filled(&multiplier, &rows.multiplier)), "column multiplier")?;
-        agree(reply(wanted.map(|rows| (rows.parent.len() as i64, 0))), given)
+        agree(reply(wanted.map(|(rows, first_end)| (rows.parent.len() as i64, first_end as u64))), given)
     }
 
     fn lend(&mut self, tables: &Tables) -> Columns<'static> {

@@ -18,7 +18,9 @@ use std::sync::atomic::{AtomicU64, Ordering};
 use texts::{Case, Table};
 
 const FUNCTIONS: [&str; 4] = ["read_blocks", "read_loops", "check", "walk"];
-const NUMBERS: [u32; 22] = [0, 101, 102, 103, 104, 105, 106, 201, 202, 203, 204, 205, 206, 207, 208, 301, 302, 303, 311, 312, 313, 314];
+const NUMBERS: [u32; 23] = [0, 101, 102, 103, 104, 105, 106, 108, 201, 202, 203, 204, 205, 206, 207, 208, 301, 302, 303, 311, 312, 313, 314];
+/// The readers' replies that depend on line ends: number and more. Each is wanted from both readers, with and without a header row.
+const LINE_ENDS: [(&str, u32, u64); 4] = [("CR LF", 0, 0), ("LF", 0, 1), ("text", 0, 2), ("108", 108, 0)];
 const PARTS: u64 = 64;
 const ROUNDS: usize = 800;
 const OFTEN: u64 = 100;
@@ -29,6 +31,8 @@ pub struct Tally {
     passed: u64,
     failed: u64,
     replies: BTreeMap<(u32, usize), u64>,
+    /// The readers' replies by number, more, reader and header row.
+    reads: BTreeMap<(u32, u64, usize, bool), u64>,
     failures: Vec<String>,
 }
 
@@ -50,6 +54,11 @@ impl Tally {
         }
     }
 
+    /// A test that the cases reach something often enough.
+    fn often(&mut self, what: &str, count: u64) {
+        self.test(what, if count >= OFTEN { Ok(()) } else { Err(format!("came up {count} times only")) });
+    }
+
     fn fail(&mut self, what: String) {
         self.failed += 1;
         self.failures.push(what);
@@ -65,6 +74,9 @@ impl Tally {
         self.failed += other.failed;
         for (key, count) in other.replies {
             *self.replies.entry(key).or_default() += count;
+        }
+        for (key, count) in other.reads {
+            *self.reads.entry(key).or_default() += count;
         }
         self.failures.extend(other.failures);
     }
@@ -113,7 +125,11 @@ fn read(bench: &mut Bench, tally: &mut Tally, case: &Case) {
         shown = show_case(&best);
         outcome = bench.read(&best).and(outcome);
     }
-    tally.count(usize::from(case.table == Table::Loops), outcome, || shown);
+    let function = usize::from(case.table == Table::Loops);
+    if let Ok(reply) = &outcome {
+        *tally.reads.entry((reply.number, reply.more, function, case.header_row)).or_default() += 1;
+    }
+    tally.count(function, outcome, || shown);
 }
 
 /// The cases of one seed.
@@ -184,8 +200,16 @@ fn main() {
         let counts: Vec<u64> = (0..4).map(|function| tally.replies.get(&(number, function)).copied().unwrap_or(0)).collect();
         println!("{number:>5}  {:>12} {:>12} {:>12} {:>12}", counts[0], counts[1], counts[2], counts[3]);
         let sum: u64 = counts.iter().sum();
-        let outcome = if sum >= OFTEN { Ok(()) } else { Err(format!("came up {sum} times only")) };
-        tally.test(&format!("reply {number}"), outcome);
+        tally.often(&format!("reply {number}"), sum);
+    }
+    println!("the readers by line end, each without and with a header row");
+    for (name, number, more) in LINE_ENDS {
+        let kinds = [(0, false), (0, true), (1, false), (1, true)];
+        let counts = kinds.map(|(function, header_row)| tally.reads.get(&(number, more, function, header_row)).copied().unwrap_or(0));
+        println!("{name:>5}  {:>12} {:>12} {:>12} {:>12}", counts[0], counts[1], counts[2], counts[3]);
+        for ((function, header_row), count) in kinds.into_iter().zip(counts) {
+            tally.often(&format!("{}, header row {header_row}, {name}", FUNCTIONS[function]), count);
+        }
     }
     tally.failures.sort_by_key(|what| what.len());
     for what in tally.failures.iter().take(10) {

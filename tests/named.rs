@@ -1,9 +1,10 @@
-//! Named tests: the marked cases of document 01, each sentence of its "Plausible and wrong", and the edges of its rules.
+//! Named tests: the marked cases of document 01, each sentence of its "Plausible and wrong", the edges of its rules, and the line ends of
+//! request 1 of document 02.
 
 use crate::compare::Bench;
 use crate::graphs::Tables;
 use crate::reference::{self, MISSING};
-use crate::texts::{Case, Table};
+use crate::texts::{mixtures, Case, Table};
 use crate::Tally;
 
 /// The wanted reply: value and more, or number and place.
@@ -14,6 +15,11 @@ enum Want {
 }
 
 use Want::{Accepted, Refused};
+
+/// What a reader says of an accepted text beside the row count: how record 1 ends.
+const CR_LF: u64 = 0;
+const LF: u64 = 1;
+const TEXT: u64 = 2;
 
 struct Tester<'a> {
     bench: Bench,
@@ -52,6 +58,7 @@ pub fn all(tally: &mut Tally) {
     marked(&mut tester);
     plausible_and_wrong(&mut tester);
     texts(&mut tester);
+    line_ends(&mut tester);
     sizes(&mut tester);
     tables(&mut tester);
     walks(&mut tester);
@@ -67,8 +74,8 @@ const A_LOOPS: &str = "0,0,0,1,0|1,0,1,4,8|";
 
 fn tables_of(blocks: &str, loops: &str) -> Tables {
     Tables {
-        blocks: reference::read_blocks(&lines(blocks), false, 1024).expect("a good block table"),
-        loops: reference::read_loops(&lines(loops), false, 64).expect("a good loop table"),
+        blocks: reference::read_blocks(&lines(blocks), false, 1024).expect("a good block table").0,
+        loops: reference::read_loops(&lines(loops), false, 64).expect("a good loop table").0,
     }
 }
 
@@ -80,8 +87,8 @@ fn a(change: impl FnOnce(&mut Tables)) -> Tables {
 }
 
 fn marked(t: &mut Tester) {
-    t.read("marked: blocks of A", Table::Blocks, false, &lines(A_BLOCKS), 4, Accepted(4, 0));
-    t.read("marked: loops of A", Table::Loops, false, &lines(A_LOOPS), 2, Accepted(2, 0));
+    t.read("marked: blocks of A", Table::Blocks, false, &lines(A_BLOCKS), 4, Accepted(4, CR_LF));
+    t.read("marked: loops of A", Table::Loops, false, &lines(A_LOOPS), 2, Accepted(2, CR_LF));
     let plain = a(|_| ());
     let m = MISSING;
     let by_hand = plain.blocks.cost == [2, 3, 5, 1]
@@ -125,10 +132,10 @@ fn plausible_and_wrong(t: &mut Tester) {
     let odd = "number,cost,loop,first,second,figure";
     t.read("wrong: record 1 dropped because it looks odd", Table::Blocks, false, &blocks(odd), 9, Refused(104, 1));
     t.read("wrong: record 1 dropped because it looks odd (loops)", Table::Loops, false, b"a,b,c,d,e", 9, Refused(104, 1));
-    t.read("wrong: record 1 dropped always", Table::Blocks, false, &lines(A_BLOCKS), 9, Accepted(4, 0));
-    t.read("wrong: record 1 dropped always (loops)", Table::Loops, false, &lines(A_LOOPS), 9, Accepted(2, 0));
+    t.read("wrong: record 1 dropped always", Table::Blocks, false, &lines(A_BLOCKS), 9, Accepted(4, CR_LF));
+    t.read("wrong: record 1 dropped always (loops)", Table::Loops, false, &lines(A_LOOPS), 9, Accepted(2, CR_LF));
     t.read("wrong: record 1 kept because it looks like a row", Table::Blocks, true, &lines(A_BLOCKS), 9, Refused(105, 2));
-    t.read("wrong: record 1 kept because it looks like a row (row 0 twice)", Table::Blocks, true, &blocks("0,2,0,1,,28"), 9, Accepted(4, 0));
+    t.read("wrong: record 1 kept because it looks like a row (row 0 twice)", Table::Blocks, true, &blocks("0,2,0,1,,28"), 9, Accepted(4, CR_LF));
     let two = nested();
     t.check("wrong: visits over the whole run (the tables)", &two, Accepted(14, 0));
     t.walk("wrong: visits over the whole run", &two, &[0, 1, 2, 2, 3, 1, 2, 2, 3, 4], Accepted(10, 9));
@@ -136,7 +143,7 @@ fn plausible_and_wrong(t: &mut Tester) {
     t.check("wrong: rounds of the body in place of header visits", &a(|_| ()), Accepted(30, 0));
     t.walk("wrong: rounds of the body (four visits)", &a(|_| ()), &[0, 1, 2, 1, 2, 1, 2, 1, 3], Accepted(30, 8));
     t.walk("wrong: rounds of the body (five visits)", &a(|_| ()), &[0, 1, 2, 1, 2, 1, 2, 1, 2, 1, 3], Refused(313, 9));
-    t.read("wrong: a negative figure refused by the reader", Table::Blocks, false, b"0,0,0,,,-4", 1, Accepted(1, 0));
+    t.read("wrong: a negative figure refused by the reader", Table::Blocks, false, b"0,0,0,,,-4", 1, Accepted(1, TEXT));
     t.check("wrong: a negative figure refused by the check", &a(|x| x.blocks.figure[2] = -4), Accepted(30, 0));
     let outer: &[u16] = &[0, 1, 2, 3, 1, 2, 3, 1, 2, 3];
     t.walk("wrong: outer count cleared by leaving the inner loop (kept)", &two, &[outer, &[4]].concat(), Accepted(11, 10));
@@ -146,18 +153,16 @@ fn plausible_and_wrong(t: &mut Tester) {
 fn texts(t: &mut Tester) {
     let row = |text: &str| lines(text);
     let cases: &[(&str, &str, Want)] = &[
-        ("no text", "", Accepted(0, 0)),
-        ("no last line end", "0,1,2,3,4,5", Accepted(1, 0)),
+        ("no text", "", Accepted(0, TEXT)),
+        ("no last line end", "0,1,2,3,4,5", Accepted(1, TEXT)),
         ("a line end alone", "|", Refused(103, 1)),
         ("one more line end", "0,1,2,3,4,5||", Refused(103, 2)),
         ("102 before 103", "0,2,0,1,,28,\"", Refused(102, 1)),
         ("102 at the end of a bad record", "x,y,\"", Refused(102, 1)),
         ("104 in a record before 102", "0,1,2,3,4,5|1,x,,,,|2,\"", Refused(104, 2)),
-        ("a lone LF", "0,1,2,3,4,5\n1,1,2,3,4,5", Refused(102, 1)),
         ("a lone CR", "0,1,2,3,4,5\r1,1,2,3,4,5", Refused(102, 1)),
         ("a lone CR at the end", "0,1,2,3,4,5\r", Refused(102, 1)),
         ("a lone CR after the last line end", "0,1,2,3,4,5|\r", Refused(102, 2)),
-        ("a lone LF at the end", "0,1,2,3,4,5\n", Refused(102, 1)),
         ("CR CR LF", "0,1,2,3,4,5\r\r\n", Refused(102, 1)),
         ("text after a closing quote", "\"0\"x,1,2,3,4,5", Refused(102, 1)),
         ("a space after a closing quote", "\"0\" ,1,2,3,4,5", Refused(102, 1)),
@@ -166,10 +171,10 @@ fn texts(t: &mut Tester) {
         ("a quote inside a plain field", "0,1\"1\",2,3,4,5", Refused(102, 1)),
         ("a quote never closed", "0,1,2,3,4,\"5", Refused(102, 1)),
         ("a quote never closed after a doubled one", "0,1,2,3,4,\"5\"\"", Refused(102, 1)),
-        ("quoted numbers", "\"0\",\"1\",\"2\",\"3\",\"4\",\"-5\"", Accepted(1, 0)),
-        ("quoted numbers and a line end", "\"0\",\"1\",\"2\",\"3\",\"4\",\"-5\"|", Accepted(1, 0)),
-        ("missing successors", "0,1,2,,,5", Accepted(1, 0)),
-        ("missing successors in quotes", "0,1,2,\"\",\"\",5", Accepted(1, 0)),
+        ("quoted numbers", "\"0\",\"1\",\"2\",\"3\",\"4\",\"-5\"", Accepted(1, TEXT)),
+        ("quoted numbers and a line end", "\"0\",\"1\",\"2\",\"3\",\"4\",\"-5\"|", Accepted(1, CR_LF)),
+        ("missing successors", "0,1,2,,,5", Accepted(1, TEXT)),
+        ("missing successors in quotes", "0,1,2,\"\",\"\",5", Accepted(1, TEXT)),
         ("an empty number", ",1,2,3,4,5", Refused(104, 1)),
         ("an empty cost", "0,,2,3,4,5", Refused(104, 1)),
         ("an empty quoted cost", "0,\"\",2,3,4,5", Refused(104, 1)),
@@ -194,16 +199,16 @@ fn texts(t: &mut Tester) {
         ("an exponent", "0,1e3,2,3,4,5", Refused(104, 1)),
         ("the byte before 0", "0,/,2,3,4,5", Refused(104, 1)),
         ("the byte after 9", "0,:,2,3,4,5", Refused(104, 1)),
-        ("the largest cost", "0,4294967295,2,3,4,5", Accepted(1, 0)),
+        ("the largest cost", "0,4294967295,2,3,4,5", Accepted(1, TEXT)),
         ("a cost too wide", "0,4294967296,2,3,4,5", Refused(104, 1)),
-        ("the largest loop", "0,1,65535,3,4,5", Accepted(1, 0)),
+        ("the largest loop", "0,1,65535,3,4,5", Accepted(1, TEXT)),
         ("a loop too wide", "0,1,65536,3,4,5", Refused(104, 1)),
-        ("the largest successor", "0,1,2,65534,65534,5", Accepted(1, 0)),
+        ("the largest successor", "0,1,2,65534,65534,5", Accepted(1, TEXT)),
         ("65,535 as a successor", "0,1,2,65535,4,5", Refused(104, 1)),
         ("65,535 as the second successor", "0,1,2,3,65535,5", Refused(104, 1)),
-        ("the largest figure", "0,1,2,3,4,9223372036854775807", Accepted(1, 0)),
+        ("the largest figure", "0,1,2,3,4,9223372036854775807", Accepted(1, TEXT)),
         ("a figure too large", "0,1,2,3,4,9223372036854775808", Refused(104, 1)),
-        ("the least figure", "0,1,2,3,4,-9223372036854775808", Accepted(1, 0)),
+        ("the least figure", "0,1,2,3,4,-9223372036854775808", Accepted(1, TEXT)),
         ("a figure too small", "0,1,2,3,4,-9223372036854775809", Refused(104, 1)),
         ("a figure that wraps to 5", "0,1,2,3,4,18446744073709551621", Refused(104, 1)),
         ("five fields", "0,1,2,3,4", Refused(103, 1)),
@@ -223,16 +228,16 @@ fn texts(t: &mut Tester) {
     }
     let cases: &[(&str, &str, Want)] = &[
         ("no record", "", Refused(103, 1)),
-        ("a header alone", "a,b,c,d,e", Accepted(0, 0)),
-        ("a header alone with its line end", "a,b,c,d,e|", Accepted(0, 0)),
+        ("a header alone", "a,b,c,d,e", Accepted(0, TEXT)),
+        ("a header alone with its line end", "a,b,c,d,e|", Accepted(0, CR_LF)),
         ("a header of four fields", "a,b,c,d|0,0,0,1,0", Refused(103, 1)),
         ("a broken header", "a,b\",c,d,e|", Refused(102, 1)),
         ("an empty line as a header", "|0,0,0,1,0", Refused(103, 1)),
-        ("a header of empty fields", ",,,,|0,0,0,1,0", Accepted(1, 0)),
+        ("a header of empty fields", ",,,,|0,0,0,1,0", Accepted(1, CR_LF)),
         ("a header with a line end in quotes", "\"a|b\",,,,|0,0,0,1,0|2", Refused(103, 3)),
-        ("a header with a mark before it", "\u{feff}number,,,,|0,0,0,1,0", Accepted(1, 0)),
+        ("a header with a mark before it", "\u{feff}number,,,,|0,0,0,1,0", Accepted(1, CR_LF)),
         ("row 1 below a header", "a,b,c,d,e|1,0,0,1,0", Refused(105, 2)),
-        ("the largest multiplier", ",,,,|0,65535,65535,4294967295,18446744073709551615", Accepted(1, 0)),
+        ("the largest multiplier", ",,,,|0,65535,65535,4294967295,18446744073709551615", Accepted(1, CR_LF)),
         ("a multiplier too wide", ",,,,|0,0,0,1,18446744073709551616", Refused(104, 2)),
         ("a parent too wide", ",,,,|0,65536,0,1,0", Refused(104, 2)),
         ("a header block too wide", ",,,,|0,0,65536,1,0", Refused(104, 2)),
@@ -246,6 +251,180 @@ fn texts(t: &mut Tester) {
     t.read("blocks: a header on an empty text", Table::Blocks, true, b"", 5, Refused(103, 1));
 }
 
+/// Request 1 of document 02. In these texts '|' is CR LF, H a header, Q one with line ends of all kinds in quotes, # a row after its number,
+/// and @ the same with its last field quoted.
+fn line_ends(t: &mut Tester) {
+    let lf = |text: &str| text.replace('|', "\n").into_bytes();
+    t.read("line ends: blocks of A with LF", Table::Blocks, false, &lf(A_BLOCKS), 4, Accepted(4, LF));
+    t.read("line ends: loops of A with LF", Table::Loops, false, &lf(A_LOOPS), 2, Accepted(2, LF));
+    let cases: &[(&str, usize, Want)] = &[
+        // the first record's line end beside the row count
+        ("", 5, Accepted(0, TEXT)),
+        ("0#", 5, Accepted(1, TEXT)),
+        ("0#|", 5, Accepted(1, CR_LF)),
+        ("0#\n", 5, Accepted(1, LF)),
+        ("0#|1#|2#|", 3, Accepted(3, CR_LF)),
+        ("0#\n1#\n2#\n", 3, Accepted(3, LF)),
+        // the last record may end with the text
+        ("0#|1#", 5, Accepted(2, CR_LF)),
+        ("0#\n1#", 5, Accepted(2, LF)),
+        ("0#|1#|2#", 3, Accepted(3, CR_LF)),
+        ("0#\n1#\n2#", 3, Accepted(3, LF)),
+        // all the others must end as record 1 does
+        ("0#|1#\n", 5, Refused(108, 2)),
+        ("0#\n1#|", 5, Refused(108, 2)),
+        ("0#|1#\n2#\n", 5, Refused(108, 2)),
+        ("0#\n1#|2#|", 5, Refused(108, 2)),
+        ("0#|1#\n2#", 5, Refused(108, 2)),
+        ("0#\n1#|2#", 5, Refused(108, 2)),
+        ("0#|1#\n2#|", 5, Refused(108, 2)),
+        ("0#\n1#|2#\n", 5, Refused(108, 2)),
+        ("0#|1#|2#\n", 5, Refused(108, 3)),
+        ("0#\n1#\n2#|", 5, Refused(108, 3)),
+        ("0#|1#|2#\n3#\n", 5, Refused(108, 3)),
+        // a lone CR is still no line end
+        ("0#\r1#\n", 5, Refused(102, 1)),
+        ("0#\n1#\r2#\n", 5, Refused(102, 2)),
+        ("0#\n1#\r", 5, Refused(102, 2)),
+        ("0#\n\r", 5, Refused(102, 2)),
+        ("0#\r\r\n", 5, Refused(102, 1)),
+        ("0#\n1#\r\r\n", 5, Refused(102, 2)),
+        ("0#\n\r1#\n\r", 5, Refused(102, 2)),
+        // LF ends a record wherever it stands outside quotes, and an empty line is a record
+        ("\n", 5, Refused(103, 1)),
+        ("0\n#", 5, Refused(103, 1)),
+        ("0#\n\n", 5, Refused(103, 2)),
+        ("0#\n1#\n\n", 5, Refused(103, 3)),
+        // after a closing quote
+        ("0@\n", 5, Accepted(1, LF)),
+        ("0@\n1@\n", 5, Accepted(2, LF)),
+        ("0@\n1@", 5, Accepted(2, LF)),
+        ("0@|1@|", 5, Accepted(2, CR_LF)),
+        ("0@|1@\n", 5, Refused(108, 2)),
+        ("0@\n1@|", 5, Refused(108, 2)),
+        ("0@\n1@\r", 5, Refused(102, 2)),
+        ("0@\n1@\r\r\n", 5, Refused(102, 2)),
+        ("0@x\n", 5, Refused(102, 1)),
+        ("0@ \n", 5, Refused(102, 1)),
+        // in quotes
+        ("\"0\n\"#\n", 5, Refused(104, 1)),
+        ("\"0|\"#\n", 5, Refused(104, 1)),
+        ("\"0\r\"#\n", 5, Refused(104, 1)),
+        ("0#|\"1\n\"#|", 5, Refused(104, 2)),
+        ("0#\n\"1|\"#\n", 5, Refused(104, 2)),
+        ("0#\n1#,\"\n2#\n", 5, Refused(102, 2)),
+        // 108 is the last number of a record
+        ("0#|1#\"\n", 5, Refused(102, 2)),
+        ("0@|1@x\n", 5, Refused(102, 2)),
+        ("0#|1#,\n", 5, Refused(103, 2)),
+        ("0#\n1|", 5, Refused(103, 2)),
+        ("0#|\n", 5, Refused(103, 2)),
+        ("0#\n|", 5, Refused(103, 2)),
+        ("0#|x#\n", 5, Refused(104, 2)),
+        ("0#\nx#|", 5, Refused(104, 2)),
+        ("0#|2#\n", 5, Refused(105, 2)),
+        ("0#\n2#|", 5, Refused(105, 2)),
+        ("0#|1#\n", 1, Refused(106, 2)),
+        ("0#\n1#|", 1, Refused(106, 2)),
+        ("0#\n1#\n2#|", 2, Refused(106, 3)),
+        // the lowest record decides
+        ("0#|1#\n\"", 5, Refused(108, 2)),
+        ("0#|1#\nx", 5, Refused(108, 2)),
+        ("0#|1#\nx#", 5, Refused(108, 2)),
+        ("0#|1#\n1#", 5, Refused(108, 2)),
+        ("0#\n1#|2#\n", 2, Refused(108, 2)),
+        ("0#|1#\"|2#\n", 5, Refused(102, 2)),
+        ("0#|1|2#\n", 5, Refused(103, 2)),
+        ("0#|x#|2#\n", 5, Refused(104, 2)),
+        ("0#|0#|2#\n", 5, Refused(105, 2)),
+        ("0#|1#|2#\n", 1, Refused(106, 2)),
+    ];
+    let cases_with_header: &[(&str, usize, Want)] = &[
+        ("", 5, Refused(103, 1)),
+        ("H", 0, Accepted(0, TEXT)),
+        ("H|", 0, Accepted(0, CR_LF)),
+        ("H\n", 0, Accepted(0, LF)),
+        ("H|0#", 1, Accepted(1, CR_LF)),
+        ("H\n0#", 1, Accepted(1, LF)),
+        ("H|0#|1#|", 2, Accepted(2, CR_LF)),
+        ("H\n0#\n1#\n", 2, Accepted(2, LF)),
+        // its line end is the first record's
+        ("H|0#\n", 5, Refused(108, 2)),
+        ("H\n0#|", 5, Refused(108, 2)),
+        ("H|0#\n1#\n", 5, Refused(108, 2)),
+        ("H\n0#|1#|", 5, Refused(108, 2)),
+        ("H|0#|1#\n", 5, Refused(108, 3)),
+        ("H\n0#\n1#|", 5, Refused(108, 3)),
+        ("H|0#\n", 0, Refused(106, 2)),
+        ("H\n0#|", 0, Refused(106, 2)),
+        ("H|\n", 5, Refused(103, 2)),
+        ("H\n|", 5, Refused(103, 2)),
+        ("H\nx#|", 5, Refused(104, 2)),
+        ("H\n1#|", 5, Refused(105, 2)),
+        ("H\r0#\n", 5, Refused(102, 1)),
+        ("H\n0#\r", 5, Refused(102, 2)),
+        ("H\n\r0#\n", 5, Refused(102, 2)),
+        ("H\r\r\n0#\n", 5, Refused(102, 1)),
+        ("\nH\n0#\n", 5, Refused(103, 1)),
+        // line ends in quotes neither end a record nor count as the first
+        ("Q", 5, Accepted(0, TEXT)),
+        ("Q|", 5, Accepted(0, CR_LF)),
+        ("Q\n", 5, Accepted(0, LF)),
+        ("Q|0#|1#|", 5, Accepted(2, CR_LF)),
+        ("Q\n0#\n1#\n", 5, Accepted(2, LF)),
+        ("Q|0#\n", 5, Refused(108, 2)),
+        ("Q\n0#|", 5, Refused(108, 2)),
+    ];
+    for (table, header, rest) in [(Table::Blocks, "a,b,c,d,e,", "1,2,3,4,5"), (Table::Loops, "a,b,c,d,", "0,0,1,5")] {
+        let whole = |text: &str| {
+            let quoted = rest.replace('5', "\"5\"");
+            let text = text.replace('H', &format!("{header}f")).replace('Q', &format!("{header}\"|\n\r\"\"\n\""));
+            lines(&text.replace('#', &format!(",{rest}")).replace('@', &format!(",{quoted}")))
+        };
+        for (header_row, cases) in [(false, cases), (true, cases_with_header)] {
+            for (text, places, wanted) in cases {
+                let name = format!("line ends: {table:?}, header row {header_row}, {places} places, {text:?}");
+                t.read(&name, table, header_row, &whole(text), *places, *wanted);
+            }
+        }
+        for (length, wanted) in [(64, Accepted(0, LF)), (65, Refused(102, 1))] {
+            let text = format!("{header}{}\n", "h".repeat(length));
+            t.read(&format!("line ends: {table:?}, a field of {length} bytes and LF"), table, true, text.as_bytes(), 5, wanted);
+        }
+
+        let most = if table == Table::Blocks { 1024 } else { 64 };
+        let last = most as u32;
+        for (usual, other, first_end) in [("|", "\n", CR_LF), ("\n", "|", LF)] {
+            let rows = |count: usize, end: &str| {
+                let rows: String = (0..count - 1).map(|row| format!("{row}#{usual}")).collect();
+                whole(&format!("{rows}{}#{end}", count - 1))
+            };
+            let mut full = |name: &str, count: usize, end: &str, places: usize, wanted: Want| {
+                t.read(&format!("line ends: {table:?}, {usual:?}, {name}"), table, false, &rows(count, end), places, wanted);
+            };
+            full("all rows", most, usual, most, Accepted(most as i64, first_end));
+            full("all rows, the last one open", most, "", most, Accepted(most as i64, first_end));
+            full("the last row with the other line end", most, other, most, Refused(108, last));
+            full("the last row with the other line end and without a place", most, other, most - 1, Refused(106, last));
+            full("one row more with the other line end", most + 1, other, 2000, Refused(106, last + 1));
+        }
+
+        let mut text = whole("0#|1#\n");
+        text.resize(65_536, b'x');
+        t.read(&format!("line ends: {table:?}, mixed in 65,536 bytes"), table, false, &text, 5, Refused(108, 2));
+        text.push(b'x');
+        t.read(&format!("line ends: {table:?}, mixed in 65,537 bytes"), table, false, &text, 5, Refused(101, 0));
+
+        for case in mixtures(table) {
+            let outcome = t.bench.read(&case).map(|_| ());
+            t.tally.test(&format!("line ends, all mixtures: {}", crate::show_case(&case)), outcome);
+        }
+    }
+    let by_lf = reference::read_blocks(&lf(A_BLOCKS), false, 4).map(|(blocks, _)| blocks) == Ok(a(|_| ()).blocks)
+        && reference::read_loops(&lf(A_LOOPS), false, 2).map(|(loops, _)| loops) == Ok(a(|_| ()).loops);
+    t.tally.test("line ends: columns of A with LF", if by_lf { Ok(()) } else { Err("other columns".to_string()) });
+}
+
 /// The edges of lengths: fields, rows, texts and columns.
 fn sizes(t: &mut Tester) {
     let first = |field: &str| format!("{field},1,2,3,4,5").into_bytes();
@@ -255,22 +434,22 @@ fn sizes(t: &mut Tester) {
     t.read("a quoted field of 65 bytes", Table::Blocks, false, &first(&format!("\"{}\"", "1".repeat(63))), 5, Refused(102, 1));
     t.read("64 quote marks", Table::Blocks, false, &first(&"\"".repeat(64)), 5, Refused(104, 1));
     t.read("66 quote marks", Table::Blocks, false, &first(&"\"".repeat(66)), 5, Refused(102, 1));
-    t.read("a header of 64 bytes", Table::Loops, true, format!("{},,,,", "h".repeat(64)).as_bytes(), 5, Accepted(0, 0));
+    t.read("a header of 64 bytes", Table::Loops, true, format!("{},,,,", "h".repeat(64)).as_bytes(), 5, Accepted(0, TEXT));
     t.read("a header of 65 bytes", Table::Loops, true, format!("{},,,,", "h".repeat(65)).as_bytes(), 5, Refused(102, 1));
-    t.read("a last field of 64 bytes", Table::Loops, true, format!(",,,,{}", "h".repeat(64)).as_bytes(), 5, Accepted(0, 0));
+    t.read("a last field of 64 bytes", Table::Loops, true, format!(",,,,{}", "h".repeat(64)).as_bytes(), 5, Accepted(0, TEXT));
     t.read("a last field of 65 bytes", Table::Loops, true, format!(",,,,{}", "h".repeat(65)).as_bytes(), 5, Refused(102, 1));
 
     let rows = |count: usize, rest: &str| (0..count).map(|i| format!("{i},{rest}\r\n")).collect::<String>();
     for (table, rest, most) in [(Table::Blocks, "1,2,3,4,5", 1024), (Table::Loops, "0,0,1,0", 64)] {
         let over = most as u32 + 1;
         let full = rows(most, rest);
-        t.read(&format!("{table:?}: all rows"), table, false, full.as_bytes(), 2000, Accepted(most as i64, 0));
-        t.read(&format!("{table:?}: all rows, all places"), table, false, full.as_bytes(), most, Accepted(most as i64, 0));
+        t.read(&format!("{table:?}: all rows"), table, false, full.as_bytes(), 2000, Accepted(most as i64, CR_LF));
+        t.read(&format!("{table:?}: all rows, all places"), table, false, full.as_bytes(), most, Accepted(most as i64, CR_LF));
         t.read(&format!("{table:?}: one place short"), table, false, full.as_bytes(), most - 1, Refused(106, over - 1));
         t.read(&format!("{table:?}: no places"), table, false, full.as_bytes(), 0, Refused(106, 1));
         t.read(&format!("{table:?}: one row more"), table, false, rows(most + 1, rest).as_bytes(), 2000, Refused(106, over));
         let header = format!("{}\r\n", ",".repeat(rest.matches(',').count() + 1));
-        t.read(&format!("{table:?}: header and all rows"), table, true, (header.clone() + &full).as_bytes(), 2000, Accepted(most as i64, 0));
+        t.read(&format!("{table:?}: header and all rows"), table, true, (header.clone() + &full).as_bytes(), 2000, Accepted(most as i64, CR_LF));
         t.read(&format!("{table:?}: header and one row more"), table, true, (header + &rows(most + 1, rest)).as_bytes(), 2000, Refused(106, over + 1));
         for (name, last, number) in [
             ("empty line", "\r\n".to_string(), 103),
@@ -304,25 +483,35 @@ fn sizes(t: &mut Tester) {
 
     // texts at the length limit: good rows of some length and a header that fills up
     let rest = "\"4294967295\",\"65535\",\"65534\",\"65534\",\"-9223372036854775808\"";
-    let body = rows(1008, rest);
-    for (length, end, wanted) in [
-        (65_535, "\r\n", Accepted(1008, 0)),
-        (65_536, "\r\n", Accepted(1008, 0)),
-        (65_537, "\r\n", Refused(101, 0)),
-        (65_535, "", Accepted(1008, 0)),
-        (65_536, "", Accepted(1008, 0)),
-        (65_537, "", Refused(101, 0)),
+    for (length, usual, end, wanted) in [
+        (65_535, "\r\n", "\r\n", Accepted(1008, CR_LF)),
+        (65_536, "\r\n", "\r\n", Accepted(1008, CR_LF)),
+        (65_537, "\r\n", "\r\n", Refused(101, 0)),
+        (65_535, "\r\n", "", Accepted(1008, CR_LF)),
+        (65_536, "\r\n", "", Accepted(1008, CR_LF)),
+        (65_537, "\r\n", "", Refused(101, 0)),
+        (65_536, "\r\n", "\n", Refused(108, 1009)),
+        (65_535, "\n", "\n", Accepted(1023, LF)),
+        (65_536, "\n", "\n", Accepted(1023, LF)),
+        (65_537, "\n", "\n", Refused(101, 0)),
+        (65_535, "\n", "", Accepted(1023, LF)),
+        (65_536, "\n", "", Accepted(1023, LF)),
+        (65_537, "\n", "", Refused(101, 0)),
+        (65_536, "\n", "\r\n", Refused(108, 1024)),
     ] {
-        let body = &body[..body.len() - 2];
-        let mut left = length - body.len() - end.len() - 7;
+        let count = if usual == "\n" { 1023 } else { 1008 };
+        let body = rows(count, rest).replace("\r\n", usual);
+        let body = &body[..body.len() - usual.len()];
+        let mut left = length - body.len() - end.len() - 5 - usual.len();
         let mut fields = Vec::new();
         for _ in 0..6 {
             fields.push("h".repeat(left.min(64)));
             left -= left.min(64);
         }
         assert!(left == 0);
-        let text = format!("{}\r\n{body}{end}", fields.join(","));
-        t.read(&format!("a text of {length} bytes, last line end {}", end.len()), Table::Blocks, true, text.as_bytes(), 1024, wanted);
+        let text = format!("{}{usual}{body}{end}", fields.join(","));
+        assert!(text.len() == length);
+        t.read(&format!("a text of {length} bytes, line ends {usual:?}, the last {end:?}"), Table::Blocks, true, text.as_bytes(), 1024, wanted);
     }
     t.read("65,536 bytes of no form", Table::Blocks, false, &[b'x'; 65_536], 5, Refused(102, 1));
     t.read("65,537 bytes of no form", Table::Blocks, false, &[b'x'; 65_537], 5, Refused(101, 0));
@@ -330,6 +519,8 @@ fn sizes(t: &mut Tester) {
     t.read("65,536 quote marks", Table::Loops, true, &[b'"'; 65_536], 5, Refused(102, 1));
     t.read("65,536 commas", Table::Loops, true, &[b','; 65_536], 5, Refused(103, 1));
     t.read("65,536 bytes of line ends", Table::Loops, true, &b"\r\n".repeat(32_768), 5, Refused(103, 1));
+    t.read("65,536 line feeds", Table::Loops, true, &[b'\n'; 65_536], 5, Refused(103, 1));
+    t.read("65,536 carriage returns", Table::Loops, true, &[b'\r'; 65_536], 5, Refused(102, 1));
 }
 
 /// `n` blocks in a row and loop 0 only.

@@ -1,4 +1,5 @@
-//! The rules of document 01, written from the papers alone and naive on purpose: lists in place of sets, wide numbers in place of care.
+//! The rules of document 01 and request 1 of document 02, written from the papers alone and naive on purpose: lists in place of sets, wide
+//! numbers in place of care.
 
 /// A refusal: its number and its place.
 #[derive(Clone, Copy, Debug, PartialEq, Eq)]
@@ -27,6 +28,14 @@ pub struct Loops {
 }
 
 pub const MISSING: u16 = 65_535;
+
+/// How a record ends. The C library gives these numbers.
+#[derive(Clone, Copy, Debug, PartialEq, Eq)]
+pub enum LineEnd {
+    CrLf = 0,
+    Lf = 1,
+    Text = 2,
+}
 
 fn refuse<T>(number: u32, place: usize) -> Result<T, Refusal> {
     Err(Refusal { number, place: place as u32 })
@@ -61,8 +70,8 @@ fn field_end(text: &[u8], start: usize) -> Option<usize> {
     Some(at)
 }
 
-/// The written fields of the record that starts at `start`, and where the next one starts; None if its form is broken.
-fn record(text: &[u8], start: usize) -> Option<(Vec<&[u8]>, usize)> {
+/// The written fields of the record that starts at `start`, how it ends, and where the next one starts; None if its form is broken.
+fn record(text: &[u8], start: usize) -> Option<(Vec<&[u8]>, LineEnd, usize)> {
     let mut fields = Vec::new();
     let mut at = start;
     loop {
@@ -73,11 +82,13 @@ fn record(text: &[u8], start: usize) -> Option<(Vec<&[u8]>, usize)> {
         }
         fields.push(written);
         if end == text.len() {
-            return Some((fields, end));
+            return Some((fields, LineEnd::Text, end));
         } else if text[end] == b',' {
             at = end + 1;
         } else if text[end..].starts_with(b"\r\n") {
-            return Some((fields, end + 2));
+            return Some((fields, LineEnd::CrLf, end + 2));
+        } else if text[end] == b'\n' {
+            return Some((fields, LineEnd::Lf, end + 1));
         } else {
             return None;
         }
@@ -135,8 +146,11 @@ fn value(written: &[u8], width: &Width) -> Option<i128> {
     }
 }
 
+/// A reader's answer: what the rows say, and how the first record ends.
+pub type Answer<T> = Result<(T, LineEnd), Refusal>;
+
 /// The rows of a text. `most` is the paper's limit, `places` the length of the shortest lent column.
-fn rows(text: &[u8], header_row: bool, widths: &[Width], most: usize, places: usize) -> Result<Vec<Vec<i128>>, Refusal> {
+fn rows(text: &[u8], header_row: bool, widths: &[Width], most: usize, places: usize) -> Answer<Vec<Vec<i128>>> {
     if text.len() > 65_536 {
         return refuse(101, 0);
     }
@@ -144,14 +158,18 @@ fn rows(text: &[u8], header_row: bool, widths: &[Width], most: usize, places: us
         return refuse(103, 1);
     }
     let mut rows = Vec::new();
+    let mut first_end = LineEnd::Text;
     let mut place = 0;
     let mut at = 0;
     while at < text.len() {
         place += 1;
-        let Some((fields, next)) = record(text, at) else {
+        let Some((fields, line_end, next)) = record(text, at) else {
             return refuse(102, place);
         };
         at = next;
+        if place == 1 {
+            first_end = line_end;
+        }
         if fields.len() != widths.len() {
             return refuse(103, place);
         }
@@ -171,9 +189,12 @@ fn rows(text: &[u8], header_row: bool, widths: &[Width], most: usize, places: us
         if rows.len() >= most || rows.len() >= places {
             return refuse(106, place);
         }
+        if line_end != first_end && line_end != LineEnd::Text {
+            return refuse(108, place);
+        }
         rows.push(row);
     }
-    Ok(rows)
+    Ok((rows, first_end))
 }
 
 const SMALL: Width = Width::Number(0, 65_535);
@@ -181,29 +202,31 @@ const WIDE: Width = Width::Number(0, (1 << 32) - 1);
 const WIDEST: Width = Width::Number(0, (1 << 64) - 1);
 const SIGNED: Width = Width::Number(-(1 << 63), (1 << 63) - 1);
 
-pub fn read_blocks(text: &[u8], header_row: bool, places: usize) -> Result<Blocks, Refusal> {
+pub fn read_blocks(text: &[u8], header_row: bool, places: usize) -> Answer<Blocks> {
     let widths = [SMALL, WIDE, SMALL, Width::Successor, Width::Successor, SIGNED];
+    let (rows, first_end) = rows(text, header_row, &widths, 1024, places)?;
     let mut blocks = Blocks::default();
-    for row in rows(text, header_row, &widths, 1024, places)? {
+    for row in rows {
         blocks.cost.push(row[1] as u32);
         blocks.inner.push(row[2] as u16);
         blocks.first.push(row[3] as u16);
         blocks.second.push(row[4] as u16);
         blocks.figure.push(row[5] as i64);
     }
-    Ok(blocks)
+    Ok((blocks, first_end))
 }
 
-pub fn read_loops(text: &[u8], header_row: bool, places: usize) -> Result<Loops, Refusal> {
+pub fn read_loops(text: &[u8], header_row: bool, places: usize) -> Answer<Loops> {
     let widths = [SMALL, SMALL, SMALL, WIDE, WIDEST];
+    let (rows, first_end) = rows(text, header_row, &widths, 64, places)?;
     let mut loops = Loops::default();
-    for row in rows(text, header_row, &widths, 64, places)? {
+    for row in rows {
         loops.parent.push(row[1] as u16);
         loops.header.push(row[2] as u16);
         loops.limit.push(row[3] as u32);
         loops.multiplier.push(row[4] as u64);
     }
-    Ok(loops)
+    Ok((loops, first_end))
 }
 
 // Tables

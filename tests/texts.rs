@@ -1,4 +1,4 @@
-//! Texts of both tables: good ones up to the limits, then damaged in a field, in the records or in a byte.
+//! Texts of both tables: good ones up to the limits, then damaged in a field, in the records, in a line end or in a byte.
 
 use crate::random::Random;
 
@@ -136,7 +136,10 @@ fn bad(random: &mut Random, kind: Kind) -> Vec<u8> {
         19 => b"-9223372036854775809".to_vec(),
         20 => b"\"".to_vec(),
         21 => vec![b'"'; random.range(1, 32)],
-        22 => b"\r\n".to_vec(),
+        22 => {
+            let before: &[u8] = if random.once_in(2) { &fine } else { b"" };
+            joined(before, random.pick::<&[u8]>(&[b"\r\n", b"\n", b"\r"]))
+        }
         _ => (u128::from(random.next()) * u128::from(random.next())).to_string().into_bytes(),
     };
     if random.once_in(3) { quoted(&text) } else { text }
@@ -152,6 +155,7 @@ fn heading(random: &mut Random) -> Vec<u8> {
         3 => quoted(b"a \"b\""),
         4 => b"0".to_vec(),
         5 if random.once_in(8) => filler(random, 65),
+        6 => quoted(random.pick::<&[u8]>(&[b"a\r\nb", b"a\nb", b"a\rb", b"\n", b"\r\n", b"\r\n,\n"])),
         _ => filler(random, length),
     }
 }
@@ -163,6 +167,33 @@ fn join(records: &[Vec<Vec<u8>>], ends: &[Vec<u8>]) -> Vec<u8> {
         text.extend(end);
     }
     text
+}
+
+/// The line end of a text, and the other one.
+fn two_line_ends(random: &mut Random) -> [&'static [u8]; 2] {
+    random.pick(&[[b"\r\n", b"\n"], [b"\n", b"\r\n"]])
+}
+
+/// The line ends of `count` records: all alike, the last one open in every second text. Then, now and then, one or more are changed.
+fn line_ends(random: &mut Random, count: usize) -> Vec<Vec<u8>> {
+    if count == 0 {
+        return Vec::new();
+    }
+    let [usual, other] = two_line_ends(random);
+    let mut ends = vec![usual; count];
+    if random.once_in(2) {
+        ends[count - 1] = b"";
+    }
+    let at = if random.once_in(4) { count - 1 } else { random.below(count) };
+    match random.below(16) {
+        0 | 1 => ends[at] = other,
+        2 => ends[0] = other,
+        3 => ends[at..].fill(other),
+        4 => ends = ends.iter().map(|_| random.pick(&[usual, other])).collect(),
+        5 => ends[at] = random.pick::<&[u8]>(&[b"\r", b"\n\r", b"\r\r\n", b"\r\n\n", b"\r\n\r", b"\r\n\r\n", b"\n\n", b"\n\r\n", b","]),
+        _ => {}
+    }
+    ends.into_iter().map(<[u8]>::to_vec).collect()
 }
 
 /// Good records of `count` rows, under a header or not.
@@ -262,6 +293,7 @@ fn near_limit(random: &mut Random, table: Table) -> Case {
     let wide = |kind: &Kind| quoted(&if kind.signed { format!("-{}", kind.most) } else { kind.most.to_string() }.into_bytes());
     let kinds = table.kinds();
     let target = 65_530 + random.below(12);
+    let [usual, other] = two_line_ends(random);
     let header_fields = kinds.len();
     let mut rows: Vec<Vec<Vec<u8>>> = Vec::new();
     let mut length = 0;
@@ -272,10 +304,10 @@ fn near_limit(random: &mut Random, table: Table) -> Case {
         if rows.len() >= table.most() {
             fields = kinds.iter().map(|_| filler(random, 64)).collect();
         }
-        length += fields.join(&b',').len() + 2;
+        length += fields.join(&b',').len() + usual.len();
         rows.push(fields);
     }
-    let mut rest = (target - length).saturating_sub(header_fields + 1);
+    let mut rest = (target - length).saturating_sub(header_fields - 1 + usual.len());
     let mut heading = Vec::new();
     for _ in 0..header_fields {
         let part = rest.min(64);
@@ -283,11 +315,14 @@ fn near_limit(random: &mut Random, table: Table) -> Case {
         rest -= part;
     }
     rows.insert(0, heading);
-    let ends = vec![b"\r\n".to_vec(); rows.len()];
-    let mut text = join(&rows, &ends);
+    let mut ends = vec![usual.to_vec(); rows.len()];
     if random.once_in(4) {
-        text.truncate(text.len() - 2);
+        ends[rows.len() - 1].clear();
     }
+    if random.once_in(4) {
+        ends[random.below(rows.len())] = other.to_vec();
+    }
+    let mut text = join(&rows, &ends);
     if random.once_in(4) {
         damage_bytes(random, &mut text);
     }
@@ -307,22 +342,18 @@ pub fn case(random: &mut Random, table: Table) -> Case {
     };
     let header_row = random.once_in(2);
     let mut records = records(random, table, header_row, count);
-    let lengths = lengths(random, count);
+    let mut lengths = lengths(random, count);
     let kind = random.below(10);
     if (4..8).contains(&kind) {
         for _ in 0..random.pick(&[1, 1, 1, 2, 3]) {
             damage_records(random, table, header_row, &mut records);
         }
     }
-    let mut ends = vec![b"\r\n".to_vec(); records.len()];
-    if let Some(last) = ends.last_mut() {
-        if random.once_in(2) {
-            last.clear();
-        }
-    }
-    if !ends.is_empty() && random.once_in(12) {
-        let at = random.below(ends.len());
-        ends[at] = random.pick::<&[u8]>(&[b"\n", b"\r", b"\n\r", b"\r\r\n", b"\r\n\n", b"\r\n\r", b"\r\n\r\n", b","]).to_vec();
+    let ends = line_ends(random, records.len());
+    let other = ends.iter().position(|end| !end.is_empty() && *end != ends[0]);
+    if let Some(at) = other.filter(|_| random.once_in(3)) {
+        // a place less than the first row with another line end needs, or just enough
+        lengths[random.below(4)] = at - usize::from(header_row) + random.below(2);
     }
     let mut text = join(&records, &ends);
     if kind >= 8 || random.once_in(20) {
@@ -343,7 +374,7 @@ pub fn noise(random: &mut Random, table: Table) -> Case {
     if random.once_in(3) {
         // whole line ends, and a field that runs on
         let at = random.below(text.len() + 1);
-        text.splice(at..at, b"\r\n".to_vec());
+        text.splice(at..at, random.pick::<&[u8]>(&[b"\r\n", b"\n"]).to_vec());
     }
     if random.once_in(6) {
         let at = random.below(text.len() + 1);
@@ -351,4 +382,28 @@ pub fn noise(random: &mut Random, table: Table) -> Case {
         text.splice(at..at, vec![random.pick(b"1\",a"); count]);
     }
     Case { table, text, header_row: random.once_in(2), lengths: [random.below(3); 5] }
+}
+
+/// Every text of up to three rows whose line ends are some of these, under a header or not, for columns of up to three places. In every second
+/// text the last fields are quoted, and that of the header has both line ends in it.
+pub fn mixtures(table: Table) -> Vec<Case> {
+    const ENDS: [&[u8]; 6] = [b"\r\n", b"\n", b"", b"\r", b"\r\r\n", b"\n\r"];
+    let mut cases = Vec::new();
+    for (count, quotes, header_row) in (0..16).map(|k| (k / 4, k % 2 == 1, k / 2 % 2 == 1)) {
+        for choice in 0..ENDS.len().pow(count) {
+            let mut text = Vec::new();
+            for record in 0..count {
+                let last = match (quotes, header_row && record == 0) {
+                    (false, _) => "0",
+                    (true, false) => "\"0\"",
+                    (true, true) => "\"\r\n\n\"",
+                };
+                let row = record.saturating_sub(u32::from(header_row));
+                text.extend(format!("{row}{},{last}", ",0".repeat(table.kinds().len() - 2)).into_bytes());
+                text.extend(ENDS[choice / ENDS.len().pow(record) % ENDS.len()]);
+            }
+            cases.extend((0..4).map(|places| Case { table, text: text.clone(), header_row, lengths: [places; 5] }));
+        }
+    }
+    cases
 }
