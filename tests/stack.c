@@ -34,6 +34,14 @@
 _Static_assert(ROLKEYDA_STACK_READ_BLOCKS <= MOST_READER, "a reader takes at most 40 KiB");
 _Static_assert(ROLKEYDA_STACK_READ_LOOPS <= MOST_READER, "a reader takes at most 40 KiB");
 
+/* The line ends of texts, each with what a reader says where record 1 ends in it; and the one that is in use. */
+static const struct line_end {
+    const char *text;
+    size_t length;
+    uint64_t more;
+} line_ends[] = {{"\r\n", 2, 0}, {"\n", 1, 1}};
+static const struct line_end *line_end = line_ends;
+
 /* The input, one place more than is allowed in each part, and the reply. */
 static char text[BYTES + 1];
 static size_t text_length;
@@ -243,7 +251,7 @@ static void rows(unsigned count, const char *rest)
 {
     char row[256];
     for (unsigned i = 0; i < count; i++) {
-        snprintf(row, sizeof row, "%u,%s\r\n", i, rest);
+        snprintf(row, sizeof row, "%u,%s%s", i, rest, line_end->text);
         add(row);
     }
 }
@@ -256,7 +264,14 @@ static void quoted_record(int fields, char byte)
         add_bytes(byte, FIELD - 2);
         add("\"");
     }
-    add("\r\n");
+    add(line_end->text);
+}
+
+/* Puts the other line end in place of the last one. */
+static void end_otherwise(void)
+{
+    text_length -= line_end->length;
+    add(line_ends[line_end == line_ends ? 1 : 0].text);
 }
 
 /* `count` of the widest rows, below a header of that many bytes that the text has its greatest length. */
@@ -264,31 +279,35 @@ static void longest_text(unsigned count, int fields, const char *wide)
 {
     start(true);
     rows(count, wide);
-    size_t left = BYTES - text_length - (size_t)fields - 1;
+    size_t left = BYTES - text_length - (size_t)(fields - 1) - line_end->length;
     text_length = 0;
     for (int i = 0; i < fields; i++) {
         size_t part = left < FIELD ? left : FIELD;
         left -= part;
         add_bytes('h', part);
-        add(i + 1 < fields ? "," : "\r\n");
+        add(i + 1 < fields ? "," : line_end->text);
     }
     rows(count, wide);
 }
 
-/* The accepted texts of a table: its longest fields, all its rows, one row. */
+/* The accepted texts of a table: its longest fields, all its rows, one row. The first one once more, with another line end in its last row. */
 static void accepted_texts(int which, unsigned most, int fields, const char *plain, const char *quoted)
 {
     start(true);
     quoted_record(fields, '"');
     rows(most, quoted);
-    accepted(which, "all rows quoted, below a header of quote marks", most, 0);
+    accepted(which, "all rows quoted, below a header of quote marks", most, line_end->more);
+    end_otherwise();
+    refused(which, "all rows quoted, another line end in the last", 108, most + 1);
     start(true);
     quoted_record(fields, 'x');
     rows(most, plain);
-    accepted(which, "all rows, below a header of 64 bytes in each field", most, 0);
+    accepted(which, "all rows, below a header of 64 bytes in each field", most, line_end->more);
     start(false);
     rows(1, plain);
-    accepted(which, "one row", 1, 0);
+    accepted(which, "one row", 1, line_end->more);
+    text_length -= line_end->length;
+    accepted(which, "one row that ends with the text", 1, 2);
 }
 
 /* A text of one byte, and the same with a quote mark in front. */
@@ -300,7 +319,9 @@ static void uniform_texts(int which)
     fill('"', BYTES);
     refused(which, "65,536 quote marks", 102, 1);
     fill('\n', BYTES);
-    refused(which, "65,536 line feeds", 102, 1);
+    refused(which, "65,536 line feeds", 103, 1);
+    fill('\r', BYTES);
+    refused(which, "65,536 carriage returns", 102, 1);
     fill(',', BYTES);
     refused(which, "65,536 commas", 103, 1);
     fill('x', BYTES);
@@ -343,21 +364,30 @@ static void refused_texts(int which, unsigned most, int fields, const char *plai
     rows(most, plain);
     n = m = most - 1;
     refused(which, "one place less", 106, most);
+    end_otherwise();
+    refused(which, "one place less, and another line end in the last row", 106, most);
+    n = m = most;
+    refused(which, "another line end in the last row", 108, most);
 }
 
 static void texts(int which, unsigned most, int fields, const char *plain, const char *quoted)
 {
     accepted_texts(which, most, fields, plain, quoted);
-    uniform_texts(which);
     refused_texts(which, most, fields, plain, quoted);
 }
 
 static void readers(void)
 {
-    texts(READ_BLOCKS, BLOCKS, 6, "1,0,,,5", "\"1000000\",\"63\",\"1023\",\"\",\"-4\"");
-    longest_text(1008, 6, "\"4294967295\",\"65535\",\"65534\",\"65534\",\"-9223372036854775808\"");
-    accepted(READ_BLOCKS, "65,536 bytes", 1008, 0);
-    texts(READ_LOOPS, LOOPS, 5, "0,0,1,0", "\"65535\",\"65535\",\"4294967295\",\"18446744073709551615\"");
+    uniform_texts(READ_BLOCKS);
+    uniform_texts(READ_LOOPS);
+    for (int i = 0; i < 2; i++) {
+        line_end = &line_ends[i];
+        texts(READ_BLOCKS, BLOCKS, 6, "1,0,,,5", "\"1000000\",\"63\",\"1023\",\"\",\"-4\"");
+        unsigned count = i == 0 ? 1008 : 1023;
+        longest_text(count, 6, "\"4294967295\",\"65535\",\"65534\",\"65534\",\"-9223372036854775808\"");
+        accepted(READ_BLOCKS, "65,536 bytes", count, line_end->more);
+        texts(READ_LOOPS, LOOPS, 5, "0,0,1,0", "\"65535\",\"65535\",\"4294967295\",\"18446744073709551615\"");
+    }
 }
 
 /*
