@@ -24,6 +24,11 @@ extern "C" {
 /* A missing successor. */
 #define ROLKEYDA_MISSING 65535u
 
+/* The line end of record 1 in the reply of a reader, `more`. The end of the text: there is one record with no line end, or none. */
+#define ROLKEYDA_CR_LF 0u
+#define ROLKEYDA_LF 1u
+#define ROLKEYDA_END_OF_TEXT 2u
+
 /*
  * The most that there may be: blocks and loops of a routine (columns of these lengths hold any table), loops around a header with loop 0
  * and its own, bytes of a field as written, bytes of a text, blocks of a walk.
@@ -49,10 +54,11 @@ extern "C" {
  * The reply of every function (`Reply` in the crate).
  *
  * number   0: accepted. Else the number of the first rule that is broken:
- *          101 to 106 for a text, 201 to 208 for a pair of tables, 301 to 303 and 311 to 314 for a walk.
+ *          101 to 106 and 108 for a text, 201 to 208 for a pair of tables, 301 to 303 and 311 to 314 for a walk.
  * place    where: the record of a text (the first is 1), the block or loop of a table, the index in a walk. 0 when accepted.
  * value    when accepted: the count of rows, the bound, or the cost. Else 0.
- * more     when a walk is accepted: its steps, the length less one. Else 0.
+ * more     when a text is accepted: the line end of record 1, a header included (ROLKEYDA_CR_LF, ROLKEYDA_LF or ROLKEYDA_END_OF_TEXT).
+ *          When a walk is accepted: its steps, the length less one. Else 0.
  */
 typedef struct rolkeyda_reply {
     uint32_t number;
@@ -70,9 +76,10 @@ ROLKEYDA_ASSERT(offsetof(rolkeyda_reply, more) == 16, "more is at 16");
 #undef ROLKEYDA_ASSERT
 
 /*
- * Reads a block table (number, cost, loop, first successor, second successor, figure; RFC 4180) into five columns. `header_row` says
- * whether record 1 is a header. Accepted: the first `value` places of each column hold the rows, and later places keep their contents.
- * Refused: no column is changed. 106 where the shortest column has no place for a row. Stack: ROLKEYDA_STACK_READ_BLOCKS.
+ * Reads a block table (number, cost, loop, first successor, second successor, figure; RFC 4180, with CR LF or LF line ends) into five
+ * columns. `header_row` says whether record 1 is a header. Accepted: the first `value` places of each column hold the rows, later places
+ * keep their contents, and `more` is the line end of record 1. Refused: no column is changed. 106 where the shortest column has no place
+ * for a row, 108 where a record has a line end and record 1 has another. Stack: ROLKEYDA_STACK_READ_BLOCKS.
  */
 rolkeyda_reply rolkeyda_read_blocks(
     const uint8_t *text, size_t text_length,

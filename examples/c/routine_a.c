@@ -1,6 +1,6 @@
 /*
- * Routine A of document 01 through the C library: reads its two tables, checks them and follows a walk. Then it shows two refusals: a
- * multiplier that is too small, and a walk with one round too many.
+ * Routine A of document 01 through the C library: reads its two tables, one with CR LF and one with LF line ends, checks them and follows a
+ * walk. Then it shows two refusals: a multiplier that is too small, and a walk with one round too many.
  */
 #include "rolkeyda.h"
 
@@ -15,8 +15,11 @@ static const char blocks_csv[] =
     "3,1,0,,,0\r\n";
 
 static const char loops_csv[] =
-    "0,0,0,1,0\r\n"
-    "1,0,1,4,8\r\n";
+    "0,0,0,1,0\n"
+    "1,0,1,4,8\n";
+
+/* The line ends by their numbers, ROLKEYDA_CR_LF, ROLKEYDA_LF and ROLKEYDA_END_OF_TEXT. */
+static const char *const line_ends[] = {"CR LF", "LF", "no"};
 
 static const uint16_t three_rounds[] = {0, 1, 2, 1, 2, 1, 2, 1, 3};
 static const uint16_t four_rounds[] = {0, 1, 2, 1, 2, 1, 2, 1, 2, 1, 3};
@@ -56,7 +59,7 @@ static int read_tables(void)
     if (table.number != 0)
         return refused("loops", table);
     m = (size_t)table.value;
-    printf("%zu blocks, %zu loops\n", n, m);
+    printf("%zu blocks, %s line ends\n%zu loops, %s line ends\n", n, line_ends[blocks.more], m, line_ends[table.more]);
     return 0;
 }
 
