@@ -16,6 +16,13 @@ extern "C" {
         cost: *mut u32, cost_length: usize, loops: *mut u16, loops_length: usize, first: *mut u16, first_length: usize,
         second: *mut u16, second_length: usize, figure: *mut i64, figure_length: usize,
     ) -> Reply;
+    // the same of an older library, which bench/run renames
+    #[cfg(before)]
+    fn before_read_blocks(
+        text: *const u8, text_length: usize, header: bool,
+        cost: *mut u32, cost_length: usize, loops: *mut u16, loops_length: usize, first: *mut u16, first_length: usize,
+        second: *mut u16, second_length: usize, figure: *mut i64, figure_length: usize,
+    ) -> Reply;
     fn rolkeyda_check(
         cost: *const u32, cost_length: usize, loops: *const u16, loops_length: usize, first: *const u16, first_length: usize,
         second: *const u16, second_length: usize, figure: *const i64, figure_length: usize,
@@ -31,19 +38,34 @@ extern "C" {
     ) -> Reply;
 }
 
+#[rustfmt::skip]
+type ReadBlocks = unsafe extern "C" fn(
+    *const u8, usize, bool, *mut u32, usize, *mut u16, usize, *mut u16, usize, *mut u16, usize, *mut i64, usize,
+) -> Reply;
+
+#[rustfmt::skip]
+fn read_by(read: ReadBlocks, text: &[u8], to: &mut Blocks) -> Reply {
+    let n = to.cost.len();
+    // SAFETY: each pointer comes with the length of its own column, and no two columns overlap.
+    unsafe {
+        read(
+            text.as_ptr(), text.len(), false, to.cost.as_mut_ptr(), n, to.loops.as_mut_ptr(), n, to.first.as_mut_ptr(), n,
+            to.second.as_mut_ptr(), n, to.figure.as_mut_ptr(), n,
+        )
+    }
+}
+
 pub struct Library;
 
 #[rustfmt::skip]
 impl Library {
     pub fn read_blocks(text: &[u8], to: &mut Blocks) -> Reply {
-        let n = to.cost.len();
-        // SAFETY: each pointer comes with the length of its own column, and no two columns overlap.
-        unsafe {
-            rolkeyda_read_blocks(
-                text.as_ptr(), text.len(), false, to.cost.as_mut_ptr(), n, to.loops.as_mut_ptr(), n, to.first.as_mut_ptr(), n,
-                to.second.as_mut_ptr(), n, to.figure.as_mut_ptr(), n,
-            )
-        }
+        read_by(rolkeyda_read_blocks, text, to)
+    }
+
+    #[cfg(before)]
+    pub fn read_blocks_before(text: &[u8], to: &mut Blocks) -> Reply {
+        read_by(before_read_blocks, text, to)
     }
 
     pub fn check(t: &Routine) -> Reply {

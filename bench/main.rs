@@ -64,20 +64,20 @@ fn compare(title: &str, (units, unit): (f64, &str), (rounds, calls): (u32, u32),
     }
 }
 
-fn reading(routine: &Routine) {
-    let text = routine.blocks_csv();
-    let bytes = text.as_bytes();
+// Our reader beside the others on a text with these line ends, which have this number in our reply.
+fn reading_beside(routine: &Routine, bytes: &[u8], line_ends: &str, number: u64) {
     let mut ours = routine::Blocks::room(1024);
     let mut core = routine::Blocks::room(1024);
     let mut kept = routine::Blocks::room(1024);
     let mut libcsv = routine::Blocks::room(1024);
     let mut reader = Reader::new();
-    assert_eq!(Library::read_blocks(bytes, &mut ours).value, 1024);
+    let reply = Library::read_blocks(bytes, &mut ours);
+    assert_eq!((reply.value, reply.more), (1024, number));
     assert_eq!(reading::csv_core(&mut reader, bytes, &mut core), Some(1024));
     assert_eq!(reading::libcsv(bytes, &mut libcsv), Some(1024));
     assert!(ours == routine.blocks && core == ours && libcsv == ours);
     compare(
-        &format!("reading a plain block table of 1024 rows, {} bytes", bytes.len()),
+        &format!("reading a plain block table of 1024 rows, {line_ends} line ends, {} bytes", bytes.len()),
         (bytes.len() as f64, "B"),
         (400, 5),
         &[1.6, 1.0, 3.5],
@@ -88,6 +88,40 @@ fn reading(routine: &Routine) {
             Measure::new("libcsv, parsed", || keep(reading::libcsv(black_box(bytes), &mut libcsv))),
         ],
     );
+}
+
+fn reading(routine: &Routine) {
+    let cr_lf = routine.blocks_csv();
+    let lf = cr_lf.replace("\r\n", "\n");
+    reading_beside(routine, cr_lf.as_bytes(), "CR LF", 0);
+    reading_beside(routine, lf.as_bytes(), "LF", 1);
+    let mut ours = routine::Blocks::room(1024);
+    let mut theirs = routine::Blocks::room(1024);
+    compare(
+        "reading LF line ends beside CR LF, both by rolkeyda_read_blocks",
+        (1024.0, "rows"),
+        (400, 5),
+        &[1.0],
+        &mut [
+            Measure::new("LF", || keep(Library::read_blocks(black_box(lf.as_bytes()), &mut ours))),
+            Measure::new("CR LF", || keep(Library::read_blocks(black_box(cr_lf.as_bytes()), &mut theirs))),
+        ],
+    );
+    #[cfg(before)]
+    {
+        assert_eq!(Library::read_blocks_before(cr_lf.as_bytes(), &mut theirs).value, 1024);
+        assert!(theirs == routine.blocks);
+        compare(
+            "reading CR LF line ends, beside the older library",
+            (1024.0, "rows"),
+            (400, 5),
+            &[1.0],
+            &mut [
+                Measure::new("rolkeyda_read_blocks", || keep(Library::read_blocks(black_box(cr_lf.as_bytes()), &mut ours))),
+                Measure::new("before", || keep(Library::read_blocks_before(black_box(cr_lf.as_bytes()), &mut theirs))),
+            ],
+        );
+    }
 }
 
 fn checking(routine: &Routine) {
