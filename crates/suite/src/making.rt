@@ -31,27 +31,47 @@ pub fn push_signed(text: &mut [u8], at: usize, z: i64) -> usize {
     push_number(text, end, ZERO - r)
 }
 
-// A row that says nothing but its number, or one with about as many bytes as a row can have.
-fn push_row(text: &mut [u8], at: usize, i: usize, wide: bool, of_blocks: bool) -> usize {
-    let end = push_number(text, at, i);
-    if wide {
+// Whether a letter stands for rows: R for rows that say nothing but their number, W for wide ones, which have about as many bytes as a row can
+// have, both with CR LF; r and w with LF.
+fn is_rows(what: u8) -> bool {
+    (what == b'R') | (what == b'W') | (what == b'r') | (what == b'w')
+}
+
+fn push_row(text: &mut [u8], at: usize, i: usize, what: u8, of_blocks: bool) -> usize {
+    let number = push_number(text, at, i);
+    let end = push_cells(text, number, what, of_blocks);
+    if (what == b'R') | (what == b'W') {
+        return push(text, end, b"\r\n");
+    }
+    push(text, end, b"\n")
+}
+
+// The cells after the row number. A minus sign makes a wide row with LF as long as one with CR LF.
+fn push_cells(text: &mut [u8], at: usize, what: u8, of_blocks: bool) -> usize {
+    if what == b'W' {
         return push(
             text,
-            end,
-            b",\"4294967295\",\"65535\",\"65534\",\"65534\",\"1000000000000000000\"\r\n",
+            at,
+            b",\"4294967295\",\"65535\",\"65534\",\"65534\",\"1000000000000000000\"",
+        );
+    }
+    if what == b'w' {
+        return push(
+            text,
+            at,
+            b",\"4294967295\",\"65535\",\"65534\",\"65534\",\"-1000000000000000000\"",
         );
     }
     if of_blocks {
-        return push(text, end, b",0,0,,,0\r\n");
+        return push(text, at, b",0,0,,,0");
     }
-    push(text, end, b",0,0,1,0\r\n")
+    push(text, at, b",0,0,1,0")
 }
 
-// What is repeated: rows, wide rows or one byte.
+// What is repeated: rows or one byte.
 fn push_one(text: &mut [u8], at: usize, i: usize, what: u8, byte: u8, of_blocks: bool) -> usize {
-    let wide = what == b'W';
-    if wide | (what == b'R') {
-        return push_row(text, at, i, wide, of_blocks);
+    if is_rows(what) {
+        return push_row(text, at, i, what, of_blocks);
     }
     put_u8(text, at, byte);
     plus(at, 1)
@@ -121,7 +141,7 @@ impl Maker {
                 at,
             };
         }
-        if (b == b'R') | (b == b'W') {
+        if is_rows(b) {
             return self.moved(OUTSIDE, push_many(text, at, count, b, 0, of_blocks));
         }
         let digits = with_digit(
@@ -176,7 +196,8 @@ fn escaped(b: u8) -> u8 {
     if b == b'b' { 187 } else { 191 }
 }
 
-// The text that is written in a case, and its length: `;` is CR LF, `%1024R` is 1,024 rows, `%1024W` rows of more bytes and `%64*x` a byte 64 times.
+// The text that is written in a case, and its length: `;` is CR LF, `%1024R` is 1,024 rows, `%1024W` rows of more bytes, `%1024r` and `%1024w` the
+// same with LF, and `%64*x` a byte 64 times.
 pub fn make_text(written: &[u8], of_blocks: bool, text: &mut [u8]) -> usize {
     let mut s = Maker {
         state: OUTSIDE,

@@ -1,4 +1,4 @@
-// A reader of one table, written from document 01 apart from the library: one byte at a time, each field's text copied out.
+// A reader of one table, written from documents 01 and 02 apart from the library: one byte at a time, each field's text copied out.
 // It is slow on purpose, and it is what the library's replies are compared with.
 use crate::cells::RowCells;
 use crate::cells::plus;
@@ -17,6 +17,13 @@ const MARK: u8 = 3;
 
 const RETURN: u8 = 4;
 
+// What ends a record, by the numbers of the replies. An empty text counts as ended by the end of the text.
+const CR_LF: u64 = 0;
+
+const LF: u64 = 1;
+
+const TEXT_END: u64 = 2;
+
 struct Reading {
     state: u8,
     // whether the record has begun, and whether the last byte ended it
@@ -26,6 +33,9 @@ struct Reading {
     fault: u32,
     record: usize,
     row: usize,
+    // the present record's line end, the end of the text until another is found, and the first record's
+    line_end: u64,
+    first_end: u64,
     // of the present record: the fields so far, whether one of them is no number of its column, and what they say
     fields: usize,
     bad: bool,
@@ -146,6 +156,8 @@ impl Reading {
             fault: 0,
             record: 1,
             row: 0,
+            line_end: TEXT_END,
+            first_end: TEXT_END,
             fields: 0,
             bad: false,
             values: [0; 7],
@@ -191,10 +203,19 @@ impl Reading {
         self
     }
 
-    // After a field comes a comma or a CR.
+    fn line_ended(mut self, line_end: u64, columns: usize) -> Reading {
+        self.line_end = line_end;
+        self.ended = true;
+        self.field_ended(columns)
+    }
+
+    // After a field comes a comma, a CR or an LF.
     fn after_field(mut self, b: u8, columns: usize) -> Reading {
         if b == 44 {
             return self.field_ended(columns);
+        }
+        if b == 10 {
+            return self.line_ended(LF, columns);
         }
         if b == 13 {
             self.state = RETURN;
@@ -239,8 +260,7 @@ impl Reading {
             self.fault = 102;
             return self;
         }
-        self.ended = true;
-        self.field_ended(columns)
+        self.line_ended(CR_LF, columns)
     }
 
     fn with(mut self, b: u8, columns: usize) -> Reading {
@@ -272,7 +292,15 @@ impl Reading {
         if self.values[0] != self.row {
             return 105;
         }
-        if self.row >= room { 106 } else { 0 }
+        if self.row >= room {
+            return 106;
+        }
+        if self.ends_otherwise() { 108 } else { 0 }
+    }
+
+    // Whether the record's line end is neither the first record's nor the end of the text.
+    fn ends_otherwise(self) -> bool {
+        (self.line_end != self.first_end) & (self.line_end != TEXT_END)
     }
 
     fn record_ended(
@@ -283,6 +311,9 @@ impl Reading {
         out: &mut RowCells,
     ) -> Reading {
         let of_header = header & (self.record == 1);
+        if self.record == 1 {
+            self.first_end = self.line_end;
+        }
         let fault = self.record_fault(of_header, columns, room);
         self.fault = fault;
         if fault != 0 {
@@ -302,6 +333,7 @@ impl Reading {
         self.bad = false;
         self.begun = false;
         self.ended = false;
+        self.line_end = TEXT_END;
         self.values[6] = 0;
         self
     }
@@ -338,7 +370,7 @@ impl Reading {
         if header & (self.record == 1) {
             return refused(103, 1);
         }
-        row_count(self.row)
+        row_count(self.row, self.first_end)
     }
 }
 

@@ -187,7 +187,7 @@ pub fn blocks_into(
         &second,
         &figure,
     );
-    t.told(name, got, checked, wanted, kept)
+    t.told(name, got, checked, wanted, true, kept)
 }
 
 // A loop table, likewise.
@@ -222,7 +222,7 @@ pub fn loops_into(
         &limit,
         &multiplier,
     );
-    t.told(name, got, checked, wanted, kept)
+    t.told(name, got, checked, wanted, true, kept)
 }
 
 // A pair of tables as columns, and a walk over it where one is given.
@@ -268,7 +268,7 @@ fn judged(
             multiplier,
             steps,
         );
-        return t.told(name, got, checked, wanted, true);
+        return t.told(name, got, checked, wanted, false, true);
     }
     let got = rolkeyda::rolkeyda_check(
         cost,
@@ -281,7 +281,7 @@ fn judged(
         limit,
         multiplier,
     );
-    t.told(name, got, checked, wanted, true)
+    t.told(name, got, checked, wanted, false, true)
 }
 
 // The first n and m places of columns, of column number `shorter` one less, and the first blocks of a walk, `length` of them.

@@ -22,11 +22,12 @@ pub fn accepted(value: i64, more: u64) -> Reply {
     }
 }
 
-pub fn row_count(count: usize) -> Reply {
+// The rows of an accepted text, and its first record's line end.
+pub fn row_count(count: usize, line_end: u64) -> Reply {
     if count > 1024 {
         return impossible();
     }
-    accepted(count as i64, 0)
+    accepted(count as i64, line_end)
 }
 
 // A reply that no case has: what it stands for does not arise.
@@ -58,24 +59,40 @@ fn same(a: Reply, b: Reply) -> bool {
     (a.number == b.number) & (a.place == b.place) & (a.value == b.value) & (a.more == b.more)
 }
 
-// A reply as text, and its length.
-fn word(r: Reply, out: &mut [u8]) -> usize {
+// A reply as words, and their length. Beside the value a reader's reply has a line end, a walk's has steps, and that to a pair of tables has 0.
+fn word(r: Reply, of_text: bool, out: &mut [u8]) -> usize {
     if r.number != 0 {
         let number = push_number(out, 0, from_u32(r.number));
         let at = push(out, number, b" at ");
         return push_number(out, at, from_u32(r.place));
     }
-    accepted_word(r, out)
+    accepted_word(r, of_text, out)
 }
 
-fn accepted_word(r: Reply, out: &mut [u8]) -> usize {
+fn accepted_word(r: Reply, of_text: bool, out: &mut [u8]) -> usize {
     let start = push(out, 0, b"accepted ");
     let value = push_signed(out, start, r.value);
+    if of_text {
+        return push_line_end(out, value, r.more);
+    }
     if r.more == 0 {
         return value;
     }
     let steps = push(out, value, b", steps ");
     push_number(out, steps, from_u64(r.more))
+}
+
+fn push_line_end(out: &mut [u8], at: usize, line_end: u64) -> usize {
+    if line_end == 0 {
+        return push(out, at, b", CR LF");
+    }
+    if line_end == 1 {
+        return push(out, at, b", LF");
+    }
+    if line_end == 2 {
+        return push(out, at, b", end of text");
+    }
+    push(out, at, b", no line end")
 }
 
 pub fn say(words: &[u8]) {
@@ -86,23 +103,23 @@ pub fn say_number(n: u64) {
     io::print_decimal(STDOUT_FILENO, n);
 }
 
-fn say_reply(r: Reply) {
+fn say_reply(r: Reply, of_text: bool) {
     let mut line = [0u8; 80];
-    let n = word(r, &mut line);
+    let n = word(r, of_text, &mut line);
     say(part(&line, 0, n));
 }
 
-fn is_worded(r: Reply, wanted: &[u8]) -> bool {
+fn is_worded(r: Reply, of_text: bool, wanted: &[u8]) -> bool {
     let mut line = [0u8; 80];
-    let n = word(r, &mut line);
+    let n = word(r, of_text, &mut line);
     check::same(part(&line, 0, n), wanted)
 }
 
-fn say_wrong(wanted: &[u8], checked: Reply, kept: bool) {
+fn say_wrong(wanted: &[u8], checked: Reply, of_text: bool, kept: bool) {
     say(b" WRONG, should be ");
     say(wanted);
     say(b", the checker says ");
-    say_reply(checked);
+    say_reply(checked, of_text);
     if !kept {
         say(b", columns differ");
     }
@@ -113,22 +130,24 @@ impl Tally {
         Tally { cases: 0, wrong: 0 }
     }
 
-    // One more case: the library's reply, the checker's, the one that it should be, and whether the columns are as they should be.
+    // One more case: the library's reply, the checker's, the one that it should be, whether they are a reader's, and whether the columns are as
+    // they should be.
     pub fn told(
         mut self,
         name: &[u8],
         got: Reply,
         checked: Reply,
         wanted: &[u8],
+        of_text: bool,
         kept: bool,
     ) -> Tally {
-        let right = kept & same(got, checked) & is_worded(got, wanted);
+        let right = kept & same(got, checked) & is_worded(got, of_text, wanted);
         say(name);
         say(b": ");
-        say_reply(got);
+        say_reply(got, of_text);
         self.cases = more(self.cases);
         if !right {
-            say_wrong(wanted, checked, kept);
+            say_wrong(wanted, checked, of_text, kept);
             self.wrong = more(self.wrong);
         }
         say(b"\n");
