@@ -19,7 +19,7 @@ use crate::parts::room_of;
 use crate::reading;
 use crate::reading::row_cell;
 use crate::stepping;
-use crate::tally::Tally;
+use crate::tally::Answers;
 use rolkeyda::Reply;
 
 // What stands in the columns before a text is read.
@@ -153,15 +153,7 @@ fn loops_kept(
 }
 
 // A block table read into columns of `room` places, column number `shorter` one less.
-pub fn blocks_into(
-    t: Tally,
-    name: &[u8],
-    room: usize,
-    shorter: usize,
-    text: &[u8],
-    header: bool,
-    wanted: &[u8],
-) -> Tally {
+pub fn blocks_into(room: usize, shorter: usize, text: &[u8], header: bool) -> Answers {
     let mut cost = [OLD_U32; 1026];
     let mut inner = [OLD_U16; 1026];
     let mut first = [OLD_U16; 1026];
@@ -187,19 +179,16 @@ pub fn blocks_into(
         &second,
         &figure,
     );
-    t.told(name, got, checked, wanted, true, kept)
+    Answers {
+        got,
+        checked,
+        of_text: true,
+        kept,
+    }
 }
 
 // A loop table, likewise.
-pub fn loops_into(
-    t: Tally,
-    name: &[u8],
-    room: usize,
-    shorter: usize,
-    text: &[u8],
-    header: bool,
-    wanted: &[u8],
-) -> Tally {
+pub fn loops_into(room: usize, shorter: usize, text: &[u8], header: bool) -> Answers {
     let mut parent = [OLD_U16; 66];
     let mut head = [OLD_U16; 66];
     let mut limit = [OLD_U32; 66];
@@ -222,13 +211,25 @@ pub fn loops_into(
         &limit,
         &multiplier,
     );
-    t.told(name, got, checked, wanted, true, kept)
+    Answers {
+        got,
+        checked,
+        of_text: true,
+        kept,
+    }
 }
 
-// A pair of tables as columns, and a walk over it where one is given.
-fn judged(
-    t: Tally,
-    name: &[u8],
+fn of_tables(got: Reply, checked: Reply) -> Answers {
+    Answers {
+        got,
+        checked,
+        of_text: false,
+        kept: true,
+    }
+}
+
+// A pair of tables as columns.
+fn check_replies(
     cost: &[u32],
     inner: &[u16],
     first: &[u16],
@@ -238,10 +239,8 @@ fn judged(
     header: &[u16],
     limit: &[u32],
     multiplier: &[u64],
-    walked: bool,
-    steps: &[u16],
-    wanted: &[u8],
-) -> Tally {
+) -> Answers {
+    let no_walk = [0u16; 1];
     let checked = stepping::reply(
         cost,
         inner,
@@ -252,24 +251,9 @@ fn judged(
         header,
         limit,
         multiplier,
-        walked,
-        steps,
+        false,
+        &no_walk,
     );
-    if walked {
-        let got = rolkeyda::rolkeyda_walk(
-            cost,
-            inner,
-            first,
-            second,
-            figure,
-            parent,
-            header,
-            limit,
-            multiplier,
-            steps,
-        );
-        return t.told(name, got, checked, wanted, false, true);
-    }
     let got = rolkeyda::rolkeyda_check(
         cost,
         inner,
@@ -281,13 +265,93 @@ fn judged(
         limit,
         multiplier,
     );
-    t.told(name, got, checked, wanted, false, true)
+    of_tables(got, checked)
 }
 
-// The first n and m places of columns, of column number `shorter` one less, and the first blocks of a walk, `length` of them.
+// A walk over a pair of tables as columns.
+fn walk_replies(
+    cost: &[u32],
+    inner: &[u16],
+    first: &[u16],
+    second: &[u16],
+    figure: &[i64],
+    parent: &[u16],
+    header: &[u16],
+    limit: &[u32],
+    multiplier: &[u64],
+    steps: &[u16],
+) -> Answers {
+    let checked = stepping::reply(
+        cost,
+        inner,
+        first,
+        second,
+        figure,
+        parent,
+        header,
+        limit,
+        multiplier,
+        true,
+        steps,
+    );
+    let got = rolkeyda::rolkeyda_walk(
+        cost,
+        inner,
+        first,
+        second,
+        figure,
+        parent,
+        header,
+        limit,
+        multiplier,
+        steps,
+    );
+    of_tables(got, checked)
+}
+
+// A pair of tables, or a walk over it.
+fn replies(
+    cost: &[u32],
+    inner: &[u16],
+    first: &[u16],
+    second: &[u16],
+    figure: &[i64],
+    parent: &[u16],
+    header: &[u16],
+    limit: &[u32],
+    multiplier: &[u64],
+    walked: bool,
+    steps: &[u16],
+) -> Answers {
+    if walked {
+        return walk_replies(
+            cost,
+            inner,
+            first,
+            second,
+            figure,
+            parent,
+            header,
+            limit,
+            multiplier,
+            steps,
+        );
+    }
+    check_replies(
+        cost,
+        inner,
+        first,
+        second,
+        figure,
+        parent,
+        header,
+        limit,
+        multiplier,
+    )
+}
+
+// The first n and m places of columns, of column number `shorter` one less.
 pub fn columns(
-    t: Tally,
-    name: &[u8],
     n: usize,
     m: usize,
     shorter: usize,
@@ -300,14 +364,8 @@ pub fn columns(
     header: &[u16],
     limit: &[u32],
     multiplier: &[u64],
-    walked: bool,
-    length: usize,
-    steps: &[u16],
-    wanted: &[u8],
-) -> Tally {
-    judged(
-        t,
-        name,
+) -> Answers {
+    check_replies(
         first_u32(cost, n, shorter, 0),
         first_u16(inner, n, shorter, 1),
         first_u16(first, n, shorter, 2),
@@ -317,33 +375,17 @@ pub fn columns(
         first_u16(header, m, shorter, 6),
         first_u32(limit, m, shorter, 7),
         first_u64(multiplier, m, shorter, 8),
-        walked,
-        first_u16(steps, length, NONE, 0),
-        wanted,
     )
 }
 
-// A pair of tables as texts, and a walk over it where one is given.
-pub fn texts(
-    t: Tally,
-    name: &[u8],
-    block_text: &[u8],
-    loop_text: &[u8],
-    walked: bool,
-    length: usize,
-    steps: &[u16],
-    wanted: &[u8],
-) -> Tally {
+// A pair of tables as texts, and a walk over it where one is given. First the blocks are read, then the loops.
+pub fn texts(block_text: &[u8], loop_text: &[u8], walked: bool, steps: &[u16]) -> Answers {
     let mut cost = [0u32; 32];
     let mut inner = [0u16; 32];
     let mut first = [0u16; 32];
     let mut second = [0u16; 32];
     let mut figure = [0i64; 32];
-    let mut parent = [0u16; 32];
-    let mut header = [0u16; 32];
-    let mut limit = [0u32; 32];
-    let mut multiplier = [0u64; 32];
-    let b = rolkeyda::rolkeyda_read_blocks(
+    let got = rolkeyda::rolkeyda_read_blocks(
         block_text,
         false,
         &mut cost,
@@ -352,7 +394,34 @@ pub fn texts(
         &mut second,
         &mut figure,
     );
-    let l = rolkeyda::rolkeyda_read_loops(
+    let n = count_of(got);
+    with_loops(
+        first_u32(&cost, n, NONE, 0),
+        first_u16(&inner, n, NONE, 1),
+        first_u16(&first, n, NONE, 2),
+        first_u16(&second, n, NONE, 3),
+        first_i64(&figure, n, NONE, 4),
+        loop_text,
+        walked,
+        steps,
+    )
+}
+
+fn with_loops(
+    cost: &[u32],
+    inner: &[u16],
+    first: &[u16],
+    second: &[u16],
+    figure: &[i64],
+    loop_text: &[u8],
+    walked: bool,
+    steps: &[u16],
+) -> Answers {
+    let mut parent = [0u16; 32];
+    let mut header = [0u16; 32];
+    let mut limit = [0u32; 32];
+    let mut multiplier = [0u64; 32];
+    let got = rolkeyda::rolkeyda_read_loops(
         loop_text,
         false,
         &mut parent,
@@ -360,24 +429,18 @@ pub fn texts(
         &mut limit,
         &mut multiplier,
     );
-    columns(
-        t,
-        name,
-        count_of(b),
-        count_of(l),
-        NONE,
-        &cost,
-        &inner,
-        &first,
-        &second,
-        &figure,
-        &parent,
-        &header,
-        &limit,
-        &multiplier,
+    let m = count_of(got);
+    replies(
+        cost,
+        inner,
+        first,
+        second,
+        figure,
+        first_u16(&parent, m, NONE, 5),
+        first_u16(&header, m, NONE, 6),
+        first_u32(&limit, m, NONE, 7),
+        first_u64(&multiplier, m, NONE, 8),
         walked,
-        length,
         steps,
-        wanted,
     )
 }

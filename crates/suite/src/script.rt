@@ -4,6 +4,7 @@ use crate::making::declare_all;
 use crate::making::make_steps;
 use crate::making::make_text;
 use crate::parts::NONE;
+use crate::parts::first_u16;
 use crate::parts::part;
 use crate::reading::Digits;
 use crate::reading::with_digit;
@@ -11,6 +12,7 @@ use crate::running::blocks_into;
 use crate::running::columns;
 use crate::running::loops_into;
 use crate::running::texts;
+use crate::tally::Answers;
 use crate::tally::Tally;
 
 struct Span {
@@ -88,62 +90,41 @@ fn number_or(line: &[u8], k: usize, other: usize) -> usize {
 }
 
 // header setting | text | places | shorter column
-fn read_case(t: Tally, line: &[u8], of_blocks: bool) -> Tally {
+fn read_case(line: &[u8], of_blocks: bool) -> Answers {
     let mut text = [0u8; 65600];
     let n = make_text(field(line, 4), of_blocks, &mut text);
     let header = first_byte(field(line, 3)) == b'p';
+    let room = number_or(line, 5, if of_blocks { 1026 } else { 66 });
     let shorter = number_or(line, 6, NONE);
     if of_blocks {
-        let room = number_or(line, 5, 1026);
-        return blocks_into(
-            t,
-            field(line, 1),
-            room,
-            shorter,
-            part(&text, 0, n),
-            header,
-            field(line, 2),
-        );
+        return blocks_into(room, shorter, part(&text, 0, n), header);
     }
-    let room = number_or(line, 5, 66);
-    loops_into(
-        t,
-        field(line, 1),
-        room,
-        shorter,
-        part(&text, 0, n),
-        header,
-        field(line, 2),
-    )
+    loops_into(room, shorter, part(&text, 0, n), header)
 }
 
 // block text | loop text
-fn routine_case(t: Tally, line: &[u8], walked: bool, length: usize, steps: &[u16]) -> Tally {
+fn routine_case(line: &[u8], walked: bool, steps: &[u16]) -> Answers {
     let mut block_text = [0u8; 1024];
     let mut loop_text = [0u8; 1024];
     let n = make_text(field(line, 3), true, &mut block_text);
     let m = make_text(field(line, 4), false, &mut loop_text);
     texts(
-        t,
-        field(line, 1),
         part(&block_text, 0, n),
         part(&loop_text, 0, m),
         walked,
-        length,
         steps,
-        field(line, 2),
     )
 }
 
 // block text | loop text | walk
-fn walk_case(t: Tally, line: &[u8], walked: bool) -> Tally {
+fn walk_case(line: &[u8], walked: bool) -> Answers {
     let mut steps = [0u16; 64];
     let length = make_steps(field(line, 5), &mut steps);
-    routine_case(t, line, walked, length, &steps)
+    routine_case(line, walked, first_u16(&steps, length, NONE, 0))
 }
 
 // blocks | loops | whether the loops are nested | shorter column: blocks without edges, costs and figures
-fn sized_case(t: Tally, line: &[u8]) -> Tally {
+fn sized_case(line: &[u8]) -> Answers {
     let cost = [0u32; 1026];
     let mut inner = [0u16; 1026];
     let first = [65535u16; 1026];
@@ -153,18 +134,10 @@ fn sized_case(t: Tally, line: &[u8]) -> Tally {
     let mut header = [0u16; 66];
     let limit = [1u32; 66];
     let multiplier = [0u64; 66];
-    let steps = [0u16; 1];
     let m = number(field(line, 4));
-    declare_all(
-        &mut inner,
-        &mut parent,
-        &mut header,
-        m,
-        first_byte(field(line, 5)) == b'n',
-    );
+    let nested = first_byte(field(line, 5)) == b'n';
+    declare_all(&mut inner, &mut parent, &mut header, m, nested);
     columns(
-        t,
-        field(line, 1),
         number(field(line, 3)),
         m,
         number_or(line, 6, NONE),
@@ -177,19 +150,15 @@ fn sized_case(t: Tally, line: &[u8]) -> Tally {
         &header,
         &limit,
         &multiplier,
-        false,
-        0,
-        &steps,
-        field(line, 2),
     )
 }
 
 // block text | loop text | length: the walk 0 1 1 .. 1 2
-fn long_case(t: Tally, line: &[u8]) -> Tally {
+fn long_case(line: &[u8]) -> Answers {
     let mut steps = [1u16; 1048577];
     let length = number(field(line, 5));
     set_ends(&mut steps, length);
-    long_steps(t, line, length, &steps)
+    long_steps(line, length, &steps)
 }
 
 fn set_ends(steps: &mut [u16; 1048577], length: usize) {
@@ -203,26 +172,31 @@ fn set_ends(steps: &mut [u16; 1048577], length: usize) {
     steps[length - 1] = 2;
 }
 
-fn long_steps(t: Tally, line: &[u8], length: usize, steps: &[u16; 1048577]) -> Tally {
-    routine_case(t, line, true, length, steps)
+fn long_steps(line: &[u8], length: usize, steps: &[u16; 1048577]) -> Answers {
+    routine_case(line, true, first_u16(steps, length, NONE, 0))
 }
 
-// A line that starts with none of these letters is a heading.
-fn case(t: Tally, line: &[u8]) -> Tally {
+// By its first letter; what is none of the others is a run.
+fn replies_to(line: &[u8]) -> Answers {
     let kind = first_byte(line);
     if (kind == b'b') | (kind == b'l') {
-        return read_case(t, line, kind == b'b');
+        return read_case(line, kind == b'b');
     }
     if (kind == b't') | (kind == b'w') {
-        return walk_case(t, line, kind == b'w');
+        return walk_case(line, kind == b'w');
     }
     if kind == b's' {
-        return sized_case(t, line);
+        return sized_case(line);
     }
-    if kind == b'r' {
-        return long_case(t, line);
+    long_case(line)
+}
+
+// A line that starts with # is a heading.
+fn case(t: Tally, line: &[u8]) -> Tally {
+    if first_byte(line) == b'#' {
+        return t;
     }
-    t
+    t.told(field(line, 1), replies_to(line), field(line, 2))
 }
 
 // Runs every case of the text.

@@ -13,6 +13,14 @@ pub struct Tally {
     pub wrong: u64,
 }
 
+// Both replies to a case, whether they are a reader's, and whether the columns are as they should be.
+pub struct Answers {
+    pub got: Reply,
+    pub checked: Reply,
+    pub of_text: bool,
+    pub kept: bool,
+}
+
 pub fn accepted(value: i64, more: u64) -> Reply {
     Reply {
         number: 0,
@@ -130,24 +138,17 @@ impl Tally {
         Tally { cases: 0, wrong: 0 }
     }
 
-    // One more case: the library's reply, the checker's, the one that it should be, whether they are a reader's, and whether the columns are as
-    // they should be.
-    pub fn told(
-        mut self,
-        name: &[u8],
-        got: Reply,
-        checked: Reply,
-        wanted: &[u8],
-        of_text: bool,
-        kept: bool,
-    ) -> Tally {
-        let right = kept & same(got, checked) & is_worded(got, of_text, wanted);
+    // One more case: its name, the replies, and the one that both should be.
+    pub fn told(mut self, name: &[u8], a: Answers, wanted: &[u8]) -> Tally {
+        let got = a.got;
+        let checked = a.checked;
+        let right = a.kept & same(got, checked) & is_worded(got, a.of_text, wanted);
         say(name);
         say(b": ");
-        say_reply(got, of_text);
+        say_reply(got, a.of_text);
         self.cases = more(self.cases);
         if !right {
-            say_wrong(wanted, checked, of_text, kept);
+            say_wrong(wanted, checked, a.of_text, a.kept);
             self.wrong = more(self.wrong);
         }
         say(b"\n");
