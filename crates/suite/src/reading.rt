@@ -17,7 +17,7 @@ const MARK: u8 = 3;
 
 const RETURN: u8 = 4;
 
-// What ends a record, by the numbers of the replies. An empty text counts as ended by the end of the text.
+// What ends a record, by the numbers of the replies.
 const CR_LF: u64 = 0;
 
 const LF: u64 = 1;
@@ -26,14 +26,11 @@ const TEXT_END: u64 = 2;
 
 struct Reading {
     state: u8,
-    // whether the record has begun, and whether the last byte ended it
-    begun: bool,
-    ended: bool,
     // the number of the refusal, 0 while there is none
     fault: u32,
     record: usize,
     row: usize,
-    // the present record's line end, the end of the text until another is found, and the first record's
+    // the present record's line end and the first record's: the end of the text until another one is read
     line_end: u64,
     first_end: u64,
     // of the present record: the fields so far, whether one of them is no number of its column, and what they say
@@ -151,8 +148,6 @@ impl Reading {
     fn new() -> Self {
         Reading {
             state: START,
-            begun: false,
-            ended: false,
             fault: 0,
             record: 1,
             row: 0,
@@ -205,7 +200,6 @@ impl Reading {
 
     fn line_ended(mut self, line_end: u64, columns: usize) -> Reading {
         self.line_end = line_end;
-        self.ended = true;
         self.field_ended(columns)
     }
 
@@ -263,8 +257,7 @@ impl Reading {
         self.line_ended(CR_LF, columns)
     }
 
-    fn with(mut self, b: u8, columns: usize) -> Reading {
-        self.begun = true;
+    fn with(self, b: u8, columns: usize) -> Reading {
         let state = self.state;
         if state == QUOTED {
             return self.in_quotes(b);
@@ -331,8 +324,6 @@ impl Reading {
         self.record = plus(self.record, 1);
         self.fields = 0;
         self.bad = false;
-        self.begun = false;
-        self.ended = false;
         self.line_end = TEXT_END;
         self.values[6] = 0;
         self
@@ -343,7 +334,7 @@ impl Reading {
             return self;
         }
         let next = self.with(b, columns);
-        if next.ended & (next.fault == 0) {
+        if (next.line_end != TEXT_END) & (next.fault == 0) {
             return next.record_ended(header, columns, room, out);
         }
         next
@@ -352,7 +343,8 @@ impl Reading {
     // The text ends: so does a record that has begun, unless a quote is open or a CR has no LF.
     fn end(mut self, header: bool, columns: usize, room: usize, out: &mut RowCells) -> Reading {
         let state = self.state;
-        if (self.fault != 0) | !self.begun {
+        let begun = (self.fields != 0) | (state != START);
+        if (self.fault != 0) | !begun {
             return self;
         }
         if (state == QUOTED) | (state == RETURN) {

@@ -81,7 +81,8 @@ fn accepted_word(r: Reply, of_text: bool, out: &mut [u8]) -> usize {
     let start = push(out, 0, b"accepted ");
     let value = push_signed(out, start, r.value);
     if of_text {
-        return push_line_end(out, value, r.more);
+        let words = named(r.more, b", CR LF", b", LF", b", end of text");
+        return push(out, value, words);
     }
     if r.more == 0 {
         return value;
@@ -90,17 +91,12 @@ fn accepted_word(r: Reply, of_text: bool, out: &mut [u8]) -> usize {
     push_number(out, steps, from_u64(r.more))
 }
 
-fn push_line_end(out: &mut [u8], at: usize, line_end: u64) -> usize {
+// The words of a line end, by its number in the reply.
+fn named<'a>(line_end: u64, cr_lf: &'a [u8], lf: &'a [u8], text_end: &'a [u8]) -> &'a [u8] {
     if line_end == 0 {
-        return push(out, at, b", CR LF");
+        return cr_lf;
     }
-    if line_end == 1 {
-        return push(out, at, b", LF");
-    }
-    if line_end == 2 {
-        return push(out, at, b", end of text");
-    }
-    push(out, at, b", no line end")
+    if line_end == 1 { lf } else { text_end }
 }
 
 pub fn say(words: &[u8]) {
