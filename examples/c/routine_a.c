@@ -18,9 +18,6 @@ static const char loops_csv[] =
     "0,0,0,1,0\n"
     "1,0,1,4,8\n";
 
-/* The line ends by their numbers, ROLKEYDA_CR_LF, ROLKEYDA_LF and ROLKEYDA_END_OF_TEXT. */
-static const char *const line_ends[] = {"CR LF", "LF", "no"};
-
 static const uint16_t three_rounds[] = {0, 1, 2, 1, 2, 1, 2, 1, 3};
 static const uint16_t four_rounds[] = {0, 1, 2, 1, 2, 1, 2, 1, 2, 1, 3};
 
@@ -42,6 +39,12 @@ static int refused(const char *stage, rolkeyda_reply reply)
     return 1;
 }
 
+/* The line end of a text's first record. */
+static const char *line_end(rolkeyda_reply reply)
+{
+    return reply.more == ROLKEYDA_CR_LF ? "CR LF" : reply.more == ROLKEYDA_LF ? "LF" : "no";
+}
+
 static int read_tables(void)
 {
     rolkeyda_reply blocks = rolkeyda_read_blocks(
@@ -59,7 +62,7 @@ static int read_tables(void)
     if (table.number != 0)
         return refused("loops", table);
     m = (size_t)table.value;
-    printf("%zu blocks, %s line ends\n%zu loops, %s line ends\n", n, line_ends[blocks.more], m, line_ends[table.more]);
+    printf("%zu blocks, %s line ends\n%zu loops, %s line ends\n", n, line_end(blocks), m, line_end(table));
     return 0;
 }
 
