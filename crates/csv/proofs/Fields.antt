@@ -162,6 +162,21 @@ found-after at n (b ∷ t) = go (isComma b) (isCr b) (isLf b)
 pub found-from : (s : List ℕ) (at n e : ℕ) → e ≡ at + n → foundAt e (following 0 (drop e s)) ≡ foundAt at (following n (drop n (drop at s)))
 found-from s at n e i = rw (i, drop-drop n at s) (found-after at n (drop (at + n) s))
 
+-- Each way through `after_cr`.
+module _ (s : List ℕ) (e : ℕ) (h : e < length s) where
+  pub cr-last : length s - e ≡ 1 → Broken ≡ foundAt e (lineFeed 0 (drop (e + 1) s))
+  cr-last l = rw (drop-of-length-le s {i = e + 1} (omega arith))
+
+  module _ (l : length s - e ≡ 1 → ⊥) where
+    in-text : e + 1 < length s
+    in-text = omega arith
+
+    pub cr-lf : getD s (e + 1) 0 ≡ 10 → Ends CrLf e ≡ foundAt e (lineFeed 0 (drop (e + 1) s))
+    cr-lf w = rw (next-byte s (e + 1) in-text, eq-eqb _ _ w, add-zero)
+
+    pub cr-other : (getD s (e + 1) 0 ≡ 10 → ⊥) → Broken ≡ foundAt e (lineFeed 0 (drop (e + 1) s))
+    cr-other w = rw (next-byte s (e + 1) in-text, ne-eqb _ _ w)
+
 -- Each way through `follow`.
 module _ (s : List ℕ) (e : ℕ) where
   pub follow-last : length s ≤ e → Ends EndOfText e ≡ foundAt e (following 0 (drop e s))
@@ -173,31 +188,17 @@ module _ (s : List ℕ) (e : ℕ) where
     unfolding following
     follow-comma m = rw (next-byte s e h, eq-eqb _ _ m, add-zero)
 
+    pub follow-cr : getD s e 0 ≡ 13 → {r : Found} → r ≡ foundAt e (lineFeed 0 (drop (e + 1) s)) → r ≡ foundAt e (following 0 (drop e s))
+    unfolding following
+    follow-cr m q = q ∙ rw (next-byte s e h, m)
+
     pub follow-lf : getD s e 0 ≡ 10 → Ends Lf e ≡ foundAt e (following 0 (drop e s))
     unfolding following
     follow-lf m = rw (next-byte s e h, m, add-zero)
 
-    pub follow-other : (getD s e 0 ≡ 44 → ⊥) → (getD s e 0 ≡ 10 → ⊥) → (getD s e 0 ≡ 13 → ⊥) → Broken ≡ foundAt e (following 0 (drop e s))
+    pub follow-other : (getD s e 0 ≡ 44 → ⊥) → (getD s e 0 ≡ 13 → ⊥) → (getD s e 0 ≡ 10 → ⊥) → Broken ≡ foundAt e (following 0 (drop e s))
     unfolding following
-    follow-other m l o = rw (next-byte s e h, ne-eqb _ _ m, ne-eqb _ _ o, ne-eqb _ _ l)
-
-    module _ (m : getD s e 0 ≡ 44 → ⊥) (o : getD s e 0 ≡ 13) where
-      after-cr : following 0 (drop e s) ≡ lineFeed 0 (drop (e + 1) s)
-      unfolding following
-      after-cr = rw (next-byte s e h, ne-eqb _ _ m, eq-eqb _ _ o)
-
-      pub follow-cr-last : length s - e ≡ 1 → Broken ≡ foundAt e (following 0 (drop e s))
-      follow-cr-last l = rw (after-cr, drop-of-length-le s {i = e + 1} (omega arith))
-
-      module _ (l : length s - e ≡ 1 → ⊥) where
-        in-text : e + 1 < length s
-        in-text = omega arith
-
-        pub follow-line : getD s (e + 1) 0 ≡ 10 → Ends CrLf e ≡ foundAt e (following 0 (drop e s))
-        follow-line w = rw (after-cr, next-byte s (e + 1) in-text, eq-eqb _ _ w, add-zero)
-
-        pub follow-cr-other : (getD s (e + 1) 0 ≡ 10 → ⊥) → Broken ≡ foundAt e (following 0 (drop e s))
-        follow-cr-other w = rw (after-cr, next-byte s (e + 1) in-text, ne-eqb _ _ w)
+    follow-other m o l = rw (next-byte s e h, ne-eqb _ _ m, ne-eqb _ _ o, ne-eqb _ _ l)
 
 -- A field that ends at e: how many bytes it has, and that what stands at e decides.
 closed : (x : Extent) (t : List ℕ) (at e : ℕ) → At e ≡ closeAt at mostFieldBytes x → (n : ℕ) × (e ≡ at + n) × (limited t x ≡ following n (drop n t))

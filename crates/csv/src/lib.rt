@@ -1,10 +1,10 @@
 // Comma-separated text by RFC 4180, with LF beside CR LF: where a field ends, how a record splits into fields, and a field without its quote
 // marks.
 ghost use mathlib.Core.Path.{_≡_};
-ghost use Prim.Native.Nat.{_+_};
-ghost use lib.ListN.{drop};
+ghost use Prim.Native.Nat.{_+_, _<_};
+ghost use lib.ListN.{length, drop};
 ghost use Rattle.limits.specs.Limits.{mostFieldBytes};
-ghost use Rattle.csv.specs.Grammar.{isText, plain, insideQuotes, afterQuote, extent, following, field, recordOf, records, firstEnding, alike, width};
+ghost use Rattle.csv.specs.Grammar.{isText, plain, insideQuotes, afterQuote, extent, lineFeed, following, field, recordOf, records, firstEnding, alike, width};
 ghost use Rattle.csv.specs.Place.{closeAt, foundAt, splitOf, noPlaces, note, partOf, fieldAt, inner};
 use limits::MOST_FIELD_BYTES;
 
@@ -118,6 +118,21 @@ fn field_close(text: &[u8], at: usize) -> Close
     }
 }
 
+// What follows a field that ends at `end`, where a CR stands: it ends the record with an LF after it only.
+fn after_cr(text: &[u8], end: usize) -> Found
+    requires { ⌜ end < length (now text) ⌝ }
+    ensures { λ r. ⌜ r ≡ foundAt end (lineFeed 0 (drop (end + 1) (now (text .entry)))) ⌝ }
+{
+    if text.len() - end == 1 {
+        return Found::Broken;
+    }
+    if text[end + 1] == 10 {
+        Found::Ends(Ending::CrLf, end)
+    } else {
+        Found::Broken
+    }
+}
+
 // What follows a field that ends at `end`.
 pub fn follow(text: &[u8], end: usize) -> Found
     ensures { λ r. ⌜ r ≡ foundAt end (following 0 (drop end (now (text .entry)))) ⌝ }
@@ -129,17 +144,11 @@ pub fn follow(text: &[u8], end: usize) -> Found
     if b == b',' {
         return Found::Comma(end);
     }
+    if b == 13 {
+        return after_cr(text, end);
+    }
     if b == 10 {
-        return Found::Ends(Ending::Lf, end);
-    }
-    if b != 13 {
-        return Found::Broken;
-    }
-    if text.len() - end == 1 {
-        return Found::Broken;
-    }
-    if text[end + 1] == 10 {
-        Found::Ends(Ending::CrLf, end)
+        Found::Ends(Ending::Lf, end)
     } else {
         Found::Broken
     }
