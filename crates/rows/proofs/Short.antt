@@ -12,6 +12,7 @@ use Rattle.csv.specs.declared.Ending.{Ending}
 use Rattle.csv.specs.declared.Found.the-variants.{Comma, Ends}
 use Rattle.csv.proofs.Reading.{Reads, reads-last, reads-comma}
 use Rattle.numbers.specs.declared.Value.{Value}
+use Rattle.numbers.specs.declared.Value.the-variants.{Number}
 use Rattle.numbers.specs.declared.SignedValue.{SignedValue}
 use Rattle.cells.specs.Cell.{unsigned, signed, cellAt, signedCellAt}
 use Rattle.cells.specs.declared.Cell.{Cell}
@@ -46,6 +47,10 @@ last-room s at q i x e f {n} w = let y = signed-ends s at q i x e f in rw w (y .
 module _ (s : List ℕ) (at greatest : ℕ) {r : CommaCell} (q : CommaAt s at greatest r) (v : Value) (e : ℕ) (f : r ≡ Field v e) where
   pub comma-of : CommaField s at e greatest v
   comma-of = subst (CommaAt s at greatest) f q
+
+  -- Each way through `number_field`.
+  pub number-found : (n : ℕ) → v ≡ Number n → CommaField s at e greatest (Number n)
+  number-found n g = subst (CommaField s at e greatest) g comma-of
 
 -- all six fields
 module _ (s : List ℕ) (first : Ending) (p₀ : ℕ) {r₀ : CommaCell} (q₀ : CommaAt s p₀ 65535 r₀) (n : Value) (e₀ : ℕ) (w₀ : r₀ ≡ Field n e₀) {r₁ : CommaCell} (q₁ : CommaAt s (e₀ + 1) (2 ^ 32 - 1) r₁) (c : Value) (e₁ : ℕ) (w₁ : r₁ ≡ Field c e₁) {r₂ : CommaCell} (q₂ : CommaAt s (e₁ + 1) 65535 r₂) (l : Value) (e₂ : ℕ) (w₂ : r₂ ≡ Field l e₂) {r₃ : CommaCell} (q₃ : CommaAt s (e₂ + 1) 65534 r₃) (a : Value) (e₃ : ℕ) (w₃ : r₃ ≡ Field a e₃) {r₄ : CommaCell} (q₄ : CommaAt s (e₃ + 1) 65534 r₄) (b : Value) (e₄ : ℕ) (w₄ : r₄ ≡ Field b e₄) {r₅ : LastCell} (q₅ : LastAt s first (e₄ + 1) r₅) (z : SignedValue) (next : ℕ) (w₅ : r₅ ≡ Last z next) where

@@ -344,6 +344,19 @@ fn comma_cell(text: &[u8], at: usize, greatest: u64) -> CommaCell
     CommaCell::Field(value, end)
 }
 
+// The same of a field that must be a number: any other needs the long way.
+fn number_field(text: &[u8], at: usize, greatest: u64) -> CommaCell
+    ensures { λ r. ⌜ CommaAt (now (text .entry)) at greatest r ⌝ }
+{
+    let CommaCell::Field(value, end) = comma_cell(text, at, greatest) else {
+        return CommaCell::Other;
+    };
+    let Value::Number(n) = value else {
+        return CommaCell::Other;
+    };
+    CommaCell::Field(Value::Number(n), end)
+}
+
 // The last field of a record, where it is digits alone, or a minus sign and digits, and the record ends as it may.
 fn last_cell(text: &[u8], at: usize, ending: Ending) -> LastCell
     requires { ⌜ at ≤ length (now text) ⌝ }
@@ -365,13 +378,13 @@ fn last_cell(text: &[u8], at: usize, ending: Ending) -> LastCell
 fn short_block(text: &[u8], at: usize, ending: Ending) -> ShortBlock
     ensures { λ r. ⌜ ShortAt (now (text .entry)) ending at r ⌝ }
 {
-    let CommaCell::Field(number, a) = comma_cell(text, at, 65535) else {
+    let CommaCell::Field(number, a) = number_field(text, at, 65535) else {
         return ShortBlock::Other;
     };
-    let CommaCell::Field(cost, b) = comma_cell(text, a + 1, 4294967295) else {
+    let CommaCell::Field(cost, b) = number_field(text, a + 1, 4294967295) else {
         return ShortBlock::Other;
     };
-    let CommaCell::Field(innermost, c) = comma_cell(text, b + 1, 65535) else {
+    let CommaCell::Field(innermost, c) = number_field(text, b + 1, 65535) else {
         return ShortBlock::Other;
     };
     let CommaCell::Field(first, d) = comma_cell(text, c + 1, 65534) else {
