@@ -118,7 +118,7 @@ fn field_close(text: &[u8], at: usize) -> Close
     }
 }
 
-// What follows a field that ends at `end`, where a CR stands: it ends the record with an LF after it only.
+// What follows a field that ends at `end`, where a CR stands: the record ends there only if an LF comes next.
 fn after_cr(text: &[u8], end: usize) -> Found
     requires { ⌜ end < length (now text) ⌝ }
     ensures { λ r. ⌜ r ≡ foundAt end (lineFeed 0 (drop (end + 1) (now (text .entry)))) ⌝ }

@@ -305,8 +305,7 @@ fn scanned_block(text: &[u8], at: usize, k: usize, room: usize, ending: Ending) 
     BlockStep { verdict, next }
 }
 
-// The record that starts at `at`, where loop k is due and `room` loops have a place. `ending` is how the first record of
-// the text ends.
+// The record that starts at `at`, where loop k is due and `room` loops have a place. The first record of the text ends in the way `ending`.
 pub fn loop_at(text: &[u8], at: usize, k: usize, room: usize, ending: Ending) -> LoopStep
     ensures { λ r. ⌜ r ≡ loopStep room ending k at (recordOf (drop at (now (text .entry)))) ⌝ }
 {
@@ -407,8 +406,7 @@ fn short_block(text: &[u8], at: usize, ending: Ending) -> ShortBlock
     ShortBlock::Cells(cells, next)
 }
 
-// The record that starts at `at`, where block k is due and `room` blocks have a place. `ending` is how the first record of
-// the text ends.
+// The record that starts at `at`, where block k is due and `room` blocks have a place. The first record of the text ends in the way `ending`.
 pub fn block_at(text: &[u8], at: usize, k: usize, room: usize, ending: Ending) -> BlockStep
     ensures { λ r. ⌜ r ≡ blockStep room ending k at (recordOf (drop at (now (text .entry)))) ⌝ }
 {

@@ -92,7 +92,7 @@ fn start_of(text: &[u8], header_row: bool, count: usize) -> Start
     }
 }
 
-// The records from `at` on, of which row 0 stands in record `start`, into columns. `ending` is how the first record of the text ends.
+// The records from `at` on, of which row 0 stands in record `start`, into columns. The first record of the text ends in the way `ending`.
 fn gather_blocks(
     text: &[u8],
     at: usize,
