@@ -18,7 +18,7 @@ use std::sync::atomic::{AtomicU64, Ordering};
 use texts::{Case, Table};
 
 const FUNCTIONS: [&str; 4] = ["read_blocks", "read_loops", "check", "walk"];
-const NUMBERS: [u32; 23] = [0, 101, 102, 103, 104, 105, 106, 108, 201, 202, 203, 204, 205, 206, 207, 208, 301, 302, 303, 311, 312, 313, 314];
+const NUMBERS: [u32; 24] = [0, 101, 102, 103, 104, 105, 106, 108, 201, 202, 203, 204, 205, 206, 207, 208, 209, 301, 302, 303, 311, 312, 313, 314];
 /// The readers' replies that depend on line ends: number and more. Each is wanted from both readers, with and without a header row.
 const LINE_ENDS: [(&str, u32, u64); 4] = [("CR LF", 0, 0), ("LF", 0, 1), ("text", 0, 2), ("108", 108, 0)];
 const PARTS: u64 = 64;

@@ -116,7 +116,7 @@ fn marked(t: &mut Tester) {
     let cycle = tables_of("0,1,0,1,,3|1,1,0,2,,2|2,1,0,1,3,1|3,1,0,,,0", "0,0,0,1,0");
     t.check("marked: a cycle of no loop that costs", &cycle, Refused(208, 2));
     let cycle = tables_of("0,1,0,1,,1|1,0,0,2,,1|2,0,0,1,3,1|3,1,0,,,0", "0,0,0,1,0");
-    t.check("marked: a cycle of no loop that costs nothing", &cycle, Accepted(2, 0));
+    t.check("marked: a cycle of no loop that costs nothing", &cycle, Refused(209, 0));
 }
 
 /// An outer loop 1 (blocks 1, 3) of limit 3 around an inner loop 2 (block 2, which names itself) of limit 2.
@@ -618,7 +618,7 @@ fn tables(t: &mut Tester) {
         ("both successors the same", |x| x.blocks.second[0] = 1, Accepted(30, 0)),
         ("the header names itself", |x| x.blocks.second[1] = 1, Accepted(30, 0)),
         ("a block that is no header names itself", |x| x.blocks.second[2] = 2, Refused(208, 2)),
-        ("and costs nothing", |x| (x.blocks.second[2], x.blocks.cost[2]) = (2, 0), Accepted(30, 0)),
+        ("and costs nothing", |x| (x.blocks.second[2], x.blocks.cost[2]) = (2, 0), Refused(209, 0)),
         ("the exit in a loop", |x| x.blocks.inner[3] = 1, Accepted(30, 0)),
     ];
     for (name, change, wanted) in cases {

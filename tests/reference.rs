@@ -1,4 +1,4 @@
-//! The rules of document 01 and request 1 of document 02, written from the papers alone and naive on purpose: lists in place of sets, wide
+//! The rules of document 01 and requests 1 and 2 of document 02, written from the papers alone and naive on purpose: lists in place of sets, wide
 //! numbers in place of care.
 
 /// A refusal: its number and its place.
@@ -308,11 +308,57 @@ fn kept(blocks: &Blocks, loops: &Loops, around: &[Vec<usize>], u: usize, v: usiz
     }
 }
 
+/// Where the edges out of `u` end that do not return: not at the header of a loop that `u` is inside.
+fn onward(blocks: &Blocks, loops: &Loops, around: &[Vec<usize>], u: usize) -> Vec<usize> {
+    let headers: Vec<usize> = around[u].iter().map(|l| usize::from(loops.header[*l])).collect();
+    successors(blocks, u).into_iter().filter(|v| !headers.contains(v)).collect()
+}
+
+/// How far the search has come with a block: not there yet, on the way that it follows now, or done with all that the block leads to.
+#[derive(Clone, Copy, PartialEq)]
+enum Search {
+    Before,
+    OnWay,
+    Done,
+}
+
+/// Whether there is a closed walk of one edge or more, none of which returns. A depth-first search from every block, reachable or not: there
+/// is one if an edge ends on the way that led to it.
+fn undeclared(blocks: &Blocks, loops: &Loops, around: &[Vec<usize>]) -> bool {
+    let mut search = vec![Search::Before; blocks.cost.len()];
+    for start in 0..blocks.cost.len() {
+        if search[start] == Search::Done {
+            continue;
+        }
+        search[start] = Search::OnWay;
+        // the way, each block with the ends of its edges that are left to follow
+        let mut way = vec![(start, onward(blocks, loops, around, start))];
+        while let Some((u, ends)) = way.last_mut() {
+            match ends.pop().map(|v| (v, search[v])) {
+                None => {
+                    search[*u] = Search::Done;
+                    way.pop();
+                }
+                Some((v, Search::Before)) => {
+                    search[v] = Search::OnWay;
+                    way.push((v, onward(blocks, loops, around, v)));
+                }
+                Some((_, Search::OnWay)) => return true,
+                Some((_, Search::Done)) => {}
+            }
+        }
+    }
+    false
+}
+
 /// The bound of an accepted pair of tables.
 pub fn check(blocks: &Blocks, loops: &Loops) -> Result<i64, Refusal> {
     let around = shape(blocks, loops)?;
     let n = blocks.cost.len();
     lowest(208, n, |u| successors(blocks, u).into_iter().any(|v| !kept(blocks, loops, &around, u, v)))?;
+    if undeclared(blocks, loops, &around) {
+        return refuse(209, 0);
+    }
     let bound = i128::from(blocks.cost[0]) + i128::from(blocks.figure[0]) - i128::from(blocks.figure[n - 1]);
     Ok(i64::try_from(bound).unwrap())
 }
