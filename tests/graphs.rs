@@ -1,4 +1,5 @@
-//! Pairs of tables made from structured routines with nested loops, with figures from a longest-path computation; damage to them; and walks.
+//! Pairs of tables made from structured routines with nested loops, with figures from a longest-path computation; circles that no loop
+//! declares; damage to them; and walks.
 
 use crate::random::Random;
 use crate::reference::{Blocks, Loops, MISSING};
@@ -20,6 +21,11 @@ struct Builder<'a> {
     most_blocks: usize,
     most_loops: usize,
     returns: Vec<usize>,
+    /// Whether closed walks that no loop declares are wanted.
+    circles: bool,
+    /// The blocks of cost 0 and the loops of limit 1 on such walks: every inequality can be kept there.
+    free_blocks: Vec<usize>,
+    free_loops: Vec<usize>,
 }
 
 impl Builder<'_> {
@@ -67,6 +73,10 @@ impl Builder<'_> {
         for _ in 0..steps {
             if !self.room(5) {
                 break;
+            }
+            if self.circles && self.random.once_in(3) {
+                open = self.circle(inner, open, deep);
+                continue;
             }
             open = match self.random.below(10) {
                 0 | 1 => {
@@ -138,6 +148,38 @@ impl Builder<'_> {
         after
     }
 
+    /// Statements in a circle that no loop declares, or now and then the same with the loop declared. It is entered and left as usual, or there
+    /// is a way past it, and it may be that nothing leads to it or that it is never left.
+    fn circle(&mut self, inner: usize, open: usize, deep: usize) -> usize {
+        let (blocks, loops) = (self.successors.len(), self.parent.len());
+        let declared = loops < self.most_loops && deep < 15 && self.random.once_in(4);
+        let (l, first) = if declared { self.new_loop(inner) } else { (inner, self.block(inner)) };
+        let steps = self.random.below(4);
+        let last = self.sequence(l, first, steps, deep + usize::from(declared));
+        self.edge(last, first);
+        self.free(blocks, loops);
+        let after = self.block(inner);
+        let passed = self.random.below(3);
+        if passed < 2 {
+            self.edge(open, first);
+        }
+        if passed > 0 {
+            self.edge(open, after);
+        }
+        match self.random.below(4) {
+            0 if passed > 0 => {}
+            1 if passed > 0 => self.edge(last, first),
+            _ => self.edge(last, after),
+        }
+        after
+    }
+
+    /// All blocks and loops from these on are to cost nothing.
+    fn free(&mut self, blocks: usize, loops: usize) {
+        self.free_blocks.extend(blocks..self.successors.len());
+        self.free_loops.extend(loops..self.parent.len());
+    }
+
     /// A second way out of `open`: to the header of a loop around it, or to some block that an edge may reach.
     fn jump(&mut self, inner: usize, open: usize) -> usize {
         let next = self.block(inner);
@@ -204,6 +246,7 @@ fn plan(random: &mut Random) -> Plan {
 /// A routine with its costs and limits, its figures and multipliers made so that many are accepted.
 pub fn routine(random: &mut Random) -> Tables {
     let plan = plan(random);
+    let circles = random.once_in(8);
     let mut b = Builder {
         random,
         successors: vec![Vec::new()],
@@ -213,6 +256,9 @@ pub fn routine(random: &mut Random) -> Tables {
         most_blocks: plan.blocks,
         most_loops: plan.loops,
         returns: Vec::new(),
+        circles,
+        free_blocks: Vec::new(),
+        free_loops: Vec::new(),
     };
     let mut open = 0;
     if plan.nest > 0 {
@@ -227,10 +273,17 @@ pub fn routine(random: &mut Random) -> Tables {
     let steps = b.random.range(1, 8);
     open = b.sequence(0, open, steps, plan.nest);
     if plan.exact {
+        let row = b.successors.len();
         while b.successors.len() + 1 < plan.blocks {
             let next = b.block(0);
             b.edge(open, next);
             open = next;
+        }
+        // the whole row in one circle
+        if b.circles && open >= row {
+            b.edge(open, row);
+            let loops = b.parent.len();
+            b.free(row, loops);
         }
     }
     finish(b, open)
@@ -302,6 +355,7 @@ fn finish(mut b: Builder, open: usize) -> Tables {
     for u in 0..n {
         let at = place[u];
         blocks.cost[at] = match costs {
+            _ if b.free_blocks.contains(&u) => 0,
             0 => 0,
             1 => b.random.below(1_000_001) as u32,
             2 => 1_000_000 - b.random.below(2) as u32,
@@ -324,6 +378,7 @@ fn finish(mut b: Builder, open: usize) -> Tables {
         loops.parent[at] = loop_place[b.parent[l]] as u16;
         loops.header[at] = place[b.header[l]] as u16;
         loops.limit[at] = match limits {
+            _ if b.free_loops.contains(&l) => 1,
             0 => b.random.range(1, 65_535) as u32,
             1 => b.random.pick(&[1, 2, 65_534, 65_535]),
             2 => 1,
@@ -334,7 +389,8 @@ fn finish(mut b: Builder, open: usize) -> Tables {
     tables
 }
 
-fn edges(blocks: &Blocks) -> Vec<(usize, usize)> {
+/// All edges, by source; a doubled one is there twice.
+pub fn edges(blocks: &Blocks) -> Vec<(usize, usize)> {
     let mut edges = Vec::new();
     for u in 0..blocks.cost.len() {
         for v in [blocks.first[u], blocks.second[u]] {

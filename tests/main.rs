@@ -2,6 +2,7 @@
 //! is 'N passed, M failed'. With --long the run has ten times as many cases, from further seeds.
 
 mod abi;
+mod circles;
 mod compare;
 mod graphs;
 mod lent;
@@ -33,6 +34,8 @@ pub struct Tally {
     replies: BTreeMap<(u32, usize), u64>,
     /// The readers' replies by number, more, reader and header row.
     reads: BTreeMap<(u32, u64, usize, bool), u64>,
+    /// The checked tables of each kind of `circles::KINDS`.
+    graphs: [u64; circles::KINDS.len()],
     failures: Vec<String>,
 }
 
@@ -78,7 +81,21 @@ impl Tally {
         for (key, count) in other.reads {
             *self.reads.entry(key).or_default() += count;
         }
+        for (sum, count) in self.graphs.iter_mut().zip(other.graphs) {
+            *sum += count;
+        }
         self.failures.extend(other.failures);
+    }
+
+    /// Counts the kinds that these tables are of, with the number of their reply.
+    fn count_graph(&mut self, tables: &Tables, number: u32) {
+        if (201..208).contains(&number) {
+            return;
+        }
+        let graph = circles::Graph::new(tables);
+        for (count, (reply, _, is)) in self.graphs.iter_mut().zip(circles::KINDS) {
+            *count += u64::from(reply == number && is(&graph));
+        }
     }
 }
 
@@ -147,6 +164,9 @@ fn part(seed: u64, rounds: usize) -> Tally {
         let tables = graphs::tables(&mut random);
         let checked = bench.check(&tables);
         let bound = checked.as_ref().ok().filter(|reply| reply.number == 0).map(|reply| reply.value);
+        if let Ok(reply) = &checked {
+            tally.count_graph(&tables, reply.number);
+        }
         // most walks on tables that are good for walks
         let walks = if checked.as_ref().is_ok_and(|reply| (201..208).contains(&reply.number)) { 1 } else { 4 };
         tally.count(2, checked, || show_tables(&tables));
@@ -160,6 +180,31 @@ fn part(seed: u64, rounds: usize) -> Tally {
         }
     }
     tally
+}
+
+/// Prints how often the cases reached each reply and each kind of table, and tests that this is often enough.
+fn report(tally: &mut Tally) {
+    println!("reply  {:>12} {:>12} {:>12} {:>12}", FUNCTIONS[0], FUNCTIONS[1], FUNCTIONS[2], FUNCTIONS[3]);
+    for number in NUMBERS {
+        let counts: Vec<u64> = (0..4).map(|function| tally.replies.get(&(number, function)).copied().unwrap_or(0)).collect();
+        println!("{number:>5}  {:>12} {:>12} {:>12} {:>12}", counts[0], counts[1], counts[2], counts[3]);
+        let sum: u64 = counts.iter().sum();
+        tally.often(&format!("reply {number}"), sum);
+    }
+    println!("the readers by line end, each without and with a header row");
+    for (name, number, more) in LINE_ENDS {
+        let kinds = [(0, false), (0, true), (1, false), (1, true)];
+        let counts = kinds.map(|(function, header_row)| tally.reads.get(&(number, more, function, header_row)).copied().unwrap_or(0));
+        println!("{name:>5}  {:>12} {:>12} {:>12} {:>12}", counts[0], counts[1], counts[2], counts[3]);
+        for ((function, header_row), count) in kinds.into_iter().zip(counts) {
+            tally.often(&format!("{}, header row {header_row}, {name}", FUNCTIONS[function]), count);
+        }
+    }
+    println!("the checked tables by what their graphs have");
+    for ((number, name, _), count) in circles::KINDS.into_iter().zip(tally.graphs) {
+        println!("{number:>5}  {count:>12} {name}");
+        tally.often(&format!("reply {number} {name}"), count);
+    }
 }
 
 fn main() {
@@ -195,22 +240,7 @@ fn main() {
     for result in results {
         tally.add(result);
     }
-    println!("reply  {:>12} {:>12} {:>12} {:>12}", FUNCTIONS[0], FUNCTIONS[1], FUNCTIONS[2], FUNCTIONS[3]);
-    for number in NUMBERS {
-        let counts: Vec<u64> = (0..4).map(|function| tally.replies.get(&(number, function)).copied().unwrap_or(0)).collect();
-        println!("{number:>5}  {:>12} {:>12} {:>12} {:>12}", counts[0], counts[1], counts[2], counts[3]);
-        let sum: u64 = counts.iter().sum();
-        tally.often(&format!("reply {number}"), sum);
-    }
-    println!("the readers by line end, each without and with a header row");
-    for (name, number, more) in LINE_ENDS {
-        let kinds = [(0, false), (0, true), (1, false), (1, true)];
-        let counts = kinds.map(|(function, header_row)| tally.reads.get(&(number, more, function, header_row)).copied().unwrap_or(0));
-        println!("{name:>5}  {:>12} {:>12} {:>12} {:>12}", counts[0], counts[1], counts[2], counts[3]);
-        for ((function, header_row), count) in kinds.into_iter().zip(counts) {
-            tally.often(&format!("{}, header row {header_row}, {name}", FUNCTIONS[function]), count);
-        }
-    }
+    report(&mut tally);
     tally.failures.sort_by_key(|what| what.len());
     for what in tally.failures.iter().take(10) {
         println!("FAILED {what}");
