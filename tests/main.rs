@@ -182,6 +182,26 @@ fn part(seed: u64, rounds: usize) -> Tally {
     tally
 }
 
+/// The cases of so many seeds, on all processors.
+fn cases(parts: u64) -> Vec<Tally> {
+    let next = AtomicU64::new(0);
+    let threads = std::thread::available_parallelism().map_or(1, usize::from);
+    std::thread::scope(|scope| {
+        let work = || {
+            let mut tally = Tally::default();
+            loop {
+                let seed = next.fetch_add(1, Ordering::Relaxed);
+                if seed >= parts {
+                    return tally;
+                }
+                tally.add(part(seed + 1, ROUNDS));
+            }
+        };
+        let handles: Vec<_> = (0..threads).map(|_| scope.spawn(work)).collect();
+        handles.into_iter().map(|handle| handle.join().unwrap()).collect()
+    })
+}
+
 /// Prints how often the cases reached each reply and each kind of table, and tests that this is often enough.
 fn report(tally: &mut Tally) {
     println!("reply  {:>12} {:>12} {:>12} {:>12}", FUNCTIONS[0], FUNCTIONS[1], FUNCTIONS[2], FUNCTIONS[3]);
@@ -221,23 +241,7 @@ fn main() {
     let mut tally = Tally::default();
     named::all(&mut tally);
     println!("named tests: {} passed, {} failed", tally.passed, tally.failed);
-    let next = AtomicU64::new(0);
-    let threads = std::thread::available_parallelism().map_or(1, usize::from);
-    let results: Vec<Tally> = std::thread::scope(|scope| {
-        let work = || {
-            let mut tally = Tally::default();
-            loop {
-                let seed = next.fetch_add(1, Ordering::Relaxed);
-                if seed >= parts {
-                    return tally;
-                }
-                tally.add(part(seed + 1, ROUNDS));
-            }
-        };
-        let handles: Vec<_> = (0..threads).map(|_| scope.spawn(work)).collect();
-        handles.into_iter().map(|handle| handle.join().unwrap()).collect()
-    });
-    for result in results {
+    for result in cases(parts) {
         tally.add(result);
     }
     report(&mut tally);
