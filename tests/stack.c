@@ -442,6 +442,60 @@ static void checks(void)
     refused(CHECK, "too small a figure in the last block but one", 208, BLOCKS - 2);
 }
 
+/* The largest tables where nothing costs anything, so that any edges keep 208; each block leads to its first successor twice if `doubled`. */
+static void free_tables(bool doubled)
+{
+    largest_tables();
+    for (size_t u = 0; u < n; u++) {
+        cost[u] = 0;
+        figure[u] = 0;
+        if (doubled)
+            second[u] = first[u];
+    }
+}
+
+/* The blocks that head no loop in a row downwards, from the last but one to the exit. */
+static void free_tables_downwards(void)
+{
+    free_tables(false);
+    first[LOOPS - 1] = BLOCKS - 2;
+    for (size_t u = LOOPS + 1; u < BLOCKS - 1; u++)
+        first[u] = (uint16_t)(u - 1);
+    first[LOOPS] = BLOCKS - 1;
+}
+
+/* Tables for rule 209: blocks that follow from each other and blocks that follow from none, with and without a closed walk. */
+static void closed_walks(void)
+{
+    free_tables(false);
+    for (uint16_t l = 1; l < LOOPS; l++)
+        second[l] = l;
+    accepted(CHECK, "every header names itself", 0, 0);
+    second[BLOCKS - 2] = BLOCKS - 2;
+    refused(CHECK, "and so does the last block but one", 209, 0);
+    free_tables(false);
+    second[BLOCKS - 2] = 1;
+    refused(CHECK, "1,022 blocks in a circle", 209, 0);
+    free_tables(true);
+    accepted(CHECK, "doubled edges", 0, 0);
+    first[BLOCKS - 2] = second[BLOCKS - 2] = 1;
+    refused(CHECK, "1,022 blocks with doubled edges in a circle", 209, 0);
+    free_tables_downwards();
+    accepted(CHECK, "a row downwards", 0, 0);
+    second[LOOPS] = BLOCKS - 2;
+    refused(CHECK, "a row downwards in a circle", 209, 0);
+    free_tables(false);
+    for (size_t u = 0; u < BLOCKS - 1; u++)
+        first[u] = second[u] = BLOCKS - 1;
+    accepted(CHECK, "2,046 edges to the exit", 0, 0);
+    for (size_t u = 0; u < BLOCKS - 1; u++)
+        first[u] = second[u] = ROLKEYDA_MISSING;
+    accepted(CHECK, "no edges", 0, 0);
+    for (uint16_t u = 1; u < BLOCKS - 1; u++)
+        first[u] = u;
+    refused(CHECK, "1,022 blocks that name themselves", 209, 0);
+}
+
 /*
  * A walk of `length` blocks from entry to exit over the largest tables, with edges from block 2 to itself and from block 3 back to block 1:
  * rounds of 1, 2 (again and again) and 3, then 4 and so on.
@@ -462,6 +516,18 @@ static void long_walk(size_t length)
     for (size_t i = rest; i < length; i++)
         list[i] = (uint16_t)(4 + i - rest);
     list_length = length;
+}
+
+/* As many times as a walk may go round a circle of 1,022 blocks that no loop declares. */
+static void circle_walk(void)
+{
+    free_tables(false);
+    second[BLOCKS - 2] = 1;
+    list_length = (LENGTH - 2) / (BLOCKS - 2) * (BLOCKS - 2) + 2;
+    list[0] = 0;
+    for (size_t i = 1; i + 1 < list_length; i++)
+        list[i] = (uint16_t)((i - 1) % (BLOCKS - 2) + 1);
+    list[list_length - 1] = BLOCKS - 1;
 }
 
 static void walks(void)
@@ -493,6 +559,8 @@ static void walks(void)
     largest_tables();
     second[BLOCKS - 2] = 15;
     refused(WALK, "an edge past 14 headers", 207, BLOCKS - 2);
+    circle_walk();
+    accepted(WALK, "a circle of 1,022 blocks, round and round", 0, list_length - 1);
 }
 
 int main(void)
@@ -502,6 +570,7 @@ int main(void)
         stop("an outcome");
     readers();
     checks();
+    closed_walks();
     walks();
     for (size_t i = 0; i < sizeof functions / sizeof functions[0]; i++) {
         const struct function *function = &functions[i];
