@@ -49,14 +49,15 @@ fn measure(rounds: u32, calls: u32, measures: &mut [Measure]) {
     }
 }
 
-// Measures ours beside the others and prints a line for each: time, rate over `units`, and how many times faster ours is.
+// Measures ours beside the others and prints a line for each: time, rate over `units`, time for one, and how many times faster ours is.
 fn compare(title: &str, (units, unit): (f64, &str), (rounds, calls): (u32, u32), goals: &[f64], measures: &mut [Measure]) {
     measure(rounds, calls, measures);
     println!("{title}");
     let ours = measures[0].best;
     for (i, measure) in measures.iter().enumerate() {
         let rate = units / measure.best / 1e6;
-        print!("  {:<24} {:>10.1} us {:>9.1} M{unit}/s", measure.name, measure.best * 1e6, rate);
+        let one = unit.trim_end_matches('s');
+        print!("  {:<24} {:>10.1} us {:>9.1} M{unit}/s {:>7.2} ns/{one}", measure.name, measure.best * 1e6, rate, 1e3 / rate);
         if i > 0 {
             print!("   ratio {:.2} (goal {:.1})", measure.best / ours, goals[i - 1]);
         }
@@ -124,20 +125,35 @@ fn reading(routine: &Routine) {
     }
 }
 
-fn checking(routine: &Routine) {
-    let ours = Library::check(routine);
-    assert_eq!(straight::check(routine), Ok(ours.value));
-    assert_eq!(ours.number, 0);
+// Our check beside the straight one on tables that both answer alike.
+fn checking_beside(routine: &Routine, answer: &str) {
+    let n = routine.blocks.cost.len();
     compare(
-        &format!("checking 1024 blocks, 64 loops (bound {})", ours.value),
-        (1024.0, "blocks"),
+        &format!("checking {n} blocks, {} loops, {} edges, {answer}", routine.loops.parent.len(), routine.edges()),
+        (n as f64, "blocks"),
         (400, 20),
-        &[1.3],
+        &[1.0],
         &mut [
             Measure::new("rolkeyda_check", || keep(Library::check(black_box(routine)))),
             Measure::new("straight Rust", || keep(straight::check(black_box(routine)))),
         ],
     );
+}
+
+// Tables of three sizes, which show how the time grows with the edges; then the largest with a circle that no loop declares.
+fn checking() {
+    for n in [256, 512, 1024] {
+        let routine = Routine::sized(n);
+        let ours = Library::check(&routine);
+        assert_eq!(ours.number, 0);
+        assert_eq!(straight::check(&routine), Ok(ours.value));
+        checking_beside(&routine, &format!("bound {}", ours.value));
+    }
+    let routine = Routine::with_circle(1024);
+    let ours = Library::check(&routine);
+    assert_eq!((ours.number, ours.place), (209, 0));
+    assert_eq!(straight::check(&routine), Err((209, 0)));
+    checking_beside(&routine, "refused with 209");
 }
 
 fn walking(routine: &Routine) {
@@ -190,7 +206,7 @@ fn main() {
         reading(&routine);
     }
     if wanted("check") {
-        checking(&routine);
+        checking();
     }
     if wanted("walk") {
         walking(&routine);

@@ -1,4 +1,4 @@
-// The largest routine: 1,024 blocks, 64 loops, three deep, with figures and multipliers that are accepted, and a walk through it.
+// Routines with loops three deep and with figures and multipliers that are accepted; the largest has 1,024 blocks and 64 loops. A walk through one.
 use std::fmt::Write;
 
 pub const MISSING: u16 = 65535;
@@ -82,23 +82,47 @@ impl Routine {
         (header, u64::from(self.blocks.cost[header]) + round * u64::from(limits[0] - 1))
     }
 
-    pub fn largest() -> Routine {
+    // n blocks with loops in proportion; no figures yet.
+    fn unsolved(n: usize) -> Routine {
         let mut t = Routine::default();
         t.loops = Loops { parent: vec![0], header: vec![0], limit: vec![1], multiplier: vec![0] };
         let mut last = t.block(0);
-        for _ in 0..21 {
+        for _ in 0..21 * n / 1024 {
             last = t.nest(last, 0, &[17, 12, 20]).0;
         }
         let tail = t.blocks.cost.len();
-        while t.blocks.cost.len() < 1024 {
+        while t.blocks.cost.len() < n {
             last = t.block_after(last, 0);
         }
         // the tail may be walked by single steps or by double ones
-        for u in tail..1022 {
+        for u in tail..n - 2 {
             t.blocks.second[u] = u as u16 + 2;
         }
+        t
+    }
+
+    pub fn sized(n: usize) -> Routine {
+        let mut t = Routine::unsolved(n);
         t.solve();
         t
+    }
+
+    pub fn largest() -> Routine {
+        Routine::sized(1024)
+    }
+
+    // The same with a circle that no loop declares: the last two blocks before the exit, which cost nothing.
+    pub fn with_circle(n: usize) -> Routine {
+        let mut t = Routine::unsolved(n);
+        t.blocks.cost[n - 3] = 0;
+        t.blocks.cost[n - 2] = 0;
+        t.leads(n - 2, n - 3);
+        t.solve();
+        t
+    }
+
+    pub fn edges(&self) -> usize {
+        self.blocks.first.iter().chain(&self.blocks.second).filter(|&&v| v != MISSING).count()
     }
 
     fn inside(&self, u: usize, l: u16) -> bool {
@@ -114,7 +138,7 @@ impl Routine {
         let mut changed = true;
         while changed {
             changed = false;
-            for u in (0..1023).rev() {
+            for u in (0..self.blocks.cost.len() - 1).rev() {
                 let b = &self.blocks;
                 let way = |v: u16| {
                     let l = b.loops[v as usize] as usize;

@@ -1,4 +1,5 @@
-// The table check and the walk in plain Rust, with nothing proved: safe code with slices, loop sets as words, one pass per rule.
+// The table check and the walk in plain Rust, with nothing proved: safe code with slices, loop sets as words, one pass per rule, one for 208
+// and the counts of 209 together.
 use crate::routine::{Blocks, Loops, Routine, MISSING};
 
 type Refusal = (u32, usize);
@@ -65,25 +66,82 @@ fn structure(t: &Routine) -> Result<[u64; 64], Refusal> {
     Ok(around)
 }
 
-fn holds(t: &Routine, around: &[u64; 64], u: usize, v: usize) -> bool {
+// Whether the edge from u to v keeps its inequality, and whether it returns to a header from inside the header's loop.
+fn edge(t: &Routine, around: &[u64; 64], u: usize, v: usize) -> (bool, bool) {
     let (b, l) = (&t.blocks, t.blocks.loops[v] as usize);
     let d = b.figure[u] - b.figure[v];
     let (cost, multiplier) = (i64::from(b.cost[v]), t.loops.multiplier[l] as i64);
     if t.loops.header[l] as usize != v {
-        cost <= d
+        (cost <= d, false)
     } else if around[b.loops[u] as usize] >> l & 1 == 1 {
-        cost <= d + multiplier
+        (cost <= d + multiplier, true)
     } else {
-        cost + multiplier * (i64::from(t.loops.limit[l]) - 1) <= d
+        (cost + multiplier * (i64::from(t.loops.limit[l]) - 1) <= d, false)
     }
+}
+
+// The edges that do not return: where each block's two end, MISSING for one that is left out, and how many end at each block.
+struct Onward {
+    ends: [[u16; 2]; 1024],
+    incoming: [u16; 1024],
+}
+
+// 208; on the way it collects what 209 needs.
+fn inequalities(t: &Routine, around: &[u64; 64], onward: &mut Onward) -> Result<(), Refusal> {
+    let b = &t.blocks;
+    for u in 0..b.cost.len() {
+        for (v, end) in [b.first[u], b.second[u]].into_iter().zip(&mut onward.ends[u]) {
+            if v == MISSING {
+                continue;
+            }
+            let (holds, returns) = edge(t, around, u, v as usize);
+            if !holds {
+                return Err((208, u));
+            }
+            if !returns {
+                onward.incoming[v as usize] += 1;
+                *end = v;
+            }
+        }
+    }
+    Ok(())
+}
+
+// 209: a block is taken when all edges to it come from blocks taken before. One that is never taken lies on a closed walk or behind one.
+fn no_closed_walk(n: usize, onward: &mut Onward) -> bool {
+    let Onward { ends, incoming } = onward;
+    let mut taken = [0u16; 1024];
+    let mut count = 0;
+    for u in 0..n {
+        if incoming[u] == 0 {
+            taken[count] = u as u16;
+            count += 1;
+        }
+    }
+    let mut next = 0;
+    while next < count {
+        for v in ends[taken[next] as usize] {
+            if v != MISSING {
+                incoming[v as usize] -= 1;
+                if incoming[v as usize] == 0 {
+                    taken[count] = v;
+                    count += 1;
+                }
+            }
+        }
+        next += 1;
+    }
+    count == n
 }
 
 pub fn check(t: &Routine) -> Result<i64, Refusal> {
     let around = structure(t)?;
     let b = &t.blocks;
     let n = b.cost.len();
-    if let Some(u) = (0..n).find(|&u| some_edge(b, u, |v| !holds(t, &around, u, v))) {
-        return Err((208, u));
+    let mut onward = Onward { ends: [[MISSING; 2]; 1024], incoming: [0; 1024] };
+    inequalities(t, &around, &mut onward)?;
+    if !no_closed_walk(n, &mut onward) {
+        return Err((209, 0));
     }
     Ok(i64::from(b.cost[0]) + b.figure[0] - b.figure[n - 1])
 }
