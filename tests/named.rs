@@ -670,18 +670,18 @@ type Loop<'a> = (u16, u16, &'a [usize]);
 
 /// `n` blocks with these edges that cost nothing: with figures and multipliers 0 every inequality is kept, and the bound is 0.
 fn free(n: usize, edges: impl IntoIterator<Item = (usize, usize)>, loops: &[Loop]) -> Tables {
-    let mut tables = Tables { loops: straight(2).loops, ..straight(n) };
-    tables.blocks.cost.fill(0);
-    tables.blocks.figure.fill(0);
-    tables.blocks.first.fill(MISSING);
+    let mut tables = straight(n);
+    let blocks = &mut tables.blocks;
+    blocks.cost.fill(0);
+    blocks.figure.fill(0);
+    blocks.first.fill(MISSING);
     for (u, v) in edges {
-        let Tables { blocks, .. } = &mut tables;
         let place = if blocks.first[u] == MISSING { &mut blocks.first[u] } else { &mut blocks.second[u] };
         assert!(std::mem::replace(place, v as u16) == MISSING, "two edges at most");
     }
     for (l, (parent, header, others)) in loops.iter().enumerate() {
         for u in others.iter().copied().chain([usize::from(*header)]) {
-            tables.blocks.inner[u] = l as u16 + 1;
+            blocks.inner[u] = l as u16 + 1;
         }
         tables.loops.parent.push(*parent);
         tables.loops.header.push(*header);
@@ -726,16 +726,16 @@ const CIRCLES: &[(&str, &str, &[Loop], Want)] = &[
     ("two unreachable blocks that lead to the others", "2321 014 34", &[], CIRCLE),
     ("two unreachable blocks and nothing else", "121 13", &[], CIRCLE),
     // through the header of a loop that is entered from outside
-    ("through the header of its first block", "0121 23", &[(0, 1, &[])], CIRCLE),
-    ("through the header of its second block", "0121 23", &[(0, 2, &[])], CIRCLE),
-    ("through two headers", "0121 23", &[(0, 1, &[]), (0, 2, &[])], CIRCLE),
+    ("through the loop of its first block", "0121 23", &[(0, 1, &[])], CIRCLE),
+    ("through the loop of its second block", "0121 23", &[(0, 2, &[])], CIRCLE),
+    ("through the loops of both", "0121 23", &[(0, 1, &[]), (0, 2, &[])], CIRCLE),
     ("through two headers that name themselves", "01122 21 03", &[(0, 1, &[]), (0, 2, &[])], CIRCLE),
     ("two headers that name themselves, one loop in the other", "01122 21 03", &[(0, 1, &[]), (1, 2, &[])], GOOD),
     ("two headers that name themselves and no way back", "01122 23", &[(0, 1, &[]), (0, 2, &[])], GOOD),
     ("through a loop of two blocks", "01231 21 34", &[(0, 1, &[2])], CIRCLE),
     ("through a loop of two blocks, left and entered by its header", "01213 31 34", &[(0, 1, &[2])], CIRCLE),
     ("through an inner loop, past the outer header", "01232 31 14", &[(0, 1, &[3]), (1, 2, &[])], CIRCLE),
-    ("through an unreachable header", "121 03", &[(0, 1, &[])], CIRCLE),
+    ("through the loop of an unreachable block", "121 03", &[(0, 1, &[])], CIRCLE),
     // in a declared loop, past its header
     ("a block in a loop that names itself", "01221 13", &[(0, 1, &[2])], CIRCLE),
     ("a block in a loop that names itself, its loop declared too", "01221 13", &[(0, 1, &[]), (1, 2, &[])], GOOD),
@@ -938,11 +938,11 @@ fn circle_walks(t: &mut Tester) {
     t.walk("circle: a walk", &cycle, &[0, 1, 2, 3], Accepted(2, 3));
     t.walk("circle: a walk round it", &cycle, &[0, 1, 2, 1, 2, 1, 2, 3], Accepted(2, 7));
     t.walk("circle: a walk that ends on it", &cycle, &[0, 1, 2, 1], Refused(314, 4));
-    t.walk("circle: a walk round it the other way", &cycle, &[0, 1, 2, 2], Refused(312, 3));
+    t.walk("circle: a walk that stays at one of its blocks", &cycle, &[0, 1, 2, 2], Refused(312, 3));
     let costs = tables_of("0,1,0,1,,3|1,1,0,2,,2|2,1,0,1,3,1|3,1,0,,,0", "0,0,0,1,0");
     t.walk("circle: a walk round one that costs", &costs, &[0, 1, 2, 1, 2, 1, 2, 3], Accepted(8, 7));
     let itself = free(3, ways("0112"), &[]);
-    t.walk("circle: a walk that stays at a block", &itself, &[0, 1, 1, 1, 2], Accepted(0, 4));
+    t.walk("circle: a walk that stays at a block which names itself", &itself, &[0, 1, 1, 1, 2], Accepted(0, 4));
     t.walk("circle: a walk past an unreachable one", &free(4, ways("121 03"), &[]), &[0, 3], Accepted(0, 1));
     // each entry from outside is a new stay, the return within one is counted
     let header = free(4, ways("01121 23"), &[(0, 1, &[])]);
