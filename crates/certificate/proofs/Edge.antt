@@ -6,8 +6,8 @@ use Prim.Native.Nat.{ℕ, _<_}
 use native.Mathlib.Omega.{arith}
 use Rattle.lists.specs.Search.{firstBelow}
 use Rattle.lists.proofs.Search.{first-ext}
-use Rattle.wcet.specs.Table.{Routine, blockCount, exit, cost, loopOf, first, second, figure, limit, multiplier, someEdge, inside}
-use Rattle.wcet.specs.Rules.{isHeader, inequality, edgeHolds, inequalityBroken}
+use Rattle.wcet.specs.Table.{Routine, blockCount, exit, cost, loopOf, first, second, figure, limit, multiplier, someEdge, inside, isHeader}
+use Rattle.wcet.specs.Rules.{inequality, edgeHolds, inequalityBroken}
 use Rattle.loopsets.specs.Sets.{setsAround}
 use Rattle.loopsets.proofs.Laws.{member-around}
 use Rattle.nesting.specs.Columns.{Ranged}

@@ -6,8 +6,8 @@ use mathlib.Core.List.{List, [], _∷_}
 use lib.IntN.{ℤ}
 use lib.ListN.{length}
 use Rattle.limits.specs.Limits.{mostBlocks}
-use Rattle.wcet.specs.Table.{Routine, blockCount, exit, cost, loopOf, figure, limit, multiplier, someEdge}
-use Rattle.wcet.specs.Rules.{Reply, accepted, check, isHeader, inequality, bound}
+use Rattle.wcet.specs.Table.{Routine, blockCount, exit, cost, loopOf, figure, limit, multiplier, someEdge, isHeader}
+use Rattle.wcet.specs.Rules.{Reply, accepted, check, inequality, bound}
 use Rattle.loopsets.specs.Sets.{member, setAt}
 use Rattle.nesting.specs.Columns.{routine, edgeColumns, Innermost}
 use Rattle.certificate.specs.Figures.{Figure}

@@ -1,6 +1,7 @@
 -- What a search over the numbers below k finds, from what holds at each number, and the other way round. Assumes nothing.
 use mathlib.Core.Path.{_≡_, refl, sym, _∙_, ap, ap₂, subst}
-use mathlib.Core.Bool.{Bool, true, false, not, _&&_, _||_, and-true, or-true}
+use mathlib.Core.Logic.{_⊎_, inl, inr}
+use mathlib.Core.Bool.{Bool, true, false, not, _&&_, _||_, and-true, or-true, false≢true}
 use mathlib.Core.List.{List, [], _∷_}
 use mathlib.Core.Option.{Option, none, some}
 use Prim.Native.Nat.{ℕ, zero, suc, _+_, _≤_, _<_}
@@ -11,7 +12,7 @@ use lib.Dec.{eqb}
 use lib.ListN.{length, getD}
 use borrow.Author.Tests.{eq-eqb, ne-eqb}
 use Rattle.lists.specs.Search.{if_then_else_, anyBelow, countBelow, orElse, firstBelow, tabulate}
-use Rattle.lists.proofs.Tests.{or-false, neither}
+use Rattle.lists.proofs.Tests.{or-false, neither, either}
 
 -- ---- one number more
 
@@ -45,6 +46,22 @@ any-at (suc k) p i h e = go (ℕ-discrete i k) (λ l. any-at k p i l e)
     go : Dec (i ≡ k) → (i < k → anyBelow k p ≡ true) → (anyBelow k p || p k) ≡ true
     go (yes q) rest = ap (λ (b : Bool). anyBelow k p || b) (ap p (sym q) ∙ e) ∙ or-true (anyBelow k p)
     go (no ne) rest = ap (λ (b : Bool). b || p k) (rest (omega arith))
+
+-- where some number passes, one that does
+pub some-at : (k : ℕ) (p : ℕ → Bool) → anyBelow k p ≡ true → (i : ℕ) × (i < k) × (p i ≡ true)
+unfolding anyBelow
+some-at zero p e = absurd (false≢true e)
+some-at (suc k) p e = go (either (anyBelow k p) (p k) e) (some-at k p)
+  where
+    go : (anyBelow k p ≡ true) ⊎ (p k ≡ true) → (anyBelow k p ≡ true → (i : ℕ) × (i < k) × (p i ≡ true)) → (i : ℕ) × (i < suc k) × (p i ≡ true)
+    go (inl q) rest = let r = rest q in (r .0, omega (arith, r .1), r .2)
+    go (inr q) rest = (k, omega arith, q)
+
+-- two tests that agree below k pass somewhere alike
+pub any-ext : (k : ℕ) (p q : ℕ → Bool) → ((i : ℕ) → i < k → p i ≡ q i) → anyBelow k p ≡ anyBelow k q
+unfolding anyBelow
+any-ext zero p q h = refl
+any-ext (suc k) p q h = rw (any-ext k p q (λ i l. h i (omega arith)), h k (omega arith))
 
 -- ---- firstBelow
 
@@ -140,6 +157,23 @@ none-counted (suc k) p e i h = below-suc (λ i. p i ≡ false) k (none-counted k
     last : (b : Bool) → p k ≡ b → countBelow k p + (if b then 1 else 0) ≡ 0 → p k ≡ false
     last true q e = absurd (omega arith)
     last false q e = q
+
+-- where the count is not 0, a number that passes
+pub some-counted : (k : ℕ) (p : ℕ → Bool) → (countBelow k p ≡ 0 → ⊥) → (i : ℕ) × (i < k) × (p i ≡ true)
+some-counted k p ne = go (anyBelow k p) refl
+  where
+    go : (b : Bool) → anyBelow k p ≡ b → (i : ℕ) × (i < k) × (p i ≡ true)
+    go true q = some-at k p q
+    go false q = absurd (ne (count-none k p (none-of k p q)))
+
+pub count-most : (k : ℕ) (p : ℕ → Bool) → countBelow k p ≤ k
+unfolding countBelow
+count-most zero p = omega arith
+count-most (suc k) p = go (p k) (count-most k p)
+  where
+    go : (b : Bool) → countBelow k p ≤ k → countBelow k p + (if b then 1 else 0) ≤ suc k
+    go true h = omega arith
+    go false h = omega arith
 
 -- one number that passes, and the others
 pub count-remove : (k h : ℕ) (p : ℕ → Bool) → h < k → p h ≡ true → countBelow k p ≡ suc (countBelow k (λ i. p i && not (eqb i h)))

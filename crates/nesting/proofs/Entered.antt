@@ -14,8 +14,8 @@ use Rattle.limits.specs.Limits.{mostLoops, mostDepth}
 use Rattle.lists.specs.Search.{anyBelow, countBelow, firstBelow}
 use Rattle.lists.proofs.Tests.{both}
 use Rattle.lists.proofs.Search.{any-none, none-of, any-at, first-ext, count-ext, count-beyond, count-none, none-counted, count-remove}
-use Rattle.wcet.specs.Table.{Routine, blockCount, loopCount, loopOf, header, someEdge, around, inside}
-use Rattle.wcet.specs.Rules.{tooDeep, enters, pastHeader, entersPastHeader, isHeader}
+use Rattle.wcet.specs.Table.{Routine, blockCount, loopCount, loopOf, header, someEdge, around, inside, isHeader}
+use Rattle.wcet.specs.Rules.{tooDeep, enters, pastHeader, entersPastHeader}
 use Rattle.wcet.proofs.Potential.{inside-own}
 use Rattle.wcet.proofs.Around.{around-above, entered-own}
 use Rattle.loopsets.specs.Sets.{member, setAt, setsAround}

@@ -12,8 +12,7 @@ use lib.ListN.{length, List·getD-eq-default, replicate}
 use denote.Enum.Declared.{tagOf}
 use Rattle.limits.specs.Limits.{mostBlocks, mostLoops, longestWalk}
 use Rattle.lists.specs.Search.{if_then_else_}
-use Rattle.wcet.specs.Table.{Routine, blockCount, loopCount, exit, missing, cost, loopOf, first, second, header, limit, someEdge, edge, inside}
-use Rattle.wcet.specs.Rules.{isHeader}
+use Rattle.wcet.specs.Table.{Routine, blockCount, loopCount, exit, missing, cost, loopOf, first, second, header, limit, someEdge, edge, inside, isHeader}
 use Rattle.wcet.specs.Run.{State, leaves, nextCount, next, passesLimit, start}
 use Rattle.wcet.proofs.Potential.{inside-own}
 use Rattle.wcet.proofs.Around.{header-of}

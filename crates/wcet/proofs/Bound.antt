@@ -17,7 +17,7 @@ use Rattle.integers.specs.Parts.{up, dn}
 use Rattle.integers.proofs.Laws.{ints, sum, diff, times, leZ-le}
 use Rattle.integers.proofs.Direction.{atMost}
 use Rattle.wcet.specs.Table.{Routine, blockCount, exit, cost, figure, limit, multiplier, edge}
-use Rattle.wcet.specs.Rules.{Reply, accepted, inequality, edgeHolds, inequalityBroken, inequalityRule, structureRules, tableRules, bound, tableReply}
+use Rattle.wcet.specs.Rules.{Reply, accepted, inequality, edgeHolds, inequalityBroken, inequalityRule, undeclaredRule, structureRules, tableRules, bound, tableReply}
 use Rattle.wcet.specs.Run.{path, run, State, start, next, after, passesLimit, keepsLimits, countedRun, runCost}
 use Rattle.wcet.specs.Claim.{AllHold, BoundedAt, WcetBound, Checked, FinishedRun, NegativeBound}
 use Rattle.wcet.proofs.Replies.{all-append, replies-exactly}
@@ -46,7 +46,7 @@ pub record Facts (t : Routine) : Type 0 where
 pub facts : (t : Routine) → AllHold (tableRules t) → Facts t
 unfolding tableRules inequalityBroken
 facts t h =
-    let q : AllHold (structureRules t) × AllHold (inequalityRule t ∷ []) = all-append (structureRules t) (inequalityRule t ∷ []) h in
+    let q : AllHold (structureRules t) × AllHold (inequalityRule t ∷ undeclaredRule t ∷ []) = all-append (structureRules t) (inequalityRule t ∷ undeclaredRule t ∷ []) h in
     record {
       nesting = nested t (q .0);
       holds = λ u v b e. not-false (edgeHolds t u v) (no-edge t u v (λ x. not (edgeHolds t u x)) (q .1 .0 u b) e);

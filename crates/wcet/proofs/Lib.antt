@@ -1,6 +1,7 @@
 pub mod Cases
-pub mod Replies
 pub mod Nesting
+pub mod Cycles
+pub mod Replies
 pub mod Potential
 pub mod Path
 pub mod Entry

@@ -13,8 +13,7 @@ use Rattle.integers.specs.Parts.{up, dn}
 use Rattle.integers.proofs.Laws.{ints, sum, diff, times}
 use Rattle.integers.proofs.Direction.{Direction, add}
 use Rattle.integers.proofs.Sums.{sumBelow, sum-mono, sum-but}
-use Rattle.wcet.specs.Table.{Routine, loopCount, loopOf, header, around, inside}
-use Rattle.wcet.specs.Rules.{isHeader}
+use Rattle.wcet.specs.Table.{Routine, loopCount, loopOf, header, around, inside, isHeader}
 use Rattle.wcet.specs.Run.{State, nextCount, next}
 
 -- multiplier k times the visits that are left of b after c

@@ -1,5 +1,5 @@
 -- A list of rules refuses with its first broken rule at the lowest place, and passes exactly where each rule holds at each of its places.
--- So a pair of tables is accepted exactly where none of 201 to 208 is broken (`replies-exactly`). Assumes nothing.
+-- So a pair of tables is accepted exactly where none of 201 to 209 is broken (`replies-exactly`). Assumes nothing.
 use mathlib.Core.Path.{_≡_, refl, _∙_, ap}
 use mathlib.Core.Logic.{_⊎_, inl, inr, ⊎-elim}
 use mathlib.Core.List.{List, [], _∷_, _++_, append-assoc}
@@ -11,6 +11,8 @@ use Rattle.lists.proofs.Search.{Lowest, not-found, none-found, found, found-low
 use Rattle.wcet.specs.Table.{Routine}
 use Rattle.wcet.specs.Rules.{Reply, accepted, refused, Rule, refusedAt, check, tableRules, bound, tableReply}
 use Rattle.wcet.specs.Claim.{Holds, AllHold, FirstBroken, RepliesExactly}
+use Rattle.wcet.proofs.Nesting.{nested}
+use Rattle.wcet.proofs.Cycles.{closed-exactly}
 
 -- ---- one rule: how a checker comes to its reply. A rule that is broken decides, one that holds hands on.
 
@@ -127,4 +129,5 @@ replies-exactly t = record {
     λ e. ⊎-elim (λ b. b) (λ q. absurd (let z : _≡_ {A = ℕ} 0 1 = cc in omega arith)) (first-broken (tableRules t) (accepted (bound t)) n p e),
     broken-refuses (tableRules t) (accepted (bound t)) n p,
   );
+  undeclared = λ h. closed-exactly t (nested t h .target);
 }

@@ -8,8 +8,7 @@ use lib.Dec.{ltb}
 use borrow.Author.Tests.{eqb-false, ne-eqb, le-ltb}
 use Rattle.lists.specs.Search.{if_then_else_, anyBelow}
 use Rattle.lists.proofs.Search.{any-at, any-none}
-use Rattle.wcet.specs.Table.{Routine, blockCount, loopCount, loopOf, header, limit, edge, inside}
-use Rattle.wcet.specs.Rules.{isHeader}
+use Rattle.wcet.specs.Table.{Routine, blockCount, loopCount, loopOf, header, limit, edge, inside, isHeader}
 use Rattle.wcet.specs.Run.{State, nextCount, next, passesLimit}
 use Rattle.wcet.proofs.Nesting.{Nested}
 use Rattle.wcet.proofs.Limits.{WithinLimits}

@@ -1,4 +1,5 @@
--- Document 01, "One routine in full": the marked cases (*), as one list. `proofs/Cases.antt` computes them.
+-- Document 01, "One routine in full": the marked cases (*), as one list, with the replies that they have since document 02, §2.
+-- `proofs/Cases.antt` computes them.
 use Prim.Native.Nat.{ℕ}
 use mathlib.Core.List.{List, [], _∷_, map}
 use mathlib.Core.Path.{_≡_}
@@ -55,11 +56,12 @@ oneLoop costs firsts seconds figures = record {
 abbrev pub noEdges : Routine
 noEdges = oneLoop (7 ∷ 9 ∷ []) (missing ∷ missing ∷ []) (missing ∷ missing ∷ []) (negℤ (pos 10) ∷ pos 0 ∷ [])
 
--- "Four blocks in loop 0, edges 0 to 1, 1 to 2, 2 to 1, 2 to 3", at these costs and figures
+-- "Four blocks in loop 0, edges 0 to 1, 1 to 2, 2 to 1, 2 to 3", at these costs and figures. Document 02, §2, changed the reply of one:
+-- "that case with costs 1 0 0 1 is now 209". It was accepted before, with bound 2.
 abbrev pub cycle : List ℕ → List ℤ → Routine
 cycle costs figures = oneLoop costs (1 ∷ 2 ∷ 1 ∷ missing ∷ []) (missing ∷ missing ∷ 3 ∷ missing ∷ []) figures
 
--- a marked case: what is asked, and the reply that document 01 gives
+-- a marked case: what is asked, and the reply that the papers give
 pub record Case : Type 0 where
   pub asked : Question
   pub reply : Answer
@@ -82,9 +84,9 @@ markedCases =
     ∷ marked (walk A (0 ∷ 1 ∷ [])) (toWalk (refused 314 2))
     ∷ marked (table noEdges) (toTable (accepted (negℤ (pos 3))))
     ∷ marked (table (cycle (1 ∷ 1 ∷ 1 ∷ 1 ∷ []) (pos 3 ∷ pos 2 ∷ pos 1 ∷ pos 0 ∷ []))) (toTable (refused 208 2))
-    ∷ marked (table (cycle (1 ∷ 0 ∷ 0 ∷ 1 ∷ []) (pos 1 ∷ pos 1 ∷ pos 1 ∷ pos 0 ∷ []))) (toTable (accepted (pos 2)))
+    ∷ marked (table (cycle (1 ∷ 0 ∷ 0 ∷ 1 ∷ []) (pos 1 ∷ pos 1 ∷ pos 1 ∷ pos 0 ∷ []))) (toTable (refused 209 0))
     ∷ []
 
--- the one claim: the definitions give each marked case the reply that document 01 gives it
+-- the one claim: the definitions give each marked case the reply that the papers give it
 abbrev pub MarkedCasesHold : Type 0
 MarkedCasesHold = map (λ c. answer (c .asked)) markedCases ≡ map (λ c. c .reply) markedCases

@@ -9,6 +9,7 @@ use lib.ListN.{length, getD, take}
 use lib.Signed.{_≤ℤ_, _<ℤ_}
 use Rattle.limits.specs.Limits.{longestWalk}
 use Rattle.wcet.specs.Table.{Routine, exit, cost, figure}
+use Rattle.wcet.specs.Cycles.{ClosedWalk, undeclaredLoop}
 use Rattle.wcet.specs.Rules.{Reply, accepted, refused, Rule, structureRules, tableRules, bound, tableReply}
 use Rattle.wcet.specs.Run.{countedRun, runCost}
 use Rattle.wcet.specs.Walk.{Walked, walked, walkReply}
@@ -54,11 +55,13 @@ pub record FirstBroken (rs : List Rule) (number place : ℕ) : Type 0 where
   pub breaks : rule .broken place ≡ true
   pub lowest : (p : ℕ) → p < place → rule .broken p ≡ false
 
--- a pair of tables is accepted exactly where none of 201 to 208 is broken, and then with its bound; and refused exactly with the first
--- broken rule at its lowest place
+-- A pair of tables is accepted exactly where none of 201 to 209 is broken, and then with its bound; and refused exactly with the first
+-- broken rule at its lowest place. Where 201 to 207 hold, 209 is broken exactly where there is a closed walk that no declared loop accounts
+-- for (document 02, §2: "Refusal must come exactly when such a closed walk exists, by a definition that does not sort anything").
 pub record RepliesExactly (t : Routine) : Type 0 where
   pub accepts : (b : ℤ) → (tableReply t ≡ accepted b) ↔ (AllHold (tableRules t) × (bound t ≡ b))
   pub refuses : (number place : ℕ) → (tableReply t ≡ refused number place) ↔ FirstBroken (tableRules t) number place
+  pub undeclared : AllHold (structureRules t) → (undeclaredLoop t ≡ true) ↔ ClosedWalk t
 
 -- ---- accepted walks
 

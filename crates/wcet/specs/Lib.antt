@@ -1,5 +1,6 @@
--- The definitions that the contracts cite, in reading order: document 01's, section by section.
+-- The definitions that the contracts cite, in reading order: document 01's, section by section, and what document 02 adds.
 pub mod Table
+pub mod Cycles
 pub mod Rules
 pub mod Run
 pub mod Walk

@@ -1,5 +1,5 @@
--- Document 01, "Replies that come from the input", 201 to 208, and "The inequality of an edge": with which number and place a pair of
--- tables is refused, and the bound of an accepted pair.
+-- Document 01, "Replies that come from the input", 201 to 208, and "The inequality of an edge"; document 02, §2, 209: with which number and
+-- place a pair of tables is refused, and the bound of an accepted pair.
 use Prim.Native.Nat.{ℕ, _^_}
 use mathlib.Core.Bool.{Bool, not, _&&_, _||_}
 use mathlib.Core.List.{List, [], _∷_, _++_}
@@ -10,7 +10,8 @@ use lib.ListN.{length}
 use lib.Signed.{leZ, ltZ}
 use Rattle.limits.specs.Limits.{mostBlocks, mostLoops, mostDepth}
 use Rattle.lists.specs.Search.{if_then_else_, anyBelow, countBelow, firstBelow}
-use Rattle.wcet.specs.Table.{Routine, blockCount, loopCount, exit, cost, loopOf, figure, parent, header, limit, multiplier, someEdge, inside}
+use Rattle.wcet.specs.Table.{Routine, blockCount, loopCount, exit, cost, loopOf, figure, parent, header, limit, multiplier, someEdge, inside, isHeader}
+use Rattle.wcet.specs.Cycles.{undeclaredLoop}
 
 -- "Each refusal is a number and a place."
 pub data Reply (A : Type 0) : Type 0 where
@@ -91,10 +92,6 @@ pastHeader t u v = anyBelow (loopCount t) (λ l. enters t u v l && not (eqb (hea
 unfoldable pub entersPastHeader : Routine → ℕ → Bool
 entersPastHeader t u = someEdge t u (pastHeader t u)
 
--- v is a header: by 203 and 204 it is then the header of its innermost loop, and of no other
-abbrev pub isHeader : Routine → ℕ → Bool
-isHeader t v = eqb (header t (loopOf t v)) v
-
 -- The inequality of an edge from u to v, on numbers: v is a header or not, u is inside its loop or not, the cost of v, the figures of u and
 -- of v, the multiplier and the limit of v's loop.
 -- "For an edge from u to v let D be the figure of u less the figure of v.
@@ -133,15 +130,19 @@ structureRules t =
 abbrev pub inequalityRule : Routine → Rule
 inequalityRule t = record { number = 208; places = blockCount t; broken = inequalityBroken t }
 
--- 201 to 208
+-- Document 02, §2: "Errors: 209, place 0, after 208."
+abbrev pub undeclaredRule : Routine → Rule
+undeclaredRule t = record { number = 209; places = 1; broken = λ _. undeclaredLoop t }
+
+-- 201 to 209
 unfoldable pub tableRules : Routine → List Rule
-tableRules t = structureRules t ++ inequalityRule t ∷ []
+tableRules t = structureRules t ++ inequalityRule t ∷ undeclaredRule t ∷ []
 
 -- "The bound is cost of block 0 + figure of block 0 − figure of block n−1."
 unfoldable pub bound : Routine → ℤ
 bound t = pos (cost t 0) +ℤ figure t 0 -ℤ figure t (exit t)
 
 -- "A pair of tables is accepted when none of 201 to 208 applies to it; its bound, the number the checker then replies, is the
--- accepted bound."
+-- accepted bound." Document 02, §2, on 209: "Acceptance gains this condition."
 unfoldable pub tableReply : Routine → Reply ℤ
 tableReply t = check (tableRules t) (accepted (bound t))

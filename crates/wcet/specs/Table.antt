@@ -82,3 +82,7 @@ around parents (suc d) l k = eqb l k || around parents d (getD parents l 0) k
 -- block u is inside loop l. A parent is below its loop (202), so m steps reach loop 0.
 unfoldable pub inside : Routine → ℕ → ℕ → Bool
 inside t u l = around (t .parents) (loopCount t) (loopOf t u) l
+
+-- v is a header: by 203 and 204 it is then the header of its innermost loop, and of no other
+abbrev pub isHeader : Routine → ℕ → Bool
+isHeader t v = eqb (header t (loopOf t v)) v

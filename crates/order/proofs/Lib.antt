@@ -1,0 +1,5 @@
+pub mod Edges
+pub mod Incoming
+pub mod Queues
+pub mod Passed
+pub mod Orders
