@@ -2,14 +2,17 @@
 use Prim.Native.Nat.{ℕ, _^_, _≤_, _<_}
 use mathlib.Core.Path.{_≡_}
 use mathlib.Core.Bool.{Bool, not}
-use mathlib.Core.List.{List, [], _∷_}
+use mathlib.Core.List.{List, []}
 use lib.IntN.{ℤ}
 use lib.ListN.{length}
 use Rattle.limits.specs.Limits.{mostBlocks}
 use Rattle.wcet.specs.Table.{Routine, blockCount, exit, cost, loopOf, figure, limit, multiplier, someEdge, isHeader}
-use Rattle.wcet.specs.Rules.{Reply, accepted, check, inequality, bound}
-use Rattle.loopsets.specs.Sets.{member, setAt}
+use Rattle.wcet.specs.Rules.{Reply, inequality, structureRules, tableReply}
+use Rattle.wcet.specs.Claim.{AllHold}
+use Rattle.loopsets.specs.Sets.{member, setAt, setsAround}
 use Rattle.nesting.specs.Columns.{routine, edgeColumns, Innermost}
+use Rattle.nesting.specs.Answers.{StructureChecked}
+use Rattle.nesting.specs.declared.Structured.{Structured}
 use Rattle.certificate.specs.Figures.{Figure}
 
 -- the columns that the inequality of an edge reads beside the sets, and those that the bound reads
@@ -50,6 +53,14 @@ brokenBySets sets t u v =
 abbrev pub anyBrokenBySets : (sets firsts seconds : List ℕ) (t : Routine) → ℕ → Bool
 anyBrokenBySets sets firsts seconds t u = someEdge (edgeColumns [] firsts seconds) u (brokenBySets sets t u)
 
--- 208 and the bound, read off the sets
-abbrev pub certifiedBySets : (sets firsts seconds : List ℕ) (t : Routine) → Reply ℤ
-certifiedBySets sets firsts seconds t = check (record { number = 208; places = blockCount t; broken = anyBrokenBySets sets firsts seconds t } ∷ []) (accepted (bound t))
+-- x is the reply to every pair of tables with these eight columns, where it passes 201 to 207 and the sets are its own
+abbrev pub Certified : (sets costs loops firsts seconds : List ℕ) (figures : List ℤ) (headers limits multipliers : List ℕ) → Reply ℤ → Type 0
+Certified sets costs loops firsts seconds figures headers limits multipliers x =
+    (parents : List ℕ) → AllHold (structureRules (routine costs loops firsts seconds figures parents headers limits multipliers)) → sets ≡ setsAround parents
+    → x ≡ tableReply (routine costs loops firsts seconds figures parents headers limits multipliers)
+
+-- and where the structure check gave this answer and these sets
+abbrev pub RepliedAfter : Structured → (costs loops firsts seconds : List ℕ) (figures : List ℤ) (headers limits multipliers : List ℕ) → Reply ℤ → Type 0
+RepliedAfter checked costs loops firsts seconds figures headers limits multipliers x =
+    (parents : List ℕ) → StructureChecked (routine costs loops firsts seconds figures parents headers limits multipliers) checked
+    → x ≡ tableReply (routine costs loops firsts seconds figures parents headers limits multipliers)

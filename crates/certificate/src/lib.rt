@@ -1,5 +1,5 @@
-// The certificate check: 208, the inequality of each edge, and the reply to a pair of tables. Figures and multipliers are claims, and are
-// never believed: what an accepted bound means does not depend on who made them.
+// The certificate check: 208, the inequality of each edge, and the reply to a pair of tables, with 209 by the order of its blocks. Figures and
+// multipliers are claims, and are never believed: what an accepted bound means does not depend on who made them.
 ghost use mathlib.Core.Path.{_≡_};
 ghost use Prim.Native.Nat.{_^_, _≤_, _<_};
 ghost use lib.IntN.{pos, _+ℤ_, _-ℤ_, _*ℤ_};
@@ -11,20 +11,21 @@ ghost use Rattle.wcet.specs.Claim.{Checked};
 ghost use Rattle.nesting.specs.Columns.{routine, Names, Linked, ofEdge};
 ghost use Rattle.nesting.specs.Answers.{placeOf};
 ghost use Rattle.nesting.specs.declared.Structure.the-variants.{Sound};
-ghost use Rattle.certificate.specs.Answers.{tableMeaning, replyAfter};
+ghost use Rattle.certificate.specs.Answers.{tableMeaning};
 ghost use Rattle.certificate.specs.Figures.{Figure};
-ghost use Rattle.certificate.specs.Columns.{weightColumns, priceColumns, Weighed, Priced, brokenBySets, anyBrokenBySets, certifiedBySets};
+ghost use Rattle.certificate.specs.Columns.{weightColumns, priceColumns, Weighed, Priced, brokenBySets, anyBrokenBySets, Certified, RepliedAfter};
 use loopsets::Sets;
 use nesting::Place;
 use nesting::Structure;
 use nesting::StructureFault;
 use nesting::Structured;
 
-// The bound, or the first broken rule: 201 to 207 as the structure check names them, or 208 at its source block.
+// The bound, or the first broken rule: 201 to 207 as the structure check names them, 208 at its source block, or 209.
 pub enum TableReply {
     Accepted(i64),
     Structure(StructureFault),
     Inequality(usize),
+    UndeclaredLoop,
 }
 
 // ---- the inequality on numbers, in its three forms
@@ -165,9 +166,9 @@ fn bound_at_exit(cost: &[u32], figure: &[i64]) -> i64
     bound_of(cost[0], entry, exit)
 }
 
-// The reply after the structure check: its refusal, or else 208 and the bound.
+// The reply to tables that pass 201 to 207, whose loop sets are given: 208, 209 or the bound.
 fn certify(
-    checked: Structured,
+    around: &Sets,
     cost: &[u32],
     loops: &[u16],
     first: &[u16],
@@ -177,16 +178,11 @@ fn certify(
     limit: &[u32],
     multiplier: &[u64],
 ) -> TableReply
-    requires { ⌜ (checked .answer ≡ Sound → Weighed (weightColumns (now cost) (now loops) (now figure) (now header) (now limit) (now multiplier)) × Linked (length (now cost)) (now first) (now second) × Priced (priceColumns (now cost) (now figure))) ⌝ }
-    ensures { λ r. ⌜ tableMeaning r ≡ replyAfter (checked .answer) (certifiedBySets (checked .around) (now (first .entry)) (now (second .entry)) (weightColumns (now (cost .entry)) (now (loops .entry)) (now (figure .entry)) (now (header .entry)) (now (limit .entry)) (now (multiplier .entry)))) ⌝ }
+    requires { ⌜ Weighed (weightColumns (now cost) (now loops) (now figure) (now header) (now limit) (now multiplier)) × Linked (length (now cost)) (now first) (now second) × Priced (priceColumns (now cost) (now figure)) ⌝ }
+    ensures { λ r. ⌜ Certified (now (around .entry)) (now (cost .entry)) (now (loops .entry)) (now (first .entry)) (now (second .entry)) (now (figure .entry)) (now (header .entry)) (now (limit .entry)) (now (multiplier .entry)) (tableMeaning r) ⌝ }
 {
-    let answer = checked.answer;
-    if let Structure::Broken(fault) = answer {
-        return TableReply::Structure(fault);
-    }
-    let around = checked.around;
     let place = first_broken_inequality(
-        &around,
+        around,
         cost,
         loops,
         first,
@@ -199,7 +195,44 @@ fn certify(
     if let Place::At(u) = place {
         return TableReply::Inequality(u);
     }
+    let order = order::order_of(around, loops, first, second, header);
+    if order.count < cost.len() {
+        return TableReply::UndeclaredLoop;
+    }
     TableReply::Accepted(bound_at_exit(cost, figure))
+}
+
+// The reply after the structure check: its refusal, or else what the other rules give.
+fn reply_after(
+    checked: Structured,
+    cost: &[u32],
+    loops: &[u16],
+    first: &[u16],
+    second: &[u16],
+    figure: &[i64],
+    header: &[u16],
+    limit: &[u32],
+    multiplier: &[u64],
+) -> TableReply
+    requires { ⌜ (checked .answer ≡ Sound → Weighed (weightColumns (now cost) (now loops) (now figure) (now header) (now limit) (now multiplier)) × Linked (length (now cost)) (now first) (now second) × Priced (priceColumns (now cost) (now figure))) ⌝ }
+    ensures { λ r. ⌜ RepliedAfter checked (now (cost .entry)) (now (loops .entry)) (now (first .entry)) (now (second .entry)) (now (figure .entry)) (now (header .entry)) (now (limit .entry)) (now (multiplier .entry)) (tableMeaning r) ⌝ }
+{
+    let answer = checked.answer;
+    if let Structure::Broken(fault) = answer {
+        return TableReply::Structure(fault);
+    }
+    let around = checked.around;
+    certify(
+        &around,
+        cost,
+        loops,
+        first,
+        second,
+        figure,
+        header,
+        limit,
+        multiplier,
+    )
 }
 
 // The reply to a pair of tables: the longest time of the routine, or the first broken rule. With it comes what an accepted bound means for
@@ -228,7 +261,7 @@ pub fn check(
         limit,
         multiplier,
     );
-    certify(
+    reply_after(
         checked,
         cost,
         loops,

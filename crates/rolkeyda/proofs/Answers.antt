@@ -108,6 +108,7 @@ module _ (t : Routine) (a : TableReply) (C : Checked t (tableMeaning a)) where
       go (table.Accepted b) B z = B b refl
       go (table.Structure f) B z = absurd (fault-number f z)
       go (table.Inequality u) B z = absurd (omega arith)
+      go table.UndeclaredLoop B z = absurd (omega arith)
 
 -- ---- walks
 

@@ -71,6 +71,7 @@ fn table_reply(answer: TableReply) -> Reply
         TableReply::Accepted(bound) => accepted(bound, 0),
         TableReply::Structure(fault) => structure(fault),
         TableReply::Inequality(u) => refused(208, u),
+        TableReply::UndeclaredLoop => refused(209, 0),
     }
 }
 

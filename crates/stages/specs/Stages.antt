@@ -58,7 +58,7 @@ withLoops costs loops firsts seconds figures ls = routine costs loops firsts sec
 abbrev pub routineOf : List BlockRow → List LoopRow → Routine
 routineOf bs = withLoops (map costOf bs) (map innermostOf bs) (map firstOf bs) (map secondOf bs) (map figureOf bs)
 
--- the last stage: the bound, or 201 to 208
+-- the last stage: the bound, or 201 to 209
 abbrev pub ofAnswer : Reply ℤ → Outcome
 ofAnswer (accepted bound) = Accepted bound
 ofAnswer (refused number place) = Refused Table number place

@@ -138,7 +138,7 @@ fn structure_stage(fault: StructureFault) -> Outcome
     }
 }
 
-// The bound, or 201 to 208.
+// The bound, or 201 to 209.
 fn table_stage(reply: TableReply) -> Outcome
     ensures { λ r. ⌜ r ≡ ofAnswer (tableMeaning reply) ⌝ }
 {
@@ -146,6 +146,7 @@ fn table_stage(reply: TableReply) -> Outcome
         TableReply::Accepted(bound) => Outcome::Accepted(bound),
         TableReply::Structure(fault) => structure_stage(fault),
         TableReply::Inequality(u) => refused(Stage::Table, 208, u),
+        TableReply::UndeclaredLoop => refused(Stage::Table, 209, 0),
     }
 }
 

@@ -2,7 +2,8 @@ use Rattle.wcet.specs.Table.{Routine}
 use Rattle.nesting.specs.Columns.{routine, Ranged}
 use Rattle.nesting.proofs.Stages.{linked}
 use Rattle.certificate.proofs.Edge.{weighed, priced}
-use Rattle.certificate.proofs.Reply.{ranged, reply-checked}
+use Rattle.wcet.proofs.Bound.{checked}
+use Rattle.certificate.proofs.Reply.{ranged}
 use borrow.Author.Needs.{needs}
 use Rattle.certificate.proofs.check.Statement.{statement}
 use Rattle.certificate.proofs.check.Tie as tie
@@ -17,14 +18,14 @@ at-entry start =
 check-structure-requires : tie.Need-check-structure-requires
 check-structure-requires c κs = search needs
 
-certify-requires : tie.Need-certify-requires
-certify-requires c κs = λ e.
+reply-after-requires : tie.Need-reply-after-requires
+reply-after-requires c κs = λ e.
     let t = at-entry (c .before .before .before .before .before .before .before .before .before) in
     let R : Ranged t = ranged t _ (c .check-structure .ensures) e in
     (weighed t R, linked t R, priced t R)
 
 returns : tie.Need-returns
-returns c = reply-checked (at-entry (c .before .before .before .before .before .before .before .before .before .before)) _ (c .before .check-structure .ensures) _ (c .certify .ensures)
+returns c = checked (at-entry (c .before .before .before .before .before .before .before .before .before .before)) _ (c .reply-after .ensures _ (c .before .check-structure .ensures))
 
 pub check-spec : {M : Type 1} → statement M
-check-spec = tie.close (tie.spec check-structure-requires certify-requires returns)
+check-spec = tie.close (tie.spec check-structure-requires reply-after-requires returns)

@@ -26,6 +26,12 @@ enum-known-answer-3 c = search needs
 refused-requires : tie.Need-refused-requires
 refused-requires c κs = search table-inequality
 
+enum-told : tie.Need-enum-told
+enum-told c = search needs
+
+refused-requires-2 : tie.Need-refused-requires-2
+refused-requires-2 c κs = search needs
+
 returns : tie.Need-returns
 returns c = search (table-accepted, needs)
 
@@ -34,6 +40,9 @@ returns-2 c = search needs
 
 returns-3 : tie.Need-returns-3
 returns-3 c = search table-told
+
+returns-4 : tie.Need-returns-4
+returns-4 c = search table-told
 
 pub table-reply-spec : {M : Type 1} → statement M
 table-reply-spec =
@@ -45,6 +54,9 @@ table-reply-spec =
     structure-requires
     enum-known-answer-3
     refused-requires
+    enum-told
+    refused-requires-2
     returns
     returns-2
-    returns-3)
+    returns-3
+    returns-4)

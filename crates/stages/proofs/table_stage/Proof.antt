@@ -20,6 +20,12 @@ enum-known-reply-3 c = search needs
 refused-requires : tie.Need-refused-requires
 refused-requires c κs = search needs
 
+enum-told : tie.Need-enum-told
+enum-told c = search needs
+
+refused-requires-2 : tie.Need-refused-requires-2
+refused-requires-2 c κs = search needs
+
 returns : tie.Need-returns
 returns c = search (bound-told, needs)
 
@@ -28,6 +34,9 @@ returns-2 c = search reply-told
 
 returns-3 : tie.Need-returns-3
 returns-3 c = search reply-told
+
+returns-4 : tie.Need-returns-4
+returns-4 c = search reply-told
 
 pub table-stage-spec : {M : Type 1} → statement M
 table-stage-spec =
@@ -38,6 +47,9 @@ table-stage-spec =
     structure-stage-requires
     enum-known-reply-3
     refused-requires
+    enum-told
+    refused-requires-2
     returns
     returns-2
-    returns-3)
+    returns-3
+    returns-4)
