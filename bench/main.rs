@@ -140,7 +140,7 @@ fn checking_beside(routine: &Routine, answer: &str) {
     );
 }
 
-// Tables of three sizes, which show how the time grows with the edges; then the largest with a circle that no loop declares.
+// Tables of three sizes, which show how the time grows with the edges; then the largest with a cycle that no loop declares.
 fn checking() {
     for n in [256, 512, 1024] {
         let routine = Routine::sized(n);
@@ -149,7 +149,7 @@ fn checking() {
         assert_eq!(straight::check(&routine), Ok(ours.value));
         checking_beside(&routine, &format!("bound {}", ours.value));
     }
-    let routine = Routine::with_circle(1024);
+    let routine = Routine::with_cycle(1024);
     let ours = Library::check(&routine);
     assert_eq!((ours.number, ours.place), (209, 0));
     assert_eq!(straight::check(&routine), Err((209, 0)));

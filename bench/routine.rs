@@ -111,8 +111,8 @@ impl Routine {
         Routine::sized(1024)
     }
 
-    // The same with a circle that no loop declares: the last two blocks before the exit, which cost nothing.
-    pub fn with_circle(n: usize) -> Routine {
+    // The same with a cycle that no loop declares: the last two blocks before the exit, which cost nothing.
+    pub fn with_cycle(n: usize) -> Routine {
         let mut t = Routine::unsolved(n);
         t.blocks.cost[n - 3] = 0;
         t.blocks.cost[n - 2] = 0;

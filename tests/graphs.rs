@@ -1,4 +1,4 @@
-//! Pairs of tables made from structured routines with nested loops, with figures from a longest-path computation; circles that no loop
+//! Pairs of tables made from structured routines with nested loops, with figures from a longest-path computation; cycles that no loop
 //! declares; damage to them; and walks.
 
 use crate::random::Random;
@@ -22,7 +22,7 @@ struct Builder<'a> {
     most_loops: usize,
     returns: Vec<usize>,
     /// Whether closed walks that no loop declares are wanted.
-    circles: bool,
+    cycles: bool,
     /// The blocks of cost 0 and the loops of limit 1 on such walks: every inequality can be kept there.
     free_blocks: Vec<usize>,
     free_loops: Vec<usize>,
@@ -74,8 +74,8 @@ impl Builder<'_> {
             if !self.room(5) {
                 break;
             }
-            if self.circles && self.random.once_in(3) {
-                open = self.circle(inner, open, deep);
+            if self.cycles && self.random.once_in(3) {
+                open = self.undeclared(inner, open, deep);
                 continue;
             }
             open = match self.random.below(10) {
@@ -148,9 +148,9 @@ impl Builder<'_> {
         after
     }
 
-    /// Statements in a circle that no loop declares, or now and then the same with the loop declared. It is entered and left as usual, or there
+    /// Statements in a cycle that no loop declares, or now and then the same with the loop declared. It is entered and left as usual, or there
     /// is a way past it, and it may be that nothing leads to it or that it is never left.
-    fn circle(&mut self, inner: usize, open: usize, deep: usize) -> usize {
+    fn undeclared(&mut self, inner: usize, open: usize, deep: usize) -> usize {
         let (blocks, loops) = (self.successors.len(), self.parent.len());
         let declared = loops < self.most_loops && deep < 15 && self.random.once_in(4);
         let (l, first) = if declared { self.new_loop(inner) } else { (inner, self.block(inner)) };
@@ -246,7 +246,7 @@ fn plan(random: &mut Random) -> Plan {
 /// A routine with its costs and limits, its figures and multipliers made so that many are accepted.
 pub fn routine(random: &mut Random) -> Tables {
     let plan = plan(random);
-    let circles = random.once_in(8);
+    let cycles = random.once_in(8);
     let mut b = Builder {
         random,
         successors: vec![Vec::new()],
@@ -256,7 +256,7 @@ pub fn routine(random: &mut Random) -> Tables {
         most_blocks: plan.blocks,
         most_loops: plan.loops,
         returns: Vec::new(),
-        circles,
+        cycles,
         free_blocks: Vec::new(),
         free_loops: Vec::new(),
     };
@@ -279,8 +279,8 @@ pub fn routine(random: &mut Random) -> Tables {
             b.edge(open, next);
             open = next;
         }
-        // the whole row in one circle
-        if b.circles && open >= row {
+        // the whole row in one cycle
+        if b.cycles && open >= row {
             b.edge(open, row);
             let loops = b.parent.len();
             b.free(row, loops);

@@ -2,8 +2,8 @@
 //! is 'N passed, M failed'. With --long the run has ten times as many cases, from further seeds.
 
 mod abi;
-mod circles;
 mod compare;
+mod cycles;
 mod graphs;
 mod lent;
 mod named;
@@ -34,8 +34,8 @@ pub struct Tally {
     replies: BTreeMap<(u32, usize), u64>,
     /// The readers' replies by number, more, reader and header row.
     reads: BTreeMap<(u32, u64, usize, bool), u64>,
-    /// The checked tables of each kind of `circles::KINDS`.
-    graphs: [u64; circles::KINDS.len()],
+    /// The checked tables of each kind of `cycles::KINDS`.
+    graphs: [u64; cycles::KINDS.len()],
     failures: Vec<String>,
 }
 
@@ -92,8 +92,8 @@ impl Tally {
         if (201..208).contains(&number) {
             return;
         }
-        let graph = circles::Graph::new(tables);
-        for (count, (reply, _, is)) in self.graphs.iter_mut().zip(circles::KINDS) {
+        let graph = cycles::Graph::new(tables);
+        for (count, (reply, _, is)) in self.graphs.iter_mut().zip(cycles::KINDS) {
             *count += u64::from(reply == number && is(&graph));
         }
     }
@@ -221,7 +221,7 @@ fn report(tally: &mut Tally) {
         }
     }
     println!("the checked tables by what their graphs have");
-    for ((number, name, _), count) in circles::KINDS.into_iter().zip(tally.graphs) {
+    for ((number, name, _), count) in cycles::KINDS.into_iter().zip(tally.graphs) {
         println!("{number:>5}  {count:>12} {name}");
         tally.often(&format!("reply {number} {name}"), count);
     }

@@ -1,7 +1,7 @@
 //! Named tests: the marked cases of document 01, each sentence of its "Plausible and wrong", the edges of its rules, and of document 02 the
 //! line ends of request 1 and the closed walks of request 2.
 
-use crate::circles::Graph;
+use crate::cycles::Graph;
 use crate::compare::Bench;
 use crate::graphs::Tables;
 use crate::reference::{self, MISSING};
@@ -62,11 +62,11 @@ pub fn all(tally: &mut Tally) {
     line_ends(&mut tester);
     sizes(&mut tester);
     tables(&mut tester);
-    circles(&mut tester);
-    large_circles(&mut tester);
+    cycles(&mut tester);
+    large_cycles(&mut tester);
     small_graphs(&mut tester);
     walks(&mut tester);
-    circle_walks(&mut tester);
+    cycle_walks(&mut tester);
 }
 
 /// Records written with '|' for CR LF.
@@ -698,65 +698,65 @@ fn ways(rows: &str) -> Vec<(usize, usize)> {
 }
 
 const GOOD: Want = Accepted(0, 0);
-const CIRCLE: Want = Refused(209, 0);
+const UNDECLARED: Want = Refused(209, 0);
 
 /// Request 2 of document 02: small graphs of blocks that cost nothing, with the loops that are declared. The highest block is the exit.
-const CIRCLES: &[(&str, &str, &[Loop], Want)] = &[
-    ("a block that names itself", "0112", &[], CIRCLE),
+const CYCLES: &[(&str, &str, &[Loop], Want)] = &[
+    ("a block that names itself", "0112", &[], UNDECLARED),
     ("a block that names itself, the loop declared", "0112", &[(0, 1, &[])], GOOD),
-    ("a block that names itself twice", "011 11 02", &[], CIRCLE),
+    ("a block that names itself twice", "011 11 02", &[], UNDECLARED),
     ("a block that names itself twice, the loop declared", "011 11 02", &[(0, 1, &[])], GOOD),
-    ("two blocks", "0121 23", &[], CIRCLE),
+    ("two blocks", "0121 23", &[], UNDECLARED),
     ("two blocks, the loop declared", "0121 23", &[(0, 1, &[2])], GOOD),
     ("two blocks, the loop declared at the higher one", "0212 13", &[(0, 2, &[1])], GOOD),
-    ("three blocks", "01231 34", &[], CIRCLE),
+    ("three blocks", "01231 34", &[], UNDECLARED),
     ("three blocks, the loop declared", "01231 34", &[(0, 1, &[2, 3])], GOOD),
-    ("three blocks downwards", "03213 14", &[], CIRCLE),
+    ("three blocks downwards", "03213 14", &[], UNDECLARED),
     ("three blocks downwards, the loop declared", "03213 14", &[(0, 3, &[1, 2])], GOOD),
-    ("two circles", "0121 232 34", &[], CIRCLE),
-    ("two circles, the first declared", "0121 232 34", &[(0, 1, &[2, 3])], CIRCLE),
-    ("two circles, both declared", "0121 232 34", &[(0, 1, &[]), (1, 2, &[3])], GOOD),
-    ("a circle that is never left", "0121 03", &[], CIRCLE),
-    ("a circle at the end of a long way", "01234565 67", &[], CIRCLE),
+    ("two cycles", "0121 232 34", &[], UNDECLARED),
+    ("two cycles, the first declared", "0121 232 34", &[(0, 1, &[2, 3])], UNDECLARED),
+    ("two cycles, both declared", "0121 232 34", &[(0, 1, &[]), (1, 2, &[3])], GOOD),
+    ("a cycle that is never left", "0121 03", &[], UNDECLARED),
+    ("a cycle at the end of a long way", "01234565 67", &[], UNDECLARED),
     // unreachable blocks
-    ("an unreachable block that names itself", "11 02", &[], CIRCLE),
+    ("an unreachable block that names itself", "11 02", &[], UNDECLARED),
     ("an unreachable block that names itself, the loop declared", "11 02", &[(0, 1, &[])], GOOD),
-    ("two unreachable blocks", "121 03", &[], CIRCLE),
+    ("two unreachable blocks", "121 03", &[], UNDECLARED),
     ("two unreachable blocks, the loop declared", "121 03", &[(0, 1, &[2])], GOOD),
-    ("two unreachable blocks that lead to the others", "2321 014 34", &[], CIRCLE),
-    ("two unreachable blocks and nothing else", "121 13", &[], CIRCLE),
+    ("two unreachable blocks that lead to the others", "2321 014 34", &[], UNDECLARED),
+    ("two unreachable blocks and nothing else", "121 13", &[], UNDECLARED),
     // through the header of a loop that is entered from outside
-    ("through the loop of its first block", "0121 23", &[(0, 1, &[])], CIRCLE),
-    ("through the loop of its second block", "0121 23", &[(0, 2, &[])], CIRCLE),
-    ("through the loops of both", "0121 23", &[(0, 1, &[]), (0, 2, &[])], CIRCLE),
-    ("through two headers that name themselves", "01122 21 03", &[(0, 1, &[]), (0, 2, &[])], CIRCLE),
+    ("through the loop of its first block", "0121 23", &[(0, 1, &[])], UNDECLARED),
+    ("through the loop of its second block", "0121 23", &[(0, 2, &[])], UNDECLARED),
+    ("through the loops of both", "0121 23", &[(0, 1, &[]), (0, 2, &[])], UNDECLARED),
+    ("through two headers that name themselves", "01122 21 03", &[(0, 1, &[]), (0, 2, &[])], UNDECLARED),
     ("two headers that name themselves, one loop in the other", "01122 21 03", &[(0, 1, &[]), (1, 2, &[])], GOOD),
     ("two headers that name themselves and no way back", "01122 23", &[(0, 1, &[]), (0, 2, &[])], GOOD),
-    ("through a loop of two blocks", "01231 21 34", &[(0, 1, &[2])], CIRCLE),
-    ("through a loop of two blocks, left and entered by its header", "01213 31 34", &[(0, 1, &[2])], CIRCLE),
-    ("through an inner loop, past the outer header", "01232 31 14", &[(0, 1, &[3]), (1, 2, &[])], CIRCLE),
-    ("through the loop of an unreachable block", "121 03", &[(0, 1, &[])], CIRCLE),
+    ("through a loop of two blocks", "01231 21 34", &[(0, 1, &[2])], UNDECLARED),
+    ("through a loop of two blocks, left and entered by its header", "01213 31 34", &[(0, 1, &[2])], UNDECLARED),
+    ("through an inner loop, past the outer header", "01232 31 14", &[(0, 1, &[3]), (1, 2, &[])], UNDECLARED),
+    ("through the loop of an unreachable block", "121 03", &[(0, 1, &[])], UNDECLARED),
     // in a declared loop, past its header
-    ("a block in a loop that names itself", "01221 13", &[(0, 1, &[2])], CIRCLE),
+    ("a block in a loop that names itself", "01221 13", &[(0, 1, &[2])], UNDECLARED),
     ("a block in a loop that names itself, its loop declared too", "01221 13", &[(0, 1, &[]), (1, 2, &[])], GOOD),
-    ("two blocks in a loop", "01232 31 14", &[(0, 1, &[2, 3])], CIRCLE),
+    ("two blocks in a loop", "01232 31 14", &[(0, 1, &[2, 3])], UNDECLARED),
     ("two blocks in a loop, their loop declared too", "01232 31 14", &[(0, 1, &[]), (1, 2, &[3])], GOOD),
-    ("two blocks in an inner loop", "012343 42 15", &[(0, 1, &[]), (1, 2, &[3, 4])], CIRCLE),
+    ("two blocks in an inner loop", "012343 42 15", &[(0, 1, &[]), (1, 2, &[3, 4])], UNDECLARED),
     ("two blocks in an inner loop, their loop declared too", "012343 42 15", &[(0, 1, &[]), (1, 2, &[]), (2, 3, &[4])], GOOD),
     // returns to an outer header, and edges out of an inner loop that are none
     ("a return to the outer header", "0121 23", &[(0, 1, &[]), (1, 2, &[])], GOOD),
     ("a return past the header between", "01231 34", &[(0, 1, &[]), (1, 2, &[]), (2, 3, &[])], GOOD),
-    ("out of the inner loop to a block that is no header", "01232 34", &[(0, 1, &[2]), (1, 3, &[])], CIRCLE),
-    ("out of the inner loop to the header of another one", "01232 34", &[(0, 1, &[]), (1, 2, &[]), (1, 3, &[])], CIRCLE),
+    ("out of the inner loop to a block that is no header", "01232 34", &[(0, 1, &[2]), (1, 3, &[])], UNDECLARED),
+    ("out of the inner loop to the header of another one", "01232 34", &[(0, 1, &[]), (1, 2, &[]), (1, 3, &[])], UNDECLARED),
     // both successors the same
     ("doubled edges in a row", "01 01 12 12 23 23", &[], GOOD),
-    ("doubled edges in a circle", "01 03 12 12 21 21", &[], CIRCLE),
-    ("doubled edges in a circle, the loop declared", "01 03 12 12 21 21", &[(0, 1, &[2])], GOOD),
-    ("a doubled edge forwards in a circle", "012 12 21 23", &[], CIRCLE),
+    ("doubled edges in a cycle", "01 03 12 12 21 21", &[], UNDECLARED),
+    ("doubled edges in a cycle, the loop declared", "01 03 12 12 21 21", &[(0, 1, &[2])], GOOD),
+    ("a doubled edge forwards in a cycle", "012 12 21 23", &[], UNDECLARED),
     ("a doubled edge forwards, the loop declared", "012 12 21 23", &[(0, 1, &[2])], GOOD),
-    ("a doubled edge back", "0121 21 13", &[], CIRCLE),
+    ("a doubled edge back", "0121 21 13", &[], UNDECLARED),
     ("a doubled edge back, the loop declared", "0121 21 13", &[(0, 1, &[2])], GOOD),
-    ("a doubled edge back that enters a loop", "0121 21 13", &[(0, 1, &[])], CIRCLE),
+    ("a doubled edge back that enters a loop", "0121 21 13", &[(0, 1, &[])], UNDECLARED),
     ("a doubled edge to a loop", "0121 01 23", &[(0, 1, &[2])], GOOD),
     // no closed walk
     ("a branch", "013 023", &[], GOOD),
@@ -771,31 +771,31 @@ const CIRCLES: &[(&str, &str, &[Loop], Want)] = &[
     ("207 before 209", "01221 02 13", &[(0, 1, &[2])], Refused(207, 0)),
 ];
 
-fn circles(t: &mut Tester) {
-    for (name, rows, loops, wanted) in CIRCLES {
+fn cycles(t: &mut Tester) {
+    for (name, rows, loops, wanted) in CYCLES {
         let edges = ways(rows);
         let n = edges.iter().map(|(_, v)| v + 1).max().unwrap();
-        t.check(&format!("circle: {name}"), &free(n, edges, loops), *wanted);
+        t.check(&format!("cycle: {name}"), &free(n, edges, loops), *wanted);
     }
     let with = |rows: &str, loops: &[Loop], change: fn(&mut Tables)| {
         let mut tables = free(4, ways(rows), loops);
         change(&mut tables);
         tables
     };
-    t.check("circle: 208 before 209, on the circle", &with("0121 23", &[], |x| x.blocks.figure[2] = 1), Refused(208, 1));
-    t.check("circle: 208 before 209, elsewhere", &with("0113", &[], |x| x.blocks.cost[3] = 1), Refused(208, 1));
-    t.check("circle: 208 before 209, unreachable", &with("03 121", &[], |x| x.blocks.cost[1] = 1), Refused(208, 2));
-    t.check("circle: the way to it costs", &with("0121 23", &[], |x| (x.blocks.cost[0], x.blocks.figure[0]) = (5, 9)), CIRCLE);
+    t.check("cycle: 208 before 209, on the cycle", &with("0121 23", &[], |x| x.blocks.figure[2] = 1), Refused(208, 1));
+    t.check("cycle: 208 before 209, elsewhere", &with("0113", &[], |x| x.blocks.cost[3] = 1), Refused(208, 1));
+    t.check("cycle: 208 before 209, unreachable", &with("03 121", &[], |x| x.blocks.cost[1] = 1), Refused(208, 2));
+    t.check("cycle: the way to it costs", &with("0121 23", &[], |x| (x.blocks.cost[0], x.blocks.figure[0]) = (5, 9)), UNDECLARED);
     // an entry costs multiplier x (limit - 1)
     let header: &[Loop] = &[(0, 1, &[])];
-    t.check("circle: limit 1, multiplier 2^40", &with("0121 23", header, |x| x.loops.multiplier[1] = 1 << 40), CIRCLE);
-    t.check("circle: limit 65,535, multiplier 0", &with("0121 23", header, |x| x.loops.limit[1] = 65_535), CIRCLE);
-    t.check("circle: limit 2, multiplier 1", &with("0121 23", header, |x| (x.loops.limit[1], x.loops.multiplier[1]) = (2, 1)), Refused(208, 0));
-    t.check("circle: no edges", &free(4, [], &[]), GOOD);
+    t.check("cycle: limit 1, multiplier 2^40", &with("0121 23", header, |x| x.loops.multiplier[1] = 1 << 40), UNDECLARED);
+    t.check("cycle: limit 65,535, multiplier 0", &with("0121 23", header, |x| x.loops.limit[1] = 65_535), UNDECLARED);
+    t.check("cycle: limit 2, multiplier 1", &with("0121 23", header, |x| (x.loops.limit[1], x.loops.multiplier[1]) = (2, 1)), Refused(208, 0));
+    t.check("cycle: no edges", &free(4, [], &[]), GOOD);
 }
 
-/// The largest graphs. Block 0 and the exit are on no closed walk (206), so 1,022 blocks are the most in one circle.
-fn large_circles(t: &mut Tester) {
+/// The largest graphs. Block 0 and the exit are on no closed walk (206), so 1,022 blocks are the most in one cycle.
+fn large_cycles(t: &mut Tester) {
     const N: usize = 1024;
     let last = N - 2;
     let up = |to: usize| (0..to).map(|u| (u, u + 1));
@@ -805,31 +805,31 @@ fn large_circles(t: &mut Tester) {
     let both = |u: usize, v: usize| [(u, v), (u, v)];
     let cases: [(&str, Tables, Want); 15] = [
         ("a row", free(N, up(N - 1), &[]), GOOD),
-        ("a row in a circle", free(N, up(N - 1).chain([(last, 1)]), &[]), CIRCLE),
-        ("a row in a circle, the loop declared", free(N, up(N - 1).chain([(last, 1)]), &[(0, 1, &all)]), GOOD),
-        ("a row in a circle that enters the loop of its first block", free(N, up(N - 1).chain([(last, 1)]), &[(0, 1, &[])]), CIRCLE),
-        ("a row in a circle that is never left", free(N, up(last).chain([(last, 1)]), &[]), CIRCLE),
-        ("a row in a circle that nothing leads to", free(N, up(last).skip(1).chain([(last, 1)]), &[]), CIRCLE),
-        ("a row and a block that names itself", free(N, up(N - 1).chain([(last, last)]), &[]), CIRCLE),
+        ("a row in a cycle", free(N, up(N - 1).chain([(last, 1)]), &[]), UNDECLARED),
+        ("a row in a cycle, the loop declared", free(N, up(N - 1).chain([(last, 1)]), &[(0, 1, &all)]), GOOD),
+        ("a row in a cycle that enters the loop of its first block", free(N, up(N - 1).chain([(last, 1)]), &[(0, 1, &[])]), UNDECLARED),
+        ("a row in a cycle that is never left", free(N, up(last).chain([(last, 1)]), &[]), UNDECLARED),
+        ("a row in a cycle that nothing leads to", free(N, up(last).skip(1).chain([(last, 1)]), &[]), UNDECLARED),
+        ("a row and a block that names itself", free(N, up(N - 1).chain([(last, last)]), &[]), UNDECLARED),
         ("a row downwards", free(N, down().chain([(1, N - 1)]), &[]), GOOD),
-        ("a row downwards in a circle", free(N, down().chain([(1, N - 1), (1, last)]), &[]), CIRCLE),
+        ("a row downwards in a cycle", free(N, down().chain([(1, N - 1), (1, last)]), &[]), UNDECLARED),
         ("a row of doubled edges", free(N, (0..=last).flat_map(|u| both(u, u + 1)), &[]), GOOD),
-        ("doubled edges in a circle", free(N, (1..=last).flat_map(|u| both(u, if u < last { u + 1 } else { 1 })), &[]), CIRCLE),
+        ("doubled edges in a cycle", free(N, (1..=last).flat_map(|u| both(u, if u < last { u + 1 } else { 1 })), &[]), UNDECLARED),
         ("2,046 edges to one block", free(N, (0..=last).flat_map(|u| both(u, N - 1)), &[]), GOOD),
-        ("2,044 edges to one block, and one from it to itself", free(N, (0..last).flat_map(|u| both(u, last)).chain([(last, last)]), &[]), CIRCLE),
-        ("1,022 blocks that name themselves", free(N, (1..=last).map(|u| (u, u)), &[]), CIRCLE),
+        ("2,044 edges to one block, and one from it to itself", free(N, (0..last).flat_map(|u| both(u, last)).chain([(last, last)]), &[]), UNDECLARED),
+        ("1,022 blocks that name themselves", free(N, (1..=last).map(|u| (u, u)), &[]), UNDECLARED),
         ("no edges", free(N, [], &[]), GOOD),
     ];
     for (name, tables, wanted) in &cases {
-        t.check(&format!("large circle: {name}"), tables, *wanted);
+        t.check(&format!("large cycle: {name}"), tables, *wanted);
     }
     // the work marks are cleared before each check: a small table and a large one, each after every one of these
     let (small, large) = (a(|_| ()), &cases[0].1);
     for (name, tables, wanted) in &cases {
-        t.check(&format!("circle: {name}, before A"), tables, *wanted);
-        t.check(&format!("circle: A after {name}"), &small, Accepted(30, 0));
-        t.check(&format!("circle: {name}, after A"), tables, *wanted);
-        t.check(&format!("circle: a row after {name}"), large, GOOD);
+        t.check(&format!("cycle: {name}, before A"), tables, *wanted);
+        t.check(&format!("cycle: A after {name}"), &small, Accepted(30, 0));
+        t.check(&format!("cycle: {name}, after A"), tables, *wanted);
+        t.check(&format!("cycle: a row after {name}"), large, GOOD);
     }
 }
 
@@ -933,24 +933,24 @@ fn walks(t: &mut Tester) {
 }
 
 /// Neither 208 nor 209 stops a walk.
-fn circle_walks(t: &mut Tester) {
+fn cycle_walks(t: &mut Tester) {
     let cycle = tables_of(CYCLE_BLOCKS, "0,0,0,1,0");
-    t.walk("circle: a walk", &cycle, &[0, 1, 2, 3], Accepted(2, 3));
-    t.walk("circle: a walk round it", &cycle, &[0, 1, 2, 1, 2, 1, 2, 3], Accepted(2, 7));
-    t.walk("circle: a walk that ends on it", &cycle, &[0, 1, 2, 1], Refused(314, 4));
-    t.walk("circle: a walk that stays at one of its blocks", &cycle, &[0, 1, 2, 2], Refused(312, 3));
+    t.walk("cycle: a walk", &cycle, &[0, 1, 2, 3], Accepted(2, 3));
+    t.walk("cycle: a walk round it", &cycle, &[0, 1, 2, 1, 2, 1, 2, 3], Accepted(2, 7));
+    t.walk("cycle: a walk that ends on it", &cycle, &[0, 1, 2, 1], Refused(314, 4));
+    t.walk("cycle: a walk that stays at one of its blocks", &cycle, &[0, 1, 2, 2], Refused(312, 3));
     let costs = tables_of("0,1,0,1,,3|1,1,0,2,,2|2,1,0,1,3,1|3,1,0,,,0", "0,0,0,1,0");
-    t.walk("circle: a walk round one that costs", &costs, &[0, 1, 2, 1, 2, 1, 2, 3], Accepted(8, 7));
+    t.walk("cycle: a walk round one that costs", &costs, &[0, 1, 2, 1, 2, 1, 2, 3], Accepted(8, 7));
     let itself = free(3, ways("0112"), &[]);
-    t.walk("circle: a walk that stays at a block which names itself", &itself, &[0, 1, 1, 1, 2], Accepted(0, 4));
-    t.walk("circle: a walk past an unreachable one", &free(4, ways("121 03"), &[]), &[0, 3], Accepted(0, 1));
+    t.walk("cycle: a walk that stays at a block which names itself", &itself, &[0, 1, 1, 1, 2], Accepted(0, 4));
+    t.walk("cycle: a walk past an unreachable one", &free(4, ways("121 03"), &[]), &[0, 3], Accepted(0, 1));
     // each entry from outside is a new stay, the return within one is counted
     let header = free(4, ways("01121 23"), &[(0, 1, &[])]);
-    t.walk("circle: a walk through a header of limit 1", &header, &[0, 1, 2, 1, 2, 1, 2, 3], Accepted(0, 7));
-    t.walk("circle: a walk through a header past its limit", &header, &[0, 1, 2, 1, 1], Refused(313, 4));
+    t.walk("cycle: a walk through a header of limit 1", &header, &[0, 1, 2, 1, 2, 1, 2, 3], Accepted(0, 7));
+    t.walk("cycle: a walk through a header past its limit", &header, &[0, 1, 2, 1, 1], Refused(313, 4));
     let most = 1_048_576;
     let mut long = [&[0][..], &[1, 2].repeat(most / 2 - 1), &[3]].concat();
-    t.walk("circle: a walk of 1,048,576 blocks round it", &cycle, &long, Accepted(2, most as u64 - 1));
+    t.walk("cycle: a walk of 1,048,576 blocks round it", &cycle, &long, Accepted(2, most as u64 - 1));
     long[most - 1] = 1;
-    t.walk("circle: a walk of 1,048,576 blocks that ends on it", &cycle, &long, Refused(314, most as u32));
+    t.walk("cycle: a walk of 1,048,576 blocks that ends on it", &cycle, &long, Refused(314, most as u32));
 }

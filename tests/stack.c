@@ -475,15 +475,15 @@ static void closed_walks(void)
     refused(CHECK, "and so does the last block but one", 209, 0);
     free_tables(false);
     second[BLOCKS - 2] = 1;
-    refused(CHECK, "1,022 blocks in a circle", 209, 0);
+    refused(CHECK, "1,022 blocks in a cycle", 209, 0);
     free_tables(true);
     accepted(CHECK, "doubled edges", 0, 0);
     first[BLOCKS - 2] = second[BLOCKS - 2] = 1;
-    refused(CHECK, "1,022 blocks with doubled edges in a circle", 209, 0);
+    refused(CHECK, "1,022 blocks with doubled edges in a cycle", 209, 0);
     free_tables_downwards();
     accepted(CHECK, "a row downwards", 0, 0);
     second[LOOPS] = BLOCKS - 2;
-    refused(CHECK, "a row downwards in a circle", 209, 0);
+    refused(CHECK, "a row downwards in a cycle", 209, 0);
     free_tables(false);
     for (size_t u = 0; u < BLOCKS - 1; u++)
         first[u] = second[u] = BLOCKS - 1;
@@ -518,8 +518,8 @@ static void long_walk(size_t length)
     list_length = length;
 }
 
-/* As many times as a walk may go round a circle of 1,022 blocks that no loop declares. */
-static void circle_walk(void)
+/* As many times as a walk may go round a cycle of 1,022 blocks that no loop declares. */
+static void cycle_walk(void)
 {
     free_tables(false);
     second[BLOCKS - 2] = 1;
@@ -559,8 +559,8 @@ static void walks(void)
     largest_tables();
     second[BLOCKS - 2] = 15;
     refused(WALK, "an edge past 14 headers", 207, BLOCKS - 2);
-    circle_walk();
-    accepted(WALK, "a circle of 1,022 blocks, round and round", 0, list_length - 1);
+    cycle_walk();
+    accepted(WALK, "a cycle of 1,022 blocks, round and round", 0, list_length - 1);
 }
 
 int main(void)

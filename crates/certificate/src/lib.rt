@@ -1,5 +1,5 @@
-// The certificate check: 208, the inequality of each edge, and the reply to a pair of tables, with 209 by the order of its blocks. Figures and
-// multipliers are claims, and are never believed: what an accepted bound means does not depend on who made them.
+// The certificate check: 208, the inequality of each edge; 209, by a topological order of the blocks; and the reply to a pair of tables.
+// Figures and multipliers are claims, and are never believed: what an accepted bound means does not depend on who made them.
 ghost use mathlib.Core.Path.{_≡_};
 ghost use Prim.Native.Nat.{_^_, _≤_, _<_};
 ghost use lib.IntN.{pos, _+ℤ_, _-ℤ_, _*ℤ_};
@@ -235,8 +235,7 @@ fn reply_after(
     )
 }
 
-// The reply to a pair of tables: the longest time of the routine, or the first broken rule. With it comes what an accepted bound means for
-// every list of blocks.
+// The reply to a pair of tables: its bound, or the first broken rule. With it comes what an accepted bound means for every list of blocks.
 pub fn check(
     cost: &[u32],
     loops: &[u16],

@@ -1,4 +1,4 @@
--- The edges by number that do not return, read off the loop sets, are the edges that do not return. Assumes nothing.
+-- The forward edges by number, read off the loop sets, are the forward edges. Assumes nothing.
 use mathlib.Core.Path.{_≡_, refl, sym, _∙_, ap}
 use mathlib.Core.Logic.{_⊎_, inl, inr, ⊎-elim}
 use mathlib.Core.Bool.{Bool, true, false, not, _&&_}
@@ -17,30 +17,30 @@ use Rattle.loopsets.specs.Sets.{setsAround}
 use Rattle.loopsets.proofs.Laws.{member-around}
 use Rattle.nesting.specs.Columns.{ofEdge, Names, Linked, Ranged}
 use Rattle.nesting.proofs.Edges.{by-first, by-second}
-use Rattle.order.specs.Edges.{backBySets, endBySets, successor, edgeEnd}
+use Rattle.order.specs.Edges.{backBySets, targetBySets, successor, edgeTarget}
 
 -- ---- what the code finds for a successor v of block u
 
 module _ (sets loops headers : List ℕ) (u v : ℕ) where
-  pub ends-missing : v ≡ missing → v ≡ endBySets sets loops headers u v
-  unfolding endBySets
+  pub ends-missing : v ≡ missing → v ≡ targetBySets sets loops headers u v
+  unfolding targetBySets
   ends-missing m = go (backBySets sets loops headers u v)
     where
       go : (b : Bool) → v ≡ (if b then missing else v)
       go true = m
       go false = refl
 
-  pub ends-nowhere : backBySets sets loops headers u v ≡ true → missing ≡ endBySets sets loops headers u v
-  unfolding endBySets
+  pub ends-nowhere : backBySets sets loops headers u v ≡ true → missing ≡ targetBySets sets loops headers u v
+  unfolding targetBySets
   ends-nowhere b = rw b
 
-  pub ends-there : backBySets sets loops headers u v ≡ false → v ≡ endBySets sets loops headers u v
-  unfolding endBySets
+  pub ends-there : backBySets sets loops headers u v ≡ false → v ≡ targetBySets sets loops headers u v
+  unfolding targetBySets
   ends-there b = rw b
 
   -- which is a block, where there is one
-  pub end-names : (n : ℕ) → Names n v → Names n (endBySets sets loops headers u v)
-  unfolding endBySets
+  pub end-names : (n : ℕ) → Names n v → Names n (targetBySets sets loops headers u v)
+  unfolding targetBySets
   end-names n names = go (backBySets sets loops headers u v)
     where
       go : (b : Bool) → Names n (if b then missing else v)
@@ -58,22 +58,22 @@ module _ (firsts seconds : List ℕ) where
 
 module _ (sets loops firsts seconds headers : List ℕ) where
   abbrev ends : ℕ → ℕ
-  ends = edgeEnd sets loops firsts seconds headers
+  ends = edgeTarget sets loops firsts seconds headers
 
-  pub first-end : (u : ℕ) → endBySets sets loops headers u (getD firsts u 0) ≡ ends (2 * u)
-  unfolding edgeEnd
+  pub first-end : (u : ℕ) → targetBySets sets loops headers u (getD firsts u 0) ≡ ends (2 * u)
+  unfolding edgeTarget
   first-end u =
       let half : (2 * u) / 2 ≡ u = omega arith in
       rw (even firsts seconds (2 * u) (omega arith), half)
 
-  pub second-end : (u : ℕ) → endBySets sets loops headers u (getD seconds u 0) ≡ ends (2 * u + 1)
-  unfolding edgeEnd
+  pub second-end : (u : ℕ) → targetBySets sets loops headers u (getD seconds u 0) ≡ ends (2 * u + 1)
+  unfolding edgeTarget
   second-end u =
       let half : (2 * u + 1) / 2 ≡ u = omega arith in
       rw (odd firsts seconds (2 * u + 1) (λ z. omega arith), half)
 
 abbrev pub endsOf : Routine → List ℕ → ℕ → ℕ
-endsOf t sets = edgeEnd sets (t .loops) (t .firsts) (t .seconds) (t .headers)
+endsOf t sets = edgeTarget sets (t .loops) (t .firsts) (t .seconds) (t .headers)
 
 -- ---- of tables in their ranges, with their sets
 
@@ -95,20 +95,20 @@ module _ (t : Routine) (sets : List ℕ) (R : Ranged t) (S : sets ≡ setsAround
         (2 * u + 1, half, omega arith, odd (t .firsts) (t .seconds) (2 * u + 1) (λ z. omega arith) ∙ ap (second t) half ∙ eqb-true (second t u) v (and-true (not (eqb (second t u) missing)) (eqb (second t u) v) q .1)))
       (either (ofEdge (first t u) (λ x. eqb x v)) (ofEdge (second t u) (λ x. eqb x v)) h)
 
-  -- an edge that does not return has a number, at which the code finds its end
+  -- a forward edge has a number, at which the code finds its target
   pub numbered : (u v : ℕ) → u < blockCount t → v < blockCount t → forwardEdge t u v ≡ true → (e : ℕ) × (e < 2 * blockCount t) × (e / 2 ≡ u) × (endsOf t sets e ≡ v)
-  unfolding forwardEdge edgeEnd
+  unfolding forwardEdge edgeTarget
   numbered u v b c h =
       let p = and-true (edge t u v) (not (backEdge t u v)) h in
       let e = by-number u v (p .0) in
       (e .0, omega (arith, e .1, e .2), e .1,
-        ap (endBySets sets (t .loops) (t .headers) (e .0 / 2)) (e .3)
-        ∙ ap (λ (x : ℕ). endBySets sets (t .loops) (t .headers) x v) (e .1)
+        ap (targetBySets sets (t .loops) (t .headers) (e .0 / 2)) (e .3)
+        ∙ ap (λ (x : ℕ). targetBySets sets (t .loops) (t .headers) x v) (e .1)
         ∙ sym (ends-there sets (t .loops) (t .headers) u v (back-read u v b c ∙ not-true (backEdge t u v) (p .1))))
 
   -- and the other way
   pub leads : (e v : ℕ) → e < 2 * blockCount t → v < blockCount t → endsOf t sets e ≡ v → forwardEdge t (e / 2) v ≡ true
-  unfolding forwardEdge edge edgeEnd endBySets
+  unfolding forwardEdge edge edgeTarget targetBySets
   leads e v b c h = go (backBySets sets (t .loops) (t .headers) (e / 2) s) refl h
     where
       s : ℕ

@@ -1,5 +1,5 @@
 pub mod Edges
 pub mod Incoming
 pub mod Queues
-pub mod Passed
+pub mod Removed
 pub mod Orders

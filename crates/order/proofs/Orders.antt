@@ -1,5 +1,5 @@
--- Where every edge of the queue is passed, the queue is an ordering: either all blocks are in it, or a block that is not lies behind a closed
--- walk. And an ordering of all blocks is a topological order. Assumes nothing.
+-- Where every edge of the queue is removed, the queue is an ordering: either all blocks are in it, or a block that is not can be reached from a
+-- closed walk. And an ordering of all blocks is a topological order. Assumes nothing.
 use mathlib.Core.Path.{_≡_, refl, sym, _∙_, ap, subst}
 use mathlib.Core.Bool.{Bool, true, false, not}
 use mathlib.Core.List.{List, [], _∷_, _++_}
@@ -22,19 +22,19 @@ use Rattle.wcet.proofs.Cycles.{reaches-one, reaches-by, reached, forward-target
 use Rattle.loopsets.specs.Sets.{setsAround}
 use Rattle.nesting.specs.Columns.{Ranged}
 use Rattle.nesting.proofs.Stages.{headed}
-use Rattle.order.specs.Ordering.{Ordering, Topological}
+use Rattle.order.specs.Ordering.{StandsBefore, Ordering, Topological}
 use Rattle.order.specs.declared.Order.{Order}
 use Rattle.order.proofs.Edges.{endsOf, numbered, leads}
-use Rattle.order.proofs.Passed.{edgeAt, passed, waits, Taken}
+use Rattle.order.proofs.Removed.{edgeAt, removed, waits, Taken}
 
 -- ---- all blocks in order leave no closed walk
 
 module _ (t : Routine) (target : (u v : ℕ) → u < blockCount t → edge t u v ≡ true → v < blockCount t) (queue : List ℕ) (k : ℕ)
     (block : (i : ℕ) → i < k → getD queue i 0 < blockCount t)
     (once : (i j : ℕ) → i < j → j < k → getD queue i 0 ≡ getD queue j 0 → ⊥)
-    (earlier : (u j : ℕ) → u < blockCount t → j < k → forwardEdge t u (getD queue j 0) ≡ true → (i : ℕ) × (i < j) × (getD queue i 0 ≡ u)) where
+    (earlier : (u j : ℕ) → u < blockCount t → j < k → forwardEdge t u (getD queue j 0) ≡ true → StandsBefore queue j u) where
   -- the start of a path stands earlier than its end
-  earlier-along : (w : List ℕ) (u v j : ℕ) → u < blockCount t → j < k → getD queue j 0 ≡ v → forwardPath t u (w ++ v ∷ []) ≡ true → (i : ℕ) × (i < j) × (getD queue i 0 ≡ u)
+  earlier-along : (w : List ℕ) (u v j : ℕ) → u < blockCount t → j < k → getD queue j 0 ≡ v → forwardPath t u (w ++ v ∷ []) ≡ true → StandsBefore queue j u
   unfolding forwardPath
   earlier-along [] u v j b h e p = earlier u j b h (rw e (and-true (forwardEdge t u v) true p .0))
   earlier-along (x ∷ w) u v j b h e p =
@@ -50,7 +50,7 @@ module _ (t : Routine) (target : (u v : ℕ) → u < blockCount t → edge t u v
       once (i .0) (j .0) (i .1) (omega (arith, j .1)) (i .2 ∙ sym (j .2))
 
 module _ (t : Routine) (holds : AllHold (structureRules t)) (sets : List ℕ) (S : sets ≡ setsAround (t .parents)) (counts queue : List ℕ) (k : ℕ)
-    (passed-all : Taken (endsOf t sets) (length (t .loops)) counts queue (2 * k) k) where
+    (removed-all : Taken (endsOf t sets) (length (t .loops)) counts queue (2 * k) k) where
   target : (u v : ℕ) → u < blockCount t → edge t u v ≡ true → v < blockCount t
   target = nested t holds .target
 
@@ -58,9 +58,9 @@ module _ (t : Routine) (holds : AllHold (structureRules t)) (sets : List ℕ) (S
   ranged = headed t holds .ranged
 
   K : Taken (endsOf t sets) (blockCount t) counts queue (2 * k) k
-  K = rw (ranged .sized .loops) at passed-all
+  K = rw (ranged .sized .loops) at removed-all
 
-  in-order : (u j : ℕ) → u < blockCount t → j < k → forwardEdge t u (getD queue j 0) ≡ true → (i : ℕ) × (i < j) × (getD queue i 0 ≡ u)
+  in-order : (u j : ℕ) → u < blockCount t → j < k → forwardEdge t u (getD queue j 0) ≡ true → StandsBefore queue j u
   in-order u j b h f =
       let e = numbered t sets ranged S u (getD queue j 0) b (K .queued .block j h) f in
       let i = K .earlier j (e .0) h (e .1) (e .3) in
@@ -77,22 +77,33 @@ module _ (t : Routine) (holds : AllHold (structureRules t)) (sets : List ℕ) (S
       let u = left-out k (blockCount t) (λ j. getD queue j 0) few in
       record { at = u .0; low = u .1; left = λ z. let j = K .queued .all (u .0) (u .1) z in u .2 (j .0) (j .1) (j .2) }
 
-  -- an edge leads to it from another one
+  -- has a forward edge that is not removed, so from another one
   behind : (o : Left) → (p : Left) × (forwardEdge t (p .at) (o .at) ≡ true)
-  unfolding passed
+  unfolding removed
   behind o =
       let s = some-counted (2 * blockCount t) (waits (endsOf t sets) queue (2 * k) (o .at)) (λ z. o .left (K .counted (o .at) (o .low) ∙ z)) in
-      let q = and-true (eqb (endsOf t sets (s .0)) (o .at)) (not (passed queue (2 * k) (s .0))) (s .2) in (
+      let q = and-true (eqb (endsOf t sets (s .0)) (o .at)) (not (removed queue (2 * k) (s .0))) (s .2) in (
         record { at = s .0 / 2; low = omega (arith, s .1); left = waiting (s .0) (s .1) (not-true _ (q .1)) },
         leads t sets ranged S (s .0) (o .at) (s .1) (o .low) (eqb-true (endsOf t sets (s .0)) (o .at) (q .0)),
       )
     where
-      waiting : (e : ℕ) → e < 2 * blockCount t → passed queue (2 * k) e ≡ false → getD counts (e / 2) 0 ≡ 0 → ⊥
-      waiting e b unpassed z =
+      waiting : (e : ℕ) → e < 2 * blockCount t → removed queue (2 * k) e ≡ false → getD counts (e / 2) 0 ≡ 0 → ⊥
+      waiting e b unremoved z =
           let j = K .queued .all (e / 2) (omega arith) z in
           let half : (2 * j .0 + e % 2) / 2 ≡ j .0 = omega arith in
-          eqb-false e (edgeAt queue (2 * j .0 + e % 2)) (none-of (2 * k) (λ i. eqb e (edgeAt queue i)) unpassed (2 * j .0 + e % 2) (omega (arith, j .1)))
+          eqb-false e (edgeAt queue (2 * j .0 + e % 2)) (none-of (2 * k) (λ i. eqb e (edgeAt queue i)) unremoved (2 * j .0 + e % 2) (omega (arith, j .1)))
           (rw (half, j .2) (omega arith))
+
+  -- so a block that only blocks of the queue lead to is in it
+  no-more : (v : ℕ) → v < blockCount t → ((u : ℕ) → u < blockCount t → forwardEdge t u v ≡ true → StandsBefore queue k u) → StandsBefore queue k v
+  no-more v b only = go (ℕ-discrete (getD counts v 0) 0)
+    where
+      go : Dec (getD counts v 0 ≡ 0) → StandsBefore queue k v
+      go (yes z) = K .queued .all v b z
+      go (no ne) =
+          let p = behind (record { at = v; low = b; left = ne }) in
+          let i = only (p .0 .at) (p .0 .low) (p .1) in
+          absurd (p .0 .left (ap (λ (x : ℕ). getD counts x 0) (sym (i .2)) ∙ K .queued .clear (i .0) (i .1)))
 
   -- and so on: of enough of them two are the same block
   chain : Left → ℕ → Left
@@ -126,6 +137,7 @@ module _ (t : Routine) (holds : AllHold (structureRules t)) (sets : List ℕ) (S
     block = K .queued .block;
     once = K .queued .once;
     earlier = in-order;
+    most = no-more;
     all = (no-closed-walk t target queue k (K .queued .block) (K .queued .once) in-order, whole);
   }
     where
@@ -154,7 +166,7 @@ module _ (t : Routine) (holds : AllHold (structureRules t)) (r : Order) (O : Ord
     within = λ u b. at u b .0;
     there = λ u b. at u b .1;
     block = λ i b. O .block i (omega arith);
-    back = back;
+    index = index;
     rises = rises;
   }
     where
@@ -178,8 +190,8 @@ module _ (t : Routine) (holds : AllHold (structureRules t)) (r : Order) (O : Ord
           go (yes l) (no ne) = absurd (O .once i j (omega arith) (omega arith) e)
           go (no l) (no ne) = absurd (O .once j i (omega (arith, ne, l)) (omega arith) (sym e))
 
-      back : (i : ℕ) → i < blockCount t → position (f i) ≡ i
-      back i b = let p = at (f i) (O .block i (omega arith)) in alone (position (f i)) i (p .0) b (p .1)
+      index : (i : ℕ) → i < blockCount t → position (f i) ≡ i
+      index i b = let p = at (f i) (O .block i (omega arith)) in alone (position (f i)) i (p .0) b (p .1)
 
       rises : (u v : ℕ) → u < blockCount t → forwardEdge t u v ≡ true → position u < position v
       rises u v b e =

@@ -1,5 +1,5 @@
--- The edges that do not return, as they are read off the loop sets, and what the passing of one does to the counts and the queue: for
--- functions that are no public entry.
+-- The forward edges, as they are read off the loop sets, and what the removal of one does to the counts and the queue: for functions that
+-- are no public entry.
 use Prim.Native.Nat.{ℕ, _+_, _*_, _-_, _≤_, _<_, _/_, _%_}
 use mathlib.Core.Path.{_≡_}
 use mathlib.Core.Bool.{Bool, not, _&&_}
@@ -11,20 +11,20 @@ use Rattle.lists.specs.Search.{if_then_else_, countBelow}
 use Rattle.wcet.specs.Table.{missing}
 use Rattle.loopsets.specs.Sets.{member, setAt}
 
--- an edge from u to v returns: whether u is inside the target's loop is read off its set
+-- an edge from u to v is a back edge: whether u is inside the target's loop is read off its set
 unfoldable pub backBySets : (sets loops headers : List ℕ) → ℕ → ℕ → Bool
 backBySets sets loops headers u v = eqb (getD headers (getD loops v 0) 0) v && member (setAt sets (getD loops u 0)) (getD loops v 0)
 
--- the block to which an edge leads from u to its successor v, and `missing` where the successor is missing or the edge returns
-unfoldable pub endBySets : (sets loops headers : List ℕ) → ℕ → ℕ → ℕ
-endBySets sets loops headers u v = if backBySets sets loops headers u v then missing else v
+-- the target of the forward edge from u to its successor v, and `missing` where the successor is missing or it is a back edge
+unfoldable pub targetBySets : (sets loops headers : List ℕ) → ℕ → ℕ → ℕ
+targetBySets sets loops headers u v = if backBySets sets loops headers u v then missing else v
 
 -- Edges have numbers, 2u from block u to its first successor and 2u + 1 to its second.
 abbrev pub successor : (firsts seconds : List ℕ) → ℕ → ℕ
 successor firsts seconds e = if eqb (e % 2) 0 then getD firsts (e / 2) 0 else getD seconds (e / 2) 0
 
-unfoldable pub edgeEnd : (sets loops firsts seconds headers : List ℕ) → ℕ → ℕ
-edgeEnd sets loops firsts seconds headers e = endBySets sets loops headers (e / 2) (successor firsts seconds e)
+unfoldable pub edgeTarget : (sets loops firsts seconds headers : List ℕ) → ℕ → ℕ
+edgeTarget sets loops firsts seconds headers e = targetBySets sets loops headers (e / 2) (successor firsts seconds e)
 
 -- the counts of the edges below e that lead to each of n blocks
 pub record Counted (ends : ℕ → ℕ) (n : ℕ) (counts : List ℕ) (e : ℕ) : Type 0 where
@@ -43,7 +43,7 @@ pub record Queue (counts queue : List ℕ) (n k : ℕ) : Type 0 where
   pub clear : (j : ℕ) → j < k → getD counts (getD queue j 0) 0 ≡ 0
   pub all : (v : ℕ) → v < n → getD counts v 0 ≡ 0 → (j : ℕ) × (j < k) × (getD queue j 0 ≡ v)
 
--- an edge to v is passed
+-- an edge to v is removed
 abbrev pub oneLess : List ℕ → ℕ → List ℕ
 oneLess counts v = if eqb v missing then counts else set counts v (getD counts v 0 - 1)
 
@@ -57,6 +57,6 @@ queueAfter counts queue k v = if lastTo counts v then set queue k v else queue
 abbrev pub countAfter : (counts : List ℕ) → ℕ → ℕ → ℕ
 countAfter counts k v = if lastTo counts v then k + 1 else k
 
--- what that requires of an edge that leads to a block
-abbrev pub Passable : (counts : List ℕ) → ℕ → ℕ → Type 0
-Passable counts k v = (v ≡ missing → ⊥) → (v < mostBlocks) × (0 < getD counts v 0) × (k < mostBlocks)
+-- what the removal of an edge to v requires
+abbrev pub Removable : (counts : List ℕ) → ℕ → ℕ → Type 0
+Removable counts k v = (v ≡ missing → ⊥) → (v < mostBlocks) × (0 < getD counts v 0) × (k < mostBlocks)

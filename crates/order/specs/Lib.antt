@@ -1,3 +1,3 @@
--- The definitions that the contracts cite, in reading order.
+-- What the ordering of the blocks ensures; then the definitions that the contracts of private functions cite.
 pub mod Ordering
 pub mod Edges

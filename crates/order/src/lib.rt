@@ -1,6 +1,6 @@
-// The blocks of a routine in an order in which every edge that does not return to a header leads to a later block, or as many of them as
-// have a place in one: by counts of the incoming edges. A block is taken when its count falls to 0 (Kahn's algorithm). Where not all
-// blocks are taken, the others lie on or behind a cycle that no declared loop accounts for: 209.
+// The blocks of a routine in a topological order of its forward edges, the edges that do not return to a header from inside the header's
+// loop; or as many blocks as have a place in one. By counts of the incoming edges: a block is taken when its count falls to 0 (Kahn's
+// algorithm). Blocks that are not taken lie on a cycle of forward edges, or can be reached from one: 209.
 ghost use mathlib.Core.Path.{_≡_};
 ghost use Prim.Native.Nat.{_*_, _≤_, _<_};
 ghost use lib.ListN.{length, getD};
@@ -8,11 +8,11 @@ ghost use Rattle.limits.specs.Limits.{mostBlocks};
 ghost use Rattle.wcet.specs.Table.{missing};
 ghost use Rattle.nesting.specs.Columns.{Names, Innermost, Linked};
 ghost use Rattle.order.specs.Ordering.{Orders};
-ghost use Rattle.order.specs.Edges.{backBySets, endBySets, edgeEnd, Counted, oneMore, Queue, oneLess, queueAfter, countAfter, Passable};
+ghost use Rattle.order.specs.Edges.{backBySets, targetBySets, edgeTarget, Counted, oneMore, Queue, oneLess, queueAfter, countAfter, Removable};
 use limits::MOST_BLOCKS;
 use loopsets::Sets;
 
-// For each block how many edges lead to it that do not return, from blocks that were not passed.
+// For each block the number of incoming forward edges that are not removed.
 type Counts = [u16; MOST_BLOCKS];
 
 // Blocks in the order in which they were taken.
@@ -24,7 +24,7 @@ pub struct Order {
     pub count: usize,
 }
 
-// Whether an edge from block u to v returns to a header from inside that header's loop.
+// Whether an edge from block u to v is a back edge: it returns to a header from inside that header's loop.
 fn back_edge(around: &Sets, loops: &[u16], header: &[u16], u: usize, v: u16) -> bool
     requires { ⌜ Innermost (now loops) (now header) × (u < length (now loops)) × (v < length (now loops)) ⌝ }
     ensures { λ r. ⌜ r ≡ backBySets (now (around .entry)) (now (loops .entry)) (now (header .entry)) u v ⌝ }
@@ -37,10 +37,10 @@ fn back_edge(around: &Sets, loops: &[u16], header: &[u16], u: usize, v: u16) -> 
     loopsets::set_at(around, from).contains(l)
 }
 
-// The block to which an edge leads from block u to its successor v; 65535 where the successor is missing or the edge returns.
-fn forward_end(around: &Sets, loops: &[u16], header: &[u16], u: usize, v: u16) -> u16
+// The target of the forward edge from block u to its successor v; 65535 where the successor is missing or it is a back edge.
+fn forward_target(around: &Sets, loops: &[u16], header: &[u16], u: usize, v: u16) -> u16
     requires { ⌜ Innermost (now loops) (now header) × (u < length (now loops)) × Names (length (now loops)) v ⌝ }
-    ensures { λ r. ⌜ r ≡ endBySets (now (around .entry)) (now (loops .entry)) (now (header .entry)) u v ⌝ }
+    ensures { λ r. ⌜ r ≡ targetBySets (now (around .entry)) (now (loops .entry)) (now (header .entry)) u v ⌝ }
 {
     if v == 65535 {
         return v;
@@ -51,7 +51,7 @@ fn forward_end(around: &Sets, loops: &[u16], header: &[u16], u: usize, v: u16) -
     v
 }
 
-// One more edge leads to block v.
+// Counts a forward edge to block v; 65535 is none.
 fn count_edge(counts: &mut Counts, v: u16)
     requires { ⌜ ((v ≡ missing → ⊥) → (v < mostBlocks) × (getD (now counts) v 0 < 65535)) ⌝ }
     ensures { λ _. ⌜ now (counts .exit) ≡ oneMore (now (counts .entry)) v ⌝ }
@@ -63,7 +63,7 @@ fn count_edge(counts: &mut Counts, v: u16)
     }
 }
 
-// How many edges that do not return lead to each block. Document 02: "The work marks for all 1,024 blocks are cleared before each check."
+// The incoming forward edges of each block. Document 02, §2: "The work marks for all 1,024 blocks are cleared before each check."
 fn incoming_edges(
     around: &Sets,
     loops: &[u16],
@@ -72,22 +72,22 @@ fn incoming_edges(
     header: &[u16],
 ) -> Counts
     requires { ⌜ Innermost (now loops) (now header) × Linked (length (now loops)) (now first) (now second) ⌝ }
-    ensures { λ r. ⌜ Counted (edgeEnd (now (around .entry)) (now (loops .entry)) (now (first .entry)) (now (second .entry)) (now (header .entry))) (length (now (loops .entry))) r (2 * length (now (loops .entry))) ⌝ }
+    ensures { λ r. ⌜ Counted (edgeTarget (now (around .entry)) (now (loops .entry)) (now (first .entry)) (now (second .entry)) (now (header .entry))) (length (now (loops .entry))) r (2 * length (now (loops .entry))) ⌝ }
 {
     let mut counts = [0u16; MOST_BLOCKS];
     let n = loops.len();
     let mut u = 0;
     while u < n {
-        let v = forward_end(around, loops, header, u, first[u]);
+        let v = forward_target(around, loops, header, u, first[u]);
         count_edge(&mut counts, v);
-        let v = forward_end(around, loops, header, u, second[u]);
+        let v = forward_target(around, loops, header, u, second[u]);
         count_edge(&mut counts, v);
         u += 1;
     }
     counts
 }
 
-// The blocks to which no such edge leads, in the first places of the queue; how many there are.
+// Puts the blocks without an incoming forward edge into the first places of `blocks`. Returns how many there are.
 fn sources(counts: &Counts, blocks: &mut Blocks, n: usize) -> usize
     requires { ⌜ (n ≤ mostBlocks) × (length (now blocks) ≡ mostBlocks) ⌝ }
     ensures { λ r. ⌜ (length (now (blocks .exit)) ≡ mostBlocks) × Queue (now (counts .entry)) (now (blocks .exit)) n r ⌝ }
@@ -104,9 +104,9 @@ fn sources(counts: &Counts, blocks: &mut Blocks, n: usize) -> usize
     count
 }
 
-// An edge to block v is passed. If it was the last one, v is taken. The number of blocks taken.
-fn pass_edge(counts: &mut Counts, blocks: &mut Blocks, count: usize, v: u16) -> usize
-    requires { ⌜ Passable (now counts) count v ⌝ }
+// Removes a forward edge to block v; 65535 is none. If it was the last one, v is taken. Returns the number of blocks taken.
+fn remove_edge(counts: &mut Counts, blocks: &mut Blocks, count: usize, v: u16) -> usize
+    requires { ⌜ Removable (now counts) count v ⌝ }
     ensures { λ r. ⌜ (now (counts .exit) ≡ oneLess (now (counts .entry)) v) × (now (blocks .exit) ≡ queueAfter (now (counts .entry)) (now (blocks .entry)) count v) × (r ≡ countAfter (now (counts .entry)) count v) ⌝ }
 {
     if v == 65535 {
@@ -122,7 +122,8 @@ fn pass_edge(counts: &mut Counts, blocks: &mut Blocks, count: usize, v: u16) -> 
     count + 1
 }
 
-// The order, for tables that pass 201 to 207. The blocks that are taken are the queue of those whose edges are to be passed.
+// The order, for tables that pass 201 to 207. `blocks` is also the queue: the outgoing edges of the blocks from place i on are still to be
+// removed.
 pub fn order_of(
     around: &Sets,
     loops: &[u16],
@@ -138,11 +139,11 @@ pub fn order_of(
     let mut count = sources(&counts, &mut blocks, loops.len());
     let mut i = 0;
     while i < count {
-        let u = blocks[i] as usize;
-        let v = forward_end(around, loops, header, u, first[u]);
-        count = pass_edge(&mut counts, &mut blocks, count, v);
-        let v = forward_end(around, loops, header, u, second[u]);
-        count = pass_edge(&mut counts, &mut blocks, count, v);
+        let from = blocks[i] as usize;
+        let v = forward_target(around, loops, header, from, first[from]);
+        count = remove_edge(&mut counts, &mut blocks, count, v);
+        let v = forward_target(around, loops, header, from, second[from]);
+        count = remove_edge(&mut counts, &mut blocks, count, v);
         i += 1;
     }
     Order { blocks, count }

@@ -1,7 +1,7 @@
 -- Document 02, §2: the test of 209 holds exactly where there is a closed walk none of whose edges returns (`closed-exactly`). Assumes nothing.
 use mathlib.Core.Path.{_≡_, refl, subst}
 use mathlib.Core.Logic.{_↔_, _⊎_, inl, inr, ⊎-elim}
-use mathlib.Core.Bool.{true, not, _&&_, _||_}
+use mathlib.Core.Bool.{true, _&&_, _||_}
 use mathlib.Core.List.{List, [], _∷_, _++_, append-assoc}
 use Prim.Native.Nat.{ℕ, zero, suc, _<_}
 use native.Mathlib.Decide.{ℕ-discrete}
@@ -9,7 +9,7 @@ use native.Mathlib.Omega.{arith}
 use Rattle.lists.proofs.Tests.{and-true, both, either, or-left, or-right}
 use Rattle.lists.proofs.Search.{any-at, some-at}
 use Rattle.wcet.specs.Table.{Routine, blockCount, edge}
-use Rattle.wcet.specs.Cycles.{backEdge, forwardEdge, forwardPath, ClosedWalk, reaches, undeclaredLoop}
+use Rattle.wcet.specs.Cycles.{forwardEdge, forwardPath, ClosedWalk, reaches, undeclaredLoop}
 
 module _ (t : Routine) where
   -- ---- from the test to a walk
@@ -37,8 +37,8 @@ module _ (t : Routine) where
   closes : undeclaredLoop t ≡ true → ClosedWalk t
   unfolding undeclaredLoop
   closes e =
-      let s = some-at (blockCount t) (λ u. reaches t (blockCount t) u u) e in
-      let p = path-of (blockCount t) (s .0) (s .0) (s .2) in
+      let s = some-at (blockCount t) _ e in
+      let p = path-of _ (s .0) (s .0) (s .2) in
       record { start = s .0; between = p .0; block = s .1; closed = p .1 }
 
   -- ---- from a walk to the test
@@ -86,13 +86,13 @@ module _ (t : Routine) where
 
   pub reached : (u : ℕ) → u < blockCount t → reaches t (blockCount t) u u ≡ true → undeclaredLoop t ≡ true
   unfolding undeclaredLoop
-  reached u b e = any-at (blockCount t) (λ u. reaches t (blockCount t) u u) u b e
+  reached u b e = any-at (blockCount t) _ u b e
 
   -- where every edge of a block leads to a block (203)
   module _ (target : (u v : ℕ) → u < blockCount t → edge t u v ≡ true → v < blockCount t) where
     pub forward-target : (u v : ℕ) → u < blockCount t → forwardEdge t u v ≡ true → v < blockCount t
     unfolding forwardEdge
-    forward-target u v b e = target u v b (and-true (edge t u v) (not (backEdge t u v)) e .0)
+    forward-target u v b e = target u v b (and-true (edge t u v) _ e .0)
 
     path-reaches : (w : List ℕ) (u v : ℕ) → u < blockCount t → forwardPath t u (w ++ v ∷ []) ≡ true → reaches t (blockCount t) u v ≡ true
     unfolding forwardPath

@@ -1,15 +1,17 @@
 -- A list of rules refuses with its first broken rule at the lowest place, and passes exactly where each rule holds at each of its places.
 -- So a pair of tables is accepted exactly where none of 201 to 209 is broken (`replies-exactly`). Assumes nothing.
 use mathlib.Core.Path.{_≡_, refl, _∙_, ap}
-use mathlib.Core.Logic.{_⊎_, inl, inr, ⊎-elim}
+use mathlib.Core.Logic.{_↔_, _⊎_, inl, inr, ⊎-elim}
 use mathlib.Core.List.{List, [], _∷_, _++_, append-assoc}
 use mathlib.Core.Option.{Option, none, some}
-use Prim.Native.Nat.{ℕ}
+use Prim.Native.Nat.{ℕ, _<_}
+use mathlib.Core.Bool.{true}
 use native.Mathlib.Omega.{arith}
 use Rattle.lists.specs.Search.{firstBelow}
 use Rattle.lists.proofs.Search.{Lowest, not-found, none-found, found, found-lowest}
-use Rattle.wcet.specs.Table.{Routine}
-use Rattle.wcet.specs.Rules.{Reply, accepted, refused, Rule, refusedAt, check, tableRules, bound, tableReply}
+use Rattle.wcet.specs.Table.{Routine, blockCount, edge}
+use Rattle.wcet.specs.Cycles.{ClosedWalk}
+use Rattle.wcet.specs.Rules.{Reply, accepted, refused, Rule, refusedAt, check, inequalityRule, undeclaredRule, structureRules, tableRules, bound, tableReply}
 use Rattle.wcet.specs.Claim.{Holds, AllHold, FirstBroken, RepliesExactly}
 use Rattle.wcet.proofs.Nesting.{nested}
 use Rattle.wcet.proofs.Cycles.{closed-exactly}
@@ -116,7 +118,50 @@ refused-append rs qs a passed n p e = ⊎-elim (λ b. go b) (λ q. absurd (let z
       lowest = b .lowest;
     })
 
+-- a refusal with the number of the last rule alone: the rules before it hold, and it is broken there
+module _ (n : ℕ) where
+  -- no rule has this number
+  abbrev Unnumbered : List Rule → Type 0
+  Unnumbered [] = Unit {0}
+  Unnumbered (r ∷ rs) = (r .number ≡ n → ⊥) × Unnumbered rs
+
+  last-broken : {A : Type 0} (rs : List Rule) (r : Rule) (a : A) (p : ℕ) → Unnumbered rs → check (rs ++ r ∷ []) (accepted a) ≡ refused n p
+      → AllHold rs × Lowest (r .places) (r .broken) p
+  unfolding check
+  last-broken {A} [] r a p u e = (tt, go (firstBelow (r .places) (r .broken)) refl e)
+    where
+      go : (o : Option ℕ) → firstBelow (r .places) (r .broken) ≡ o → refusedAt {A = A} (r .number) o (accepted a) ≡ refused n p → Lowest (r .places) (r .broken) p
+      go (some q) f e = let there : q ≡ p = cc in found-lowest (r .places) (r .broken) p (f ∙ ap some there)
+      go none f e = absurd (let z : _≡_ {A = ℕ} 0 1 = cc in omega arith)
+  last-broken {A} (q ∷ rs) r a p u e = go (firstBelow (q .places) (q .broken)) refl e (last-broken rs r a p (u .1))
+    where
+      go : (o : Option ℕ) → firstBelow (q .places) (q .broken) ≡ o → refusedAt {A = A} (q .number) o (check (rs ++ r ∷ []) (accepted a)) ≡ refused n p
+          → (check (rs ++ r ∷ []) (accepted a) ≡ refused n p → AllHold rs × Lowest (r .places) (r .broken) p) → (Holds q × AllHold rs) × Lowest (r .places) (r .broken) p
+      go (some i) f e rest = absurd (u .0 cc)
+      go none f e rest = let s = rest e in ((not-found (q .places) (q .broken) f, s .0), s .1)
+
 -- ---- the two tables
+
+-- 209, in the words of document 02
+undeclared-exactly : (t : Routine) (p : ℕ) → (tableReply t ≡ refused 209 p) ↔ ((p ≡ 0) × AllHold (structureRules t ++ inequalityRule t ∷ []) × ClosedWalk t)
+unfolding tableReply tableRules structureRules
+undeclared-exactly t p = (
+  λ e.
+  let q = last-broken 209 (structureRules t ++ inequalityRule t ∷ []) (undeclaredRule t) (bound t) p numbers e in
+  let l = q .1 .below in
+  (omega arith, q .0, closed-exactly t (target (q .0)) .0 (q .1 .passes)),
+  λ h.
+  let z : p ≡ 0 = h .0 in
+  rw z
+  (past-all (structureRules t ++ inequalityRule t ∷ []) (undeclaredRule t ∷ []) (accepted (bound t)) (h .1)
+  ∙ decides (undeclaredRule t) [] (accepted (bound t)) 0 (record { below = omega arith; passes = closed-exactly t (target (h .1)) .1 (h .2); lower = λ j b. absurd (omega arith) })),
+)
+  where
+    numbers : Unnumbered 209 (structureRules t ++ inequalityRule t ∷ [])
+    numbers = (λ e. omega arith, (λ e. omega arith, (λ e. omega arith, (λ e. omega arith, (λ e. omega arith, (λ e. omega arith, (λ e. omega arith, (λ e. omega arith, tt))))))))
+
+    target : AllHold (structureRules t ++ inequalityRule t ∷ []) → (u v : ℕ) → u < blockCount t → edge t u v ≡ true → v < blockCount t
+    target h = nested t (all-append (structureRules t) (inequalityRule t ∷ []) h .0) .target
 
 pub replies-exactly : (t : Routine) → RepliesExactly t
 unfolding tableReply
@@ -129,5 +174,6 @@ replies-exactly t = record {
     λ e. ⊎-elim (λ b. b) (λ q. absurd (let z : _≡_ {A = ℕ} 0 1 = cc in omega arith)) (first-broken (tableRules t) (accepted (bound t)) n p e),
     broken-refuses (tableRules t) (accepted (bound t)) n p,
   );
-  undeclared = λ h. closed-exactly t (nested t h .target);
+  closed = λ h. closed-exactly t (nested t h .target);
+  undeclared = undeclared-exactly t;
 }

@@ -1,4 +1,4 @@
--- The blocks of the queue are passed edge by edge: each count is that of the edges not passed. Assumes nothing.
+-- The forward edges of the blocks in the queue are removed one by one: each count is that of the edges that are left. Assumes nothing.
 use mathlib.Core.Path.{_≡_, refl, sym, _∙_, ap}
 use mathlib.Core.Bool.{Bool, true, false, not, _&&_, _||_}
 use mathlib.Core.List.{List}
@@ -19,7 +19,7 @@ use Rattle.nesting.specs.Columns.{Names}
 use Rattle.order.specs.Edges.{Counted, Queue, oneLess, lastTo, queueAfter, countAfter}
 use Rattle.order.proofs.Queues.{has-room, queue-lower, queue-take}
 
--- the edge that is passed in step j: each block of the queue in two steps
+-- the edge that is removed in step j: each block of the queue in two steps
 abbrev pub edgeAt : List ℕ → ℕ → ℕ
 edgeAt queue j = 2 * getD queue (j / 2) 0 + j % 2
 
@@ -29,13 +29,13 @@ even-edge queue i = let half : (2 * i) / 2 ≡ i = omega arith in rw half (omega
 pub odd-edge : (queue : List ℕ) (i : ℕ) → 2 * getD queue i 0 + 1 ≡ edgeAt queue (2 * i + 1)
 odd-edge queue i = let half : (2 * i + 1) / 2 ≡ i = omega arith in rw half (omega arith)
 
--- edge e is passed in the first d steps
-unfoldable pub passed : List ℕ → ℕ → ℕ → Bool
-passed queue d e = anyBelow d (λ j. eqb e (edgeAt queue j))
+-- edge e is removed in the first d steps
+unfoldable pub removed : List ℕ → ℕ → ℕ → Bool
+removed queue d e = anyBelow d (λ j. eqb e (edgeAt queue j))
 
--- edge e ends at v, and is not passed
+-- edge e ends at v, and is not removed
 abbrev pub waits : (ends : ℕ → ℕ) → List ℕ → ℕ → ℕ → ℕ → Bool
-waits ends queue d v e = eqb (ends e) v && not (passed queue d e)
+waits ends queue d v e = eqb (ends e) v && not (removed queue d e)
 
 -- after d steps, with k blocks in the queue
 pub record Taken (ends : ℕ → ℕ) (n : ℕ) (counts queue : List ℕ) (d k : ℕ) : Type 0 where
@@ -44,14 +44,14 @@ pub record Taken (ends : ℕ → ℕ) (n : ℕ) (counts queue : List ℕ) (d k :
   pub counted : (v : ℕ) → v < n → getD counts v 0 ≡ countBelow (2 * n) (waits ends queue d v)
   pub earlier : (j e : ℕ) → j < k → e < 2 * n → ends e ≡ getD queue j 0 → (i : ℕ) × (i < j) × (getD queue i 0 ≡ e / 2)
 
--- the step in which an edge was passed
-pub passed-at : (queue : List ℕ) (d e : ℕ) → passed queue d e ≡ true → (j : ℕ) × (j < d) × (e ≡ edgeAt queue j)
-unfolding passed
-passed-at queue d e h = let s = some-at d (λ j. eqb e (edgeAt queue j)) h in (s .0, s .1, eqb-true e (edgeAt queue (s .0)) (s .2))
+-- the step in which an edge was removed
+pub removed-at : (queue : List ℕ) (d e : ℕ) → removed queue d e ≡ true → (j : ℕ) × (j < d) × (e ≡ edgeAt queue j)
+unfolding removed
+removed-at queue d e h = let s = some-at d (λ j. eqb e (edgeAt queue j)) h in (s .0, s .1, eqb-true e (edgeAt queue (s .0)) (s .2))
 
 module _ (ends : ℕ → ℕ) (n : ℕ) (counts queue : List ℕ) where
   pub taken-start : (k : ℕ) → Queue counts queue n k → Counted ends n counts (2 * n) → Taken ends n counts queue 0 k
-  unfolding passed anyBelow
+  unfolding removed anyBelow
   taken-start k Q C = record {
     queued = Q;
     within = omega arith;
@@ -66,13 +66,13 @@ module _ (ends : ℕ → ℕ) (n : ℕ) (counts queue : List ℕ) where
     pub this-low : this < 2 * n
     this-low = omega (arith, K .queued .block (d / 2) (omega arith))
 
-    this-new : passed queue d this ≡ false
-    unfolding passed
+    this-new : removed queue d this ≡ false
+    unfolding removed
     this-new = any-none d (λ j. eqb this (edgeAt queue j)) (λ j h. ne-eqb this (edgeAt queue j) (λ e. K .queued .once (j / 2) (d / 2) (omega arith) (omega arith) (omega arith)))
 
-    next-passed : (e : ℕ) → passed queue (suc d) e ≡ (passed queue d e || eqb e this)
-    unfolding passed anyBelow
-    next-passed e = refl
+    next-removed : (e : ℕ) → removed queue (suc d) e ≡ (removed queue d e || eqb e this)
+    unfolding removed anyBelow
+    next-removed e = refl
 
     -- the edges to v that wait after it: the same, or one less
     same : (v : ℕ) → (ends this ≡ v → ⊥) → countBelow (2 * n) (waits ends queue d v) ≡ countBelow (2 * n) (waits ends queue (suc d) v)
@@ -80,19 +80,19 @@ module _ (ends : ℕ → ℕ) (n : ℕ) (counts queue : List ℕ) where
       where
         go : (e : ℕ) → Dec (e ≡ this) → waits ends queue d v e ≡ waits ends queue (suc d) v e
         go e (yes s) = rw (s, ne-eqb (ends this) v away)
-        go e (no ne) = rw (next-passed e, ne-eqb e this ne, mathlib.Core.Bool.or-false (passed queue d e))
+        go e (no ne) = rw (next-removed e, ne-eqb e this ne, mathlib.Core.Bool.or-false (removed queue d e))
 
     one-less : (v : ℕ) → ends this ≡ v → countBelow (2 * n) (waits ends queue d v) ≡ suc (countBelow (2 * n) (waits ends queue (suc d) v))
     one-less v q =
         count-remove (2 * n) this (waits ends queue d v) this-low (both (eq-eqb (ends this) v q) (ap not this-new))
-        ∙ ap suc (sym (count-ext (2 * n) (waits ends queue (suc d) v) (λ e. waits ends queue d v e && not (eqb e this)) (λ e h. ap (λ (x : Bool). eqb (ends e) v && not x) (next-passed e) ∙ after (eqb (ends e) v) (passed queue d e) (eqb e this))))
+        ∙ ap suc (sym (count-ext (2 * n) (waits ends queue (suc d) v) (λ e. waits ends queue d v e && not (eqb e this)) (λ e h. ap (λ (x : Bool). eqb (ends e) v && not x) (next-removed e) ∙ after (eqb (ends e) v) (removed queue d e) (eqb e this))))
       where
         after : (a b c : Bool) → (a && not (b || c)) ≡ ((a && not b) && not c)
         after true true c = refl
         after true false c = refl
         after false b c = refl
 
-    -- this edge returns, or there is none
+    -- it is a back edge, or there is none
     taken-skip : n ≤ ends this → Taken ends n counts queue (d + 1) k
     taken-skip nowhere = record {
       queued = K .queued;
@@ -135,7 +135,7 @@ module _ (ends : ℕ → ℕ) (n : ℕ) (counts queue : List ℕ) where
       taken-room = has-room counts queue n k v (K .queued) low high present
 
       taken-last : getD counts v 0 - 1 ≡ 0 → n ≤ length queue → Taken ends n lower (set queue k v) (d + 1) (k + 1)
-      unfolding passed
+      unfolding removed
       taken-last none room = record {
         queued = queue-take counts queue n k v (K .queued) low high present (getD counts v 0 - 1) none room;
         within = omega arith;
@@ -146,33 +146,33 @@ module _ (ends : ℕ → ℕ) (n : ℕ) (counts queue : List ℕ) where
           old : (j : ℕ) → (j ≡ k → ⊥) → getD (set queue k v) j 0 ≡ getD queue j 0
           old j ne = getD-set-other queue k j v 0 ne
 
-          as-before : (e : ℕ) → passed queue (suc d) e ≡ passed (set queue k v) (suc d) e
+          as-before : (e : ℕ) → removed queue (suc d) e ≡ removed (set queue k v) (suc d) e
           as-before e = any-ext (suc d) (λ j. eqb e (edgeAt queue j)) (λ j. eqb e (edgeAt (set queue k v) j)) (λ j h. rw (old (j / 2) (λ z. omega arith)))
 
-          -- all the edges to v are passed
-          was-passed : (e : ℕ) → e < 2 * n → ends e ≡ v → passed queue (suc d) e ≡ true
-          was-passed e b q = not-false _ (rw (eq-eqb (ends e) v q) at (none-counted (2 * n) (waits ends queue (suc d) v) (sym left ∙ none) e b))
+          -- all the edges to v are removed
+          was-removed : (e : ℕ) → e < 2 * n → ends e ≡ v → removed queue (suc d) e ≡ true
+          was-removed e b q = not-false _ (rw (eq-eqb (ends e) v q) at (none-counted (2 * n) (waits ends queue (suc d) v) (sym left ∙ none) e b))
 
           before : (j e : ℕ) → j < k + 1 → e < 2 * n → ends e ≡ getD (set queue k v) j 0 → Dec (j ≡ k) → (i : ℕ) × (i < j) × (getD (set queue k v) i 0 ≡ e / 2)
           before j e h b q (yes z) =
-              let p = passed-at queue (suc d) e (was-passed e b (q ∙ ap (λ (x : ℕ). getD (set queue k v) x 0) z ∙ getD-set-same queue k v 0 (omega (arith, taken-room)))) in
+              let p = removed-at queue (suc d) e (was-removed e b (q ∙ ap (λ (x : ℕ). getD (set queue k v) x 0) z ∙ getD-set-same queue k v 0 (omega (arith, taken-room)))) in
               let low-half : p .0 / 2 < k = omega (arith, p .1) in
               (p .0 / 2, omega (arith, low-half), old (p .0 / 2) (λ w. omega arith) ∙ omega (arith, p .2))
           before j e h b q (no ne) =
               let p = K .earlier j e (omega (arith, ne)) b (q ∙ old j ne) in
               (p .0, p .1, old (p .0) (λ w. omega (arith, p .1, ne)) ∙ p .2)
 
-    -- one edge is passed: it leads to v, or nowhere
+    -- one edge is removed: it leads to v, or nowhere
     module _ (v : ℕ) (there : v ≡ ends this) (names : Names n v) (few : n ≤ mostBlocks) (sized : length counts ≡ mostBlocks) (room : length queue ≡ mostBlocks) where
       enough : n ≤ length counts
       enough = omega arith
 
       -- what the passing of it requires
-      pub passable : (v ≡ missing → ⊥) → (v < mostBlocks) × (0 < getD counts v 0) × (k < mostBlocks)
-      passable ne = (omega (arith, names ne), omega (arith, some-left v there (names ne) enough), omega (arith, taken-room v there (names ne) enough))
+      pub removable : (v ≡ missing → ⊥) → (v < mostBlocks) × (0 < getD counts v 0) × (k < mostBlocks)
+      removable ne = (omega (arith, names ne), omega (arith, some-left v there (names ne) enough), omega (arith, taken-room v there (names ne) enough))
 
-      pub taken-pass : Taken ends n (oneLess counts v) (queueAfter counts queue k v) (d + 1) (countAfter counts k v)
-      taken-pass = go (ℕ-discrete v missing)
+      pub taken-remove : Taken ends n (oneLess counts v) (queueAfter counts queue k v) (d + 1) (countAfter counts k v)
+      taken-remove = go (ℕ-discrete v missing)
         where
           last : (v ≡ missing → ⊥) → Dec (getD counts v 0 - 1 ≡ 0)
               → Taken ends n (set counts v (getD counts v 0 - 1)) (if eqb (getD counts v 0 - 1) 0 then set queue k v else queue) (d + 1) (if eqb (getD counts v 0 - 1) 0 then k + 1 else k)

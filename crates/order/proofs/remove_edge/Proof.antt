@@ -2,10 +2,10 @@ use mathlib.Core.Path.{refl}
 use native.Mathlib.Omega.{arith}
 use borrow.Author.Tests.{eq-eqb, ne-eqb}
 use borrow.Author.Needs.{needs}
-use Rattle.order.proofs.pass_edge.Statement.{statement}
-use Rattle.order.proofs.pass_edge.Tie as tie
-use Rattle.order.proofs.pass_edge.Reads as reads
-use Rattle.order.proofs.pass_edge.Lts as lts
+use Rattle.order.proofs.remove_edge.Statement.{statement}
+use Rattle.order.proofs.remove_edge.Tie as tie
+use Rattle.order.proofs.remove_edge.Reads as reads
+use Rattle.order.proofs.remove_edge.Lts as lts
 
 returns : tie.Need-returns
 returns c = rw (eq-eqb _ _ (c .if1 .taken)) (refl, refl, refl)
@@ -17,7 +17,7 @@ element-copy-out-left : tie.Need-element-copy-out-left
 element-copy-out-left c = c .before .pre (c .if1 .left) .0
 
 sub-left : tie.Need-sub-left
-sub-left c = c .before .before .pre (c .before .if1 .left) .1
+sub-left c = omega (arith, c .before .before .pre (c .before .if1 .left) .1)
 
 mul-counts : tie.Need-mul-counts
 mul-counts c = search needs
@@ -40,8 +40,8 @@ add-result c = omega (arith, c .before .before .before .pre (c .before .before .
 returns-3 : tie.Need-returns-3
 returns-3 c = rw (ne-eqb _ _ (c .before .before .if1 .left), eq-eqb _ _ (c .if2 .left)) (refl, refl, refl)
 
-pub pass-edge-spec : {M : Type 1} → statement M
-pass-edge-spec =
+pub remove-edge-spec : {M : Type 1} → statement M
+remove-edge-spec =
     tie.close
     (tie.spec
     returns
