@@ -90,9 +90,9 @@ module _ (t : Routine) (sets : List ℕ) (R : Ranged t) (S : sets ≡ setsAround
   by-number u v h =
       ⊎-elim
       (λ q. let half : (2 * u) / 2 ≡ u = omega arith in
-        (2 * u, half, omega arith, even (t .firsts) (t .seconds) (2 * u) (omega arith) ∙ ap (first t) half ∙ eqb-true (first t u) v (and-true (not (eqb (first t u) missing)) (eqb (first t u) v) q .1)))
+      (2 * u, half, omega arith, even (t .firsts) (t .seconds) (2 * u) (omega arith) ∙ ap (first t) half ∙ eqb-true (first t u) v (and-true (not (eqb (first t u) missing)) (eqb (first t u) v) q .1)))
       (λ q. let half : (2 * u + 1) / 2 ≡ u = omega arith in
-        (2 * u + 1, half, omega arith, odd (t .firsts) (t .seconds) (2 * u + 1) (λ z. omega arith) ∙ ap (second t) half ∙ eqb-true (second t u) v (and-true (not (eqb (second t u) missing)) (eqb (second t u) v) q .1)))
+      (2 * u + 1, half, omega arith, odd (t .firsts) (t .seconds) (2 * u + 1) (λ z. omega arith) ∙ ap (second t) half ∙ eqb-true (second t u) v (and-true (not (eqb (second t u) missing)) (eqb (second t u) v) q .1)))
       (either (ofEdge (first t u) (λ x. eqb x v)) (ofEdge (second t u) (λ x. eqb x v)) h)
 
   -- a forward edge has a number, at which the code finds its target
@@ -100,11 +100,14 @@ module _ (t : Routine) (sets : List ℕ) (R : Ranged t) (S : sets ≡ setsAround
   unfolding forwardEdge edgeTarget
   numbered u v b c h =
       let p = and-true (edge t u v) (not (backEdge t u v)) h in
-      let e = by-number u v (p .0) in
-      (e .0, omega (arith, e .1, e .2), e .1,
+      let e = by-number u v (p .0) in (
+        e .0,
+        omega (arith, e .1, e .2),
+        e .1,
         ap (targetBySets sets (t .loops) (t .headers) (e .0 / 2)) (e .3)
-        ∙ ap (λ (x : ℕ). targetBySets sets (t .loops) (t .headers) x v) (e .1)
-        ∙ sym (ends-there sets (t .loops) (t .headers) u v (back-read u v b c ∙ not-true (backEdge t u v) (p .1))))
+            ∙ ap (λ (x : ℕ). targetBySets sets (t .loops) (t .headers) x v) (e .1)
+            ∙ sym (ends-there sets (t .loops) (t .headers) u v (back-read u v b c ∙ not-true (backEdge t u v) (p .1))),
+      )
 
   -- and the other way
   pub leads : (e v : ℕ) → e < 2 * blockCount t → v < blockCount t → endsOf t sets e ≡ v → forwardEdge t (e / 2) v ≡ true

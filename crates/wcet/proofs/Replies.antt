@@ -147,14 +147,14 @@ undeclared-exactly : (t : Routine) (p : ℕ) → (tableReply t ≡ refused 209 p
 unfolding tableReply tableRules structureRules
 undeclared-exactly t p = (
   λ e.
-  let q = last-broken 209 (structureRules t ++ inequalityRule t ∷ []) (undeclaredRule t) (bound t) p numbers e in
-  let l = q .1 .below in
-  (omega arith, q .0, closed-exactly t (target (q .0)) .0 (q .1 .passes)),
+      let q = last-broken 209 (structureRules t ++ inequalityRule t ∷ []) (undeclaredRule t) (bound t) p numbers e in
+      let l = q .1 .below in
+      (omega arith, q .0, closed-exactly t (target (q .0)) .0 (q .1 .passes)),
   λ h.
-  let z : p ≡ 0 = h .0 in
-  rw z
-  (past-all (structureRules t ++ inequalityRule t ∷ []) (undeclaredRule t ∷ []) (accepted (bound t)) (h .1)
-  ∙ decides (undeclaredRule t) [] (accepted (bound t)) 0 (record { below = omega arith; passes = closed-exactly t (target (h .1)) .1 (h .2); lower = λ j b. absurd (omega arith) })),
+      let z : p ≡ 0 = h .0 in
+      rw z
+      (past-all (structureRules t ++ inequalityRule t ∷ []) (undeclaredRule t ∷ []) (accepted (bound t)) (h .1)
+      ∙ decides (undeclaredRule t) [] (accepted (bound t)) 0 (record { below = omega arith; passes = closed-exactly t (target (h .1)) .1 (h .2); lower = λ j b. absurd (omega arith) })),
 )
   where
     numbers : Unnumbered 209 (structureRules t ++ inequalityRule t ∷ [])

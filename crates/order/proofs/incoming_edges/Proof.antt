@@ -32,7 +32,7 @@ first-named c =
 
 first-counted : (c : tie.After-count-edge Inv-loop μ-loop)
     → let a = c .before .before .before .before .before .before .before .before .before .before .args in
-      Counted (edgeTarget (a .around .now) (a .loops .now) (a .first .now) (a .second .now) (a .header .now)) (length (a .loops .now)) (c .count-edge .last .0) (2 * c .before .before .before .before .before .loop .u + 1)
+    Counted (edgeTarget (a .around .now) (a .loops .now) (a .first .now) (a .second .now) (a .header .now)) (length (a .loops .now)) (c .count-edge .last .0) (2 * c .before .before .before .before .before .loop .u + 1)
 first-counted c =
     let loop = c .before .before .before .before .before .loop in
     let s = c .before .before .before .before .before .before .before .before .before .before in
@@ -92,7 +92,7 @@ loop-again c =
     let next : 2 * loop .u + 1 + 1 ≡ 2 * (loop .u + 1) = omega arith in (
       omega arith,
       rw (c .count-edge2 .ensures, ← next)
-      (counted-next _ _ (s .pre .1 .few) _ (2 * loop .u + 1) (first-counted (c .before .before .before .before)) _ (c .before .before .forward-target2 .ensures ∙ second-end _ _ _ _ _ (loop .u)) (second-named (c .before .before))),
+          (counted-next _ _ (s .pre .1 .few) _ (2 * loop .u + 1) (first-counted (c .before .before .before .before)) _ (c .before .before .forward-target2 .ensures ∙ second-end _ _ _ _ _ (loop .u)) (second-named (c .before .before))),
     )
 
 returns : tie.Need-returns Inv-loop μ-loop

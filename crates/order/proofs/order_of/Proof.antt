@@ -50,7 +50,7 @@ first-there c =
 
 first-removed : (c : tie.After-remove-edge Inv-loop μ-loop)
     → let a = c .before .before .before .before .before .before .before .before .before .before .before .before .before .before .before .args in
-      Taken (edgeTarget (a .around .now) (a .loops .now) (a .first .now) (a .second .now) (a .header .now)) (length (a .loops .now)) (c .remove-edge .last .0) (c .remove-edge .last .1 .0) (2 * c .before .before .before .before .before .before .loop .i + 1) (c .remove-edge .result)
+    Taken (edgeTarget (a .around .now) (a .loops .now) (a .first .now) (a .second .now) (a .header .now)) (length (a .loops .now)) (c .remove-edge .last .0) (c .remove-edge .last .1 .0) (2 * c .before .before .before .before .before .before .loop .i + 1) (c .remove-edge .result)
 first-removed c =
     let loop = c .before .before .before .before .before .before .loop in
     rw (c .remove-edge .ensures .0, c .remove-edge .ensures .1, c .remove-edge .ensures .2)
@@ -78,7 +78,6 @@ second-there c =
     c .forward-target2 .ensures
     ∙ second-end _ _ _ _ _ _
     ∙ ap (edgeTarget (a .around .now) (a .loops .now) (a .first .now) (a .second .now) (a .header .now)) (ap (λ (u : ℕ). 2 * u + 1) (sym same) ∙ odd-edge (c .before .before .remove-edge .last .1 .0) (loop .i))
-
 
 incoming-edges-requires : tie.Need-incoming-edges-requires Inv-loop μ-loop
 incoming-edges-requires c κs = c .before .before .before .before .pre
@@ -140,7 +139,7 @@ loop-again c =
       rw (c .remove-edge2 .ensures .0) (counts-length (p .remove-edge .last .0) (c .before .before .before .forward-target2 .result) ∙ counts-sized p),
       rw (c .remove-edge2 .ensures .1) (queue-length (p .remove-edge .last .0) (c .before .before .before .forward-target2 .result) (p .remove-edge .result) (p .remove-edge .last .1 .0) ∙ queue-sized p),
       rw (c .remove-edge2 .ensures .0, c .remove-edge2 .ensures .1, c .remove-edge2 .ensures .2, ← next)
-      (taken-remove _ _ _ _ _ _ (first-removed p) (more p) _ (second-there (c .before .before .before)) (second-named (c .before .before .before)) (few (c .before .before .before .before .before .before .before .before .before .before)) (counts-sized p) (queue-sized p)),
+          (taken-remove _ _ _ _ _ _ (first-removed p) (more p) _ (second-there (c .before .before .before)) (second-named (c .before .before .before)) (few (c .before .before .before .before .before .before .before .before .before .before)) (counts-sized p) (queue-sized p)),
     )
 
 returns : tie.Need-returns Inv-loop μ-loop
