@@ -47,15 +47,16 @@ extern "C" {
  */
 #define ROLKEYDA_STACK_READ_BLOCKS 32768u
 #define ROLKEYDA_STACK_READ_LOOPS 12288u
-#define ROLKEYDA_STACK_CHECK 8192u
+#define ROLKEYDA_STACK_CHECK 12288u
 #define ROLKEYDA_STACK_WALK 8192u
 
 /*
  * The reply of every function (`Reply` in the crate).
  *
  * number   0: accepted. Else the number of the first rule that is broken:
- *          101 to 106 and 108 for a text, 201 to 208 for a pair of tables, 301 to 303 and 311 to 314 for a walk.
- * place    where: the record of a text (the first is 1), the block or loop of a table, the index in a walk. 0 when accepted.
+ *          101 to 106 and 108 for a text, 201 to 209 for a pair of tables, 301 to 303 and 311 to 314 for a walk.
+ * place    where: the record of a text (the first is 1), the block or loop of a table (0 for 201 and 209), the index in a walk. 0 when
+ *          accepted.
  * value    when accepted: the count of rows, the bound, or the cost. Else 0.
  * more     when a text is accepted: the line end of record 1, a header included (ROLKEYDA_CR_LF, ROLKEYDA_LF or ROLKEYDA_END_OF_TEXT).
  *          When a walk is accepted: its steps, the length less one. Else 0.
@@ -103,7 +104,8 @@ rolkeyda_reply rolkeyda_read_loops(
 
 /*
  * Checks a pair of tables. Accepted: `value` is the bound, and no counted run from block 0 to the last block costs more, whoever proposed
- * the figures and the multipliers. A negative bound: no such run exists. Stack: ROLKEYDA_STACK_CHECK.
+ * the figures and the multipliers. A negative bound: no such run exists. 209 where edges lead from a block back to it and none of them goes
+ * back to the header of a loop from inside that loop. Stack: ROLKEYDA_STACK_CHECK.
  */
 rolkeyda_reply rolkeyda_check(
     const uint32_t *cost, size_t cost_length,
@@ -117,7 +119,7 @@ rolkeyda_reply rolkeyda_check(
     const uint64_t *multiplier, size_t multiplier_length);
 
 /*
- * Checks a walk, a list of block numbers, over tables that keep rules 201 to 207 (rule 208 is not checked). Accepted: the walk is a finished
+ * Checks a walk, a list of block numbers, over tables that keep rules 201 to 207 (208 and 209 are not checked). Accepted: the walk is a finished
  * counted run, `value` is its cost and `more` its steps. Stack: ROLKEYDA_STACK_WALK.
  */
 rolkeyda_reply rolkeyda_walk(
