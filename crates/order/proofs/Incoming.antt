@@ -1,7 +1,7 @@
 -- The edges to each block are counted from edge 0 up. Assumes nothing.
 use mathlib.Core.Path.{_≡_, refl, sym, _∙_, ap}
 use mathlib.Core.List.{List}
-use Prim.Native.Nat.{ℕ, _+_, _≤_, _<_}
+use Prim.Native.Nat.{ℕ, _+_, _*_, _≤_, _<_}
 use native.Mathlib.Decide.{ℕ-discrete}
 use native.Mathlib.Numerals.{add-one}
 use native.Mathlib.Omega.{arith}
@@ -13,16 +13,17 @@ use Rattle.limits.specs.Limits.{mostBlocks}
 use Rattle.lists.specs.Search.{if_then_else_, countBelow}
 use Rattle.lists.proofs.Search.{count-most}
 use Rattle.wcet.specs.Table.{missing}
-use Rattle.nesting.specs.Columns.{Names}
-use Rattle.order.specs.Edges.{Counted, oneMore}
+use Rattle.nesting.specs.Columns.{Names, Linked}
+use Rattle.order.specs.Edges.{targetBySets, edgeTarget, Counted, oneMore, Countable}
+use Rattle.order.proofs.Edges.{first-end, second-end, end-names}
 
 pub counted-none : (ends : ℕ → ℕ) (n : ℕ) → n ≤ mostBlocks → Counted ends n (replicate mostBlocks 0) 0
 unfolding countBelow
 counted-none ends n few = record { size = refl; each = λ v h. getD-replicate mostBlocks v 0 0 (omega arith) }
 
 module _ (ends : ℕ → ℕ) (n : ℕ) (few : n ≤ mostBlocks) (counts : List ℕ) (e : ℕ) (C : Counted ends n counts e) where
-  pub counted-most : (v : ℕ) → v < n → getD counts v 0 ≤ e
-  counted-most v h = omega (arith, C .each v h, count-most e (λ i. eqb (ends i) v))
+  countable : e < 65535 → (v : ℕ) → Names n v → Countable counts v
+  countable l v names ne = (omega (arith, names ne), omega (arith, C .each v (names ne), count-most e (λ i. eqb (ends i) v)))
 
   -- edge e ends elsewhere
   away : (v : ℕ) → (ends e ≡ v → ⊥) → countBelow e (λ i. eqb (ends i) v) ≡ countBelow (e + 1) (λ i. eqb (ends i) v)
@@ -30,7 +31,7 @@ module _ (ends : ℕ → ℕ) (n : ℕ) (few : n ≤ mostBlocks) (counts : List 
   away v ne = rw (add-one e, ne-eqb (ends e) v ne) (omega arith)
 
   -- edge e ends at v, or nowhere
-  pub counted-next : (v : ℕ) → v ≡ ends e → Names n v → Counted ends n (oneMore counts v) (e + 1)
+  counted-next : (v : ℕ) → v ≡ ends e → Names n v → Counted ends n (oneMore counts v) (e + 1)
   unfolding countBelow
   counted-next v there names = go (ℕ-discrete v missing)
     where
@@ -47,3 +48,34 @@ module _ (ends : ℕ → ℕ) (n : ℕ) (few : n ≤ mostBlocks) (counts : List 
       go : Dec (v ≡ missing) → Counted ends n (oneMore counts v) (e + 1)
       go (yes m) = rw (eq-eqb v missing m) (record { size = C .size; each = λ u h. C .each u h ∙ away u (λ q. omega arith) })
       go (no ne) = rw (ne-eqb v missing ne) (record { size = length-set counts v (getD counts v 0 + 1) ∙ C .size; each = λ u h. at (names ne) u h (ℕ-discrete u v) })
+
+-- ---- the two edges of block u
+
+module _ (sets loops firsts seconds headers : List ℕ) (L : Linked (length loops) firsts seconds) (u : ℕ) (b : u < length loops) where
+  abbrev Counts : List ℕ → ℕ → Type 0
+  Counts = Counted (edgeTarget sets loops firsts seconds headers) (length loops)
+
+  abbrev target : ℕ → ℕ
+  target v = targetBySets sets loops headers u v
+
+  module _ (counts : List ℕ) (C : Counts counts (2 * u)) where
+    names : Names (length loops) (target (getD firsts u 0))
+    names = end-names sets loops headers u (getD firsts u 0) (length loops) (L .first-names u b)
+
+    pub first-countable : Countable counts (target (getD firsts u 0))
+    first-countable = countable _ _ (L .few) counts (2 * u) C (omega (arith, L .few)) (target (getD firsts u 0)) names
+
+    pub first-counted : Counts (oneMore counts (target (getD firsts u 0))) (2 * u + 1)
+    first-counted = counted-next _ _ (L .few) counts (2 * u) C (target (getD firsts u 0)) (first-end sets loops firsts seconds headers u) names
+
+  module _ (counts : List ℕ) (C : Counts counts (2 * u + 1)) where
+    names' : Names (length loops) (target (getD seconds u 0))
+    names' = end-names sets loops headers u (getD seconds u 0) (length loops) (L .second-names u b)
+
+    pub second-countable : Countable counts (target (getD seconds u 0))
+    second-countable = countable _ _ (L .few) counts (2 * u + 1) C (omega (arith, L .few)) (target (getD seconds u 0)) names'
+
+    pub second-counted : Counts (oneMore counts (target (getD seconds u 0))) (2 * (u + 1))
+    second-counted =
+        let next : 2 * u + 1 + 1 ≡ 2 * (u + 1) = omega arith in
+        rw next at (counted-next _ _ (L .few) counts (2 * u + 1) C (target (getD seconds u 0)) (second-end sets loops firsts seconds headers u) names')

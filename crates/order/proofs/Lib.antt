@@ -1,5 +1,5 @@
 pub mod Edges
 pub mod Incoming
 pub mod Queues
-pub mod Removed
+pub mod Removal
 pub mod Orders

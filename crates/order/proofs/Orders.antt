@@ -9,7 +9,6 @@ use native.Mathlib.Omega.{arith}
 use lib.Dec.{eqb, ltb}
 use lib.ListN.{getD, length}
 use borrow.Author.Tests.{eqb-true, eqb-false, not-true, lt-ltb, le-ltb}
-use Rattle.limits.specs.Limits.{mostBlocks}
 use Rattle.lists.proofs.Tests.{and-true}
 use Rattle.lists.proofs.Search.{none-of, some-counted}
 use Rattle.lists.proofs.Pigeonhole.{placeIn, placed, pigeonhole, onto, left-out}
@@ -25,7 +24,7 @@ use Rattle.nesting.proofs.Stages.{headed}
 use Rattle.order.specs.Ordering.{StandsBefore, Ordering, Topological}
 use Rattle.order.specs.declared.Order.{Order}
 use Rattle.order.proofs.Edges.{endsOf, numbered, leads}
-use Rattle.order.proofs.Removed.{edgeAt, removed, waits, Taken}
+use Rattle.order.proofs.Removal.{edgeAt, removed, waits, Taken}
 
 -- ---- all blocks in order leave no closed walk
 
@@ -130,9 +129,9 @@ module _ (t : Routine) (holds : AllHold (structureRules t)) (sets : List ℕ) (S
       (reached t (chain o (p .0) .at) (chain o (p .0) .low)
       (subst (λ (x : ℕ). reaches t (blockCount t) x (chain o (p .0) .at) ≡ true) (sym (p .4)) (descends o (p .0) (p .1) (p .2))))
 
-  pub ordering : length queue ≡ mostBlocks → Ordering t (record { blocks = queue; count = k })
-  ordering size = record {
-    size = size;
+  pub ordering : Ordering t (record { blocks = queue; count = k })
+  ordering = record {
+    size = K .queue-size;
     few = K .queued .few;
     block = K .queued .block;
     once = K .queued .once;

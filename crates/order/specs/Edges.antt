@@ -31,9 +31,12 @@ pub record Counted (ends : ℕ → ℕ) (n : ℕ) (counts : List ℕ) (e : ℕ) 
   pub size : length counts ≡ mostBlocks
   pub each : (v : ℕ) → v < n → getD counts v 0 ≡ countBelow e (λ i. eqb (ends i) v)
 
--- one edge more leads to v
+-- one edge more leads to v, and what that requires
 abbrev pub oneMore : List ℕ → ℕ → List ℕ
 oneMore counts v = if eqb v missing then counts else set counts v (getD counts v 0 + 1)
+
+abbrev pub Countable : List ℕ → ℕ → Type 0
+Countable counts v = (v ≡ missing → ⊥) → (v < mostBlocks) × (getD counts v 0 < 65535)
 
 -- the first k places of a queue hold the blocks below n whose count is 0, each once
 pub record Queue (counts queue : List ℕ) (n k : ℕ) : Type 0 where
@@ -57,6 +60,11 @@ queueAfter counts queue k v = if lastTo counts v then set queue k v else queue
 abbrev pub countAfter : (counts : List ℕ) → ℕ → ℕ → ℕ
 countAfter counts k v = if lastTo counts v then k + 1 else k
 
--- what the removal of an edge to v requires
+-- what the removal of an edge to v requires, and what it leaves
 abbrev pub Removable : (counts : List ℕ) → ℕ → ℕ → Type 0
 Removable counts k v = (v ≡ missing → ⊥) → (v < mostBlocks) × (0 < getD counts v 0) × (k < mostBlocks)
+
+pub record Removed (counts queue : List ℕ) (k v : ℕ) (counts' queue' : List ℕ) (k' : ℕ) : Type 0 where
+  pub counted : counts' ≡ oneLess counts v
+  pub queued : queue' ≡ queueAfter counts queue k v
+  pub taken : k' ≡ countAfter counts k v

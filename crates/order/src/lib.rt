@@ -3,12 +3,11 @@
 // algorithm). Blocks that are not taken lie on a cycle of forward edges, or can be reached from one: 209.
 ghost use mathlib.Core.Path.{_≡_};
 ghost use Prim.Native.Nat.{_*_, _≤_, _<_};
-ghost use lib.ListN.{length, getD};
+ghost use lib.ListN.{length};
 ghost use Rattle.limits.specs.Limits.{mostBlocks};
-ghost use Rattle.wcet.specs.Table.{missing};
 ghost use Rattle.nesting.specs.Columns.{Names, Innermost, Linked};
 ghost use Rattle.order.specs.Ordering.{Orders};
-ghost use Rattle.order.specs.Edges.{backBySets, targetBySets, edgeTarget, Counted, oneMore, Queue, oneLess, queueAfter, countAfter, Removable};
+ghost use Rattle.order.specs.Edges.{backBySets, targetBySets, edgeTarget, Counted, Countable, oneMore, Queue, Removable, Removed};
 use limits::MOST_BLOCKS;
 use loopsets::Sets;
 
@@ -51,13 +50,14 @@ fn forward_target(around: &Sets, loops: &[u16], header: &[u16], u: usize, v: u16
     v
 }
 
-// Counts a forward edge to block v; 65535 is none.
-fn count_edge(counts: &mut Counts, v: u16)
-    requires { ⌜ ((v ≡ missing → ⊥) → (v < mostBlocks) × (getD (now counts) v 0 < 65535)) ⌝ }
-    ensures { λ _. ⌜ now (counts .exit) ≡ oneMore (now (counts .entry)) v ⌝ }
+// Counts the edge from block u to its successor v at its target, if it is a forward edge.
+fn count_edge(counts: &mut Counts, around: &Sets, loops: &[u16], header: &[u16], u: usize, v: u16)
+    requires { ⌜ Innermost (now loops) (now header) × (u < length (now loops)) × Names (length (now loops)) v × Countable (now counts) (targetBySets (now around) (now loops) (now header) u v) ⌝ }
+    ensures { λ _. ⌜ now (counts .exit) ≡ oneMore (now (counts .entry)) (targetBySets (now (around .entry)) (now (loops .entry)) (now (header .entry)) u v) ⌝ }
 {
-    if v != 65535 {
-        let to = v as usize;
+    let target = forward_target(around, loops, header, u, v);
+    if target != 65535 {
+        let to = target as usize;
         let more = counts[to] + 1;
         counts[to] = more;
     }
@@ -78,10 +78,8 @@ fn incoming_edges(
     let n = loops.len();
     let mut u = 0;
     while u < n {
-        let v = forward_target(around, loops, header, u, first[u]);
-        count_edge(&mut counts, v);
-        let v = forward_target(around, loops, header, u, second[u]);
-        count_edge(&mut counts, v);
+        count_edge(&mut counts, around, loops, header, u, first[u]);
+        count_edge(&mut counts, around, loops, header, u, second[u]);
         u += 1;
     }
     counts
@@ -104,21 +102,32 @@ fn sources(counts: &Counts, blocks: &mut Blocks, n: usize) -> usize
     count
 }
 
-// Removes a forward edge to block v; 65535 is none. If it was the last one, v is taken. Returns the number of blocks taken.
-fn remove_edge(counts: &mut Counts, blocks: &mut Blocks, count: usize, v: u16) -> usize
-    requires { ⌜ Removable (now counts) count v ⌝ }
-    ensures { λ r. ⌜ (now (counts .exit) ≡ oneLess (now (counts .entry)) v) × (now (blocks .exit) ≡ queueAfter (now (counts .entry)) (now (blocks .entry)) count v) × (r ≡ countAfter (now (counts .entry)) count v) ⌝ }
+// Removes the edge from block u to its successor v, if it is a forward edge. If it was the last one to its target, the target is taken.
+// Returns the number of blocks taken.
+fn remove_edge(
+    counts: &mut Counts,
+    blocks: &mut Blocks,
+    count: usize,
+    around: &Sets,
+    loops: &[u16],
+    header: &[u16],
+    u: usize,
+    v: u16,
+) -> usize
+    requires { ⌜ Innermost (now loops) (now header) × (u < length (now loops)) × Names (length (now loops)) v × Removable (now counts) count (targetBySets (now around) (now loops) (now header) u v) ⌝ }
+    ensures { λ r. ⌜ Removed (now (counts .entry)) (now (blocks .entry)) count (targetBySets (now (around .entry)) (now (loops .entry)) (now (header .entry)) u v) (now (counts .exit)) (now (blocks .exit)) r ⌝ }
 {
-    if v == 65535 {
+    let target = forward_target(around, loops, header, u, v);
+    if target == 65535 {
         return count;
     }
-    let to = v as usize;
+    let to = target as usize;
     let left = counts[to] - 1;
     counts[to] = left;
     if left != 0 {
         return count;
     }
-    blocks[count] = v;
+    blocks[count] = target;
     count + 1
 }
 
@@ -140,10 +149,28 @@ pub fn order_of(
     let mut i = 0;
     while i < count {
         let from = blocks[i] as usize;
-        let v = forward_target(around, loops, header, from, first[from]);
-        count = remove_edge(&mut counts, &mut blocks, count, v);
-        let v = forward_target(around, loops, header, from, second[from]);
-        count = remove_edge(&mut counts, &mut blocks, count, v);
+        let v = first[from];
+        count = remove_edge(
+            &mut counts,
+            &mut blocks,
+            count,
+            around,
+            loops,
+            header,
+            from,
+            v,
+        );
+        let v = second[from];
+        count = remove_edge(
+            &mut counts,
+            &mut blocks,
+            count,
+            around,
+            loops,
+            header,
+            from,
+            v,
+        );
         i += 1;
     }
     Order { blocks, count }

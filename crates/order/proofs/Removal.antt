@@ -15,18 +15,19 @@ use Rattle.lists.specs.Search.{if_then_else_, anyBelow, countBelow}
 use Rattle.lists.proofs.Tests.{both}
 use Rattle.lists.proofs.Search.{any-none, any-ext, some-at, count-ext, none-counted, count-remove}
 use Rattle.wcet.specs.Table.{missing}
-use Rattle.nesting.specs.Columns.{Names}
-use Rattle.order.specs.Edges.{Counted, Queue, oneLess, lastTo, queueAfter, countAfter}
+use Rattle.nesting.specs.Columns.{Names, Linked}
+use Rattle.order.specs.Edges.{targetBySets, edgeTarget, Counted, Queue, oneLess, lastTo, queueAfter, countAfter, Removable, Removed}
+use Rattle.order.proofs.Edges.{first-end, second-end, end-names}
 use Rattle.order.proofs.Queues.{has-room, queue-lower, queue-take}
 
 -- the edge that is removed in step j: each block of the queue in two steps
 abbrev pub edgeAt : List ℕ → ℕ → ℕ
 edgeAt queue j = 2 * getD queue (j / 2) 0 + j % 2
 
-pub even-edge : (queue : List ℕ) (i : ℕ) → 2 * getD queue i 0 ≡ edgeAt queue (2 * i)
+even-edge : (queue : List ℕ) (i : ℕ) → 2 * getD queue i 0 ≡ edgeAt queue (2 * i)
 even-edge queue i = let half : (2 * i) / 2 ≡ i = omega arith in rw half (omega arith)
 
-pub odd-edge : (queue : List ℕ) (i : ℕ) → 2 * getD queue i 0 + 1 ≡ edgeAt queue (2 * i + 1)
+odd-edge : (queue : List ℕ) (i : ℕ) → 2 * getD queue i 0 + 1 ≡ edgeAt queue (2 * i + 1)
 odd-edge queue i = let half : (2 * i + 1) / 2 ≡ i = omega arith in rw half (omega arith)
 
 -- edge e is removed in the first d steps
@@ -39,6 +40,8 @@ waits ends queue d v e = eqb (ends e) v && not (removed queue d e)
 
 -- after d steps, with k blocks in the queue
 pub record Taken (ends : ℕ → ℕ) (n : ℕ) (counts queue : List ℕ) (d k : ℕ) : Type 0 where
+  pub counts-size : length counts ≡ mostBlocks
+  pub queue-size : length queue ≡ mostBlocks
   pub queued : Queue counts queue n k
   pub within : d ≤ 2 * k
   pub counted : (v : ℕ) → v < n → getD counts v 0 ≡ countBelow (2 * n) (waits ends queue d v)
@@ -50,21 +53,26 @@ unfolding removed
 removed-at queue d e h = let s = some-at d (λ j. eqb e (edgeAt queue j)) h in (s .0, s .1, eqb-true e (edgeAt queue (s .0)) (s .2))
 
 module _ (ends : ℕ → ℕ) (n : ℕ) (counts queue : List ℕ) where
-  pub taken-start : (k : ℕ) → Queue counts queue n k → Counted ends n counts (2 * n) → Taken ends n counts queue 0 k
+  pub taken-start : (k : ℕ) → length queue ≡ mostBlocks → Queue counts queue n k → Counted ends n counts (2 * n) → Taken ends n counts queue 0 k
   unfolding removed anyBelow
-  taken-start k Q C = record {
+  taken-start k size Q C = record {
+    counts-size = C .size;
+    queue-size = size;
     queued = Q;
     within = omega arith;
     counted = λ v b. C .each v b ∙ sym (count-ext (2 * n) (waits ends queue 0 v) (λ e. eqb (ends e) v) (λ e h. mathlib.Core.Bool.and-true (eqb (ends e) v)));
     earlier = λ j e h b q. absurd (eqb-false (ends e) (getD queue j 0) (none-counted (2 * n) (λ e. eqb (ends e) (getD queue j 0)) (sym (C .each (getD queue j 0) (Q .block j h)) ∙ Q .clear j h) e b) q);
   }
 
-  module _ (d k : ℕ) (K : Taken ends n counts queue d k) (more : d < 2 * k) where
+  module _ (few : n ≤ mostBlocks) (d k : ℕ) (K : Taken ends n counts queue d k) (more : d < 2 * k) where
     abbrev this : ℕ
     this = edgeAt queue d
 
-    pub this-low : this < 2 * n
+    this-low : this < 2 * n
     this-low = omega (arith, K .queued .block (d / 2) (omega arith))
+
+    high : n ≤ length counts
+    high = omega (arith, K .counts-size)
 
     this-new : removed queue d this ≡ false
     unfolding removed
@@ -95,6 +103,8 @@ module _ (ends : ℕ → ℕ) (n : ℕ) (counts queue : List ℕ) where
     -- it is a back edge, or there is none
     taken-skip : n ≤ ends this → Taken ends n counts queue (d + 1) k
     taken-skip nowhere = record {
+      counts-size = K .counts-size;
+      queue-size = K .queue-size;
       queued = K .queued;
       within = omega arith;
       counted = λ v b. rw (add-one d) (K .counted v b ∙ same v (λ e. omega arith));
@@ -102,7 +112,7 @@ module _ (ends : ℕ → ℕ) (n : ℕ) (counts queue : List ℕ) where
     }
 
     -- this edge ends at v
-    module _ (v : ℕ) (there : v ≡ ends this) (low : v < n) (high : n ≤ length counts) where
+    module _ (v : ℕ) (there : v ≡ ends this) (low : v < n) where
       some-left : getD counts v 0 ≡ suc (countBelow (2 * n) (waits ends queue (suc d) v))
       some-left = K .counted v low ∙ one-less v (sym there)
 
@@ -116,7 +126,7 @@ module _ (ends : ℕ → ℕ) (n : ℕ) (counts queue : List ℕ) where
       recounted u b = go (ℕ-discrete u v)
         where
           go : Dec (u ≡ v) → getD lower u 0 ≡ countBelow (2 * n) (waits ends queue (suc d) u)
-          go (yes e) = rw (e, getD-set-same counts v (getD counts v 0 - 1) 0 (omega arith)) left
+          go (yes e) = rw (e, getD-set-same counts v (getD counts v 0 - 1) 0 (omega (arith, high))) left
           go (no ne) = rw (getD-set-other counts v u (getD counts v 0 - 1) 0 ne) (K .counted u b ∙ same u (λ e. ne (sym e ∙ sym there)))
 
       present : getD counts v 0 ≡ 0 → ⊥
@@ -124,6 +134,8 @@ module _ (ends : ℕ → ℕ) (n : ℕ) (counts queue : List ℕ) where
 
       taken-lower : (getD counts v 0 - 1 ≡ 0 → ⊥) → Taken ends n lower queue (d + 1) k
       taken-lower some = record {
+        counts-size = length-set counts v (getD counts v 0 - 1) ∙ K .counts-size;
+        queue-size = K .queue-size;
         queued = queue-lower counts queue n k v (K .queued) low high present (getD counts v 0 - 1) some;
         within = omega arith;
         counted = λ u b. rw (add-one d) (recounted u b);
@@ -134,9 +146,14 @@ module _ (ends : ℕ → ℕ) (n : ℕ) (counts queue : List ℕ) where
       taken-room : k < n
       taken-room = has-room counts queue n k v (K .queued) low high present
 
-      taken-last : getD counts v 0 - 1 ≡ 0 → n ≤ length queue → Taken ends n lower (set queue k v) (d + 1) (k + 1)
+      room : n ≤ length queue
+      room = omega (arith, K .queue-size)
+
+      taken-last : getD counts v 0 - 1 ≡ 0 → Taken ends n lower (set queue k v) (d + 1) (k + 1)
       unfolding removed
-      taken-last none room = record {
+      taken-last none = record {
+        counts-size = length-set counts v (getD counts v 0 - 1) ∙ K .counts-size;
+        queue-size = length-set queue k v ∙ K .queue-size;
         queued = queue-take counts queue n k v (K .queued) low high present (getD counts v 0 - 1) none room;
         within = omega arith;
         counted = λ u b. rw (add-one d) (recounted u b ∙ count-ext (2 * n) (waits ends queue (suc d) u) (waits ends (set queue k v) (suc d) u) (λ e h. ap (λ (x : Bool). eqb (ends e) u && not x) (as-before e)));
@@ -155,7 +172,7 @@ module _ (ends : ℕ → ℕ) (n : ℕ) (counts queue : List ℕ) where
 
           before : (j e : ℕ) → j < k + 1 → e < 2 * n → ends e ≡ getD (set queue k v) j 0 → Dec (j ≡ k) → (i : ℕ) × (i < j) × (getD (set queue k v) i 0 ≡ e / 2)
           before j e h b q (yes z) =
-              let p = removed-at queue (suc d) e (was-removed e b (q ∙ ap (λ (x : ℕ). getD (set queue k v) x 0) z ∙ getD-set-same queue k v 0 (omega (arith, taken-room)))) in
+              let p = removed-at queue (suc d) e (was-removed e b (q ∙ ap (λ (x : ℕ). getD (set queue k v) x 0) z ∙ getD-set-same queue k v 0 (omega (arith, taken-room, room)))) in
               let low-half : p .0 / 2 < k = omega (arith, p .1) in
               (p .0 / 2, omega (arith, low-half), old (p .0 / 2) (λ w. omega arith) ∙ omega (arith, p .2))
           before j e h b q (no ne) =
@@ -163,54 +180,93 @@ module _ (ends : ℕ → ℕ) (n : ℕ) (counts queue : List ℕ) where
               (p .0, p .1, old (p .0) (λ w. omega (arith, p .1, ne)) ∙ p .2)
 
     -- one edge is removed: it leads to v, or nowhere
-    module _ (v : ℕ) (there : v ≡ ends this) (names : Names n v) (few : n ≤ mostBlocks) (sized : length counts ≡ mostBlocks) (room : length queue ≡ mostBlocks) where
-      enough : n ≤ length counts
-      enough = omega arith
+    module _ (v : ℕ) (there : v ≡ ends this) (names : Names n v) where
+      pub removable : Removable counts k v
+      removable ne = (omega (arith, names ne), omega (arith, some-left v there (names ne)), omega (arith, taken-room v there (names ne)))
 
-      -- what the passing of it requires
-      pub removable : (v ≡ missing → ⊥) → (v < mostBlocks) × (0 < getD counts v 0) × (k < mostBlocks)
-      removable ne = (omega (arith, names ne), omega (arith, some-left v there (names ne) enough), omega (arith, taken-room v there (names ne) enough))
-
-      pub taken-remove : Taken ends n (oneLess counts v) (queueAfter counts queue k v) (d + 1) (countAfter counts k v)
-      taken-remove = go (ℕ-discrete v missing)
+      after-removal : Taken ends n (oneLess counts v) (queueAfter counts queue k v) (d + 1) (countAfter counts k v)
+      after-removal = go (ℕ-discrete v missing)
         where
           last : (v ≡ missing → ⊥) → Dec (getD counts v 0 - 1 ≡ 0)
               → Taken ends n (set counts v (getD counts v 0 - 1)) (if eqb (getD counts v 0 - 1) 0 then set queue k v else queue) (d + 1) (if eqb (getD counts v 0 - 1) 0 then k + 1 else k)
-          last ne (yes z) = rw (eq-eqb (getD counts v 0 - 1) 0 z) (taken-last v there (names ne) enough z (omega arith))
-          last ne (no more) = rw (ne-eqb (getD counts v 0 - 1) 0 more) (taken-lower v there (names ne) enough more)
+          last ne (yes z) = rw (eq-eqb (getD counts v 0 - 1) 0 z) (taken-last v there (names ne) z)
+          last ne (no more) = rw (ne-eqb (getD counts v 0 - 1) 0 more) (taken-lower v there (names ne) more)
 
           go : Dec (v ≡ missing) → Taken ends n (oneLess counts v) (queueAfter counts queue k v) (d + 1) (countAfter counts k v)
           go (yes m) = rw (eq-eqb v missing m) (taken-skip (omega (arith, m, there)))
           go (no ne) = rw (ne-eqb v missing ne) (last ne (ℕ-discrete (getD counts v 0 - 1) 0))
 
--- what was in the queue stays there, the queue does not shrink, and the lengths stay
-module _ (counts : List ℕ) (v : ℕ) where
-  pub counts-length : length (oneLess counts v) ≡ length counts
-  counts-length = go (eqb v missing)
+      pub taken-next : (counts' queue' : List ℕ) (k' : ℕ) → Removed counts queue k v counts' queue' k' → Taken ends n counts' queue' (d + 1) k'
+      taken-next counts' queue' k' R = rw (R .counted, R .queued, R .taken) after-removal
+
+-- what was in the queue stays there, and the queue does not shrink
+module _ (counts queue : List ℕ) (k v : ℕ) (counts' queue' : List ℕ) (k' : ℕ) (R : Removed counts queue k v counts' queue' k') where
+  no-fewer : k ≤ k'
+  no-fewer = rw (R .taken) (go (lastTo counts v))
     where
-      go : (b : Bool) → length (if b then counts else set counts v (getD counts v 0 - 1)) ≡ length counts
-      go true = refl
-      go false = length-set counts v (getD counts v 0 - 1)
+      go : (b : Bool) → k ≤ (if b then k + 1 else k)
+      go true = omega arith
+      go false = omega arith
 
-  module _ (k : ℕ) where
-    pub no-fewer : k ≤ countAfter counts k v
-    no-fewer = go (lastTo counts v)
-      where
-        go : (b : Bool) → k ≤ (if b then k + 1 else k)
-        go true = omega arith
-        go false = omega arith
+  kept : (j : ℕ) → j < k → getD queue' j 0 ≡ getD queue j 0
+  kept j h = rw (R .queued) (go (lastTo counts v))
+    where
+      go : (b : Bool) → getD (if b then set queue k v else queue) j 0 ≡ getD queue j 0
+      go true = getD-set-other queue k j v 0 (λ z. omega arith)
+      go false = refl
 
-    module _ (queue : List ℕ) where
-      pub queue-length : length (queueAfter counts queue k v) ≡ length queue
-      queue-length = go (lastTo counts v)
-        where
-          go : (b : Bool) → length (if b then set queue k v else queue) ≡ length queue
-          go true = length-set queue k v
-          go false = refl
+-- ---- the two edges of the block at place i of the queue
 
-      pub kept : (j : ℕ) → j < k → getD (queueAfter counts queue k v) j 0 ≡ getD queue j 0
-      kept j h = go (lastTo counts v)
-        where
-          go : (b : Bool) → getD (if b then set queue k v else queue) j 0 ≡ getD queue j 0
-          go true = getD-set-other queue k j v 0 (λ z. omega arith)
-          go false = refl
+module _ (sets loops firsts seconds headers : List ℕ) (L : Linked (length loops) firsts seconds) (i : ℕ) where
+  abbrev State : (counts queue : List ℕ) → ℕ → ℕ → Type 0
+  State = Taken (edgeTarget sets loops firsts seconds headers) (length loops)
+
+  abbrev target : ℕ → ℕ → ℕ
+  target = targetBySets sets loops headers
+
+  module _ (counts queue : List ℕ) (k : ℕ) (more : i < k) (K : State counts queue (2 * i) k) where
+    abbrev u : ℕ
+    u = getD queue i 0
+
+    pub block-low : u < length loops
+    block-low = K .queued .block i more
+
+    -- the first
+    abbrev v : ℕ
+    v = target u (getD firsts u 0)
+
+    there : v ≡ edgeTarget sets loops firsts seconds headers (edgeAt queue (2 * i))
+    there = first-end sets loops firsts seconds headers u ∙ ap (edgeTarget sets loops firsts seconds headers) (even-edge queue i)
+
+    names : Names (length loops) v
+    names = end-names sets loops headers u (getD firsts u 0) (length loops) (L .first-names u block-low)
+
+    pub first-removable : Removable counts k v
+    first-removable = removable _ _ counts queue (L .few) (2 * i) k K (omega arith) v there names
+
+    module _ (counts' queue' : List ℕ) (k' : ℕ) (R : Removed counts queue k v counts' queue' k') where
+      first-removed : State counts' queue' (2 * i + 1) k'
+      first-removed = taken-next _ _ counts queue (L .few) (2 * i) k K (omega arith) v there names counts' queue' k' R
+
+      -- and the second
+      more' : 2 * i + 1 < 2 * k'
+      more' = omega (arith, no-fewer counts queue k v counts' queue' k' R)
+
+      abbrev v' : ℕ
+      v' = target u (getD seconds u 0)
+
+      there' : v' ≡ edgeTarget sets loops firsts seconds headers (edgeAt queue' (2 * i + 1))
+      there' =
+          second-end sets loops firsts seconds headers u
+          ∙ ap (edgeTarget sets loops firsts seconds headers) (ap (λ (x : ℕ). 2 * x + 1) (sym (kept counts queue k v counts' queue' k' R i more)) ∙ odd-edge queue' i)
+
+      names' : Names (length loops) v'
+      names' = end-names sets loops headers u (getD seconds u 0) (length loops) (L .second-names u block-low)
+
+      pub second-removable : Removable counts' k' v'
+      second-removable = removable _ _ counts' queue' (L .few) (2 * i + 1) k' first-removed more' v' there' names'
+
+      pub both-removed : (counts'' queue'' : List ℕ) (k'' : ℕ) → Removed counts' queue' k' v' counts'' queue'' k'' → State counts'' queue'' (2 * (i + 1)) k''
+      both-removed counts'' queue'' k'' R' =
+          let next : 2 * i + 1 + 1 ≡ 2 * (i + 1) = omega arith in
+          rw next at (taken-next _ _ counts' queue' (L .few) (2 * i + 1) k' first-removed more' v' there' names' counts'' queue'' k'' R')
