@@ -148,29 +148,11 @@ pub fn order_of(
     let mut count = sources(&counts, &mut blocks, loops.len());
     let mut i = 0;
     while i < count {
-        let from = blocks[i] as usize;
-        let v = first[from];
-        count = remove_edge(
-            &mut counts,
-            &mut blocks,
-            count,
-            around,
-            loops,
-            header,
-            from,
-            v,
-        );
-        let v = second[from];
-        count = remove_edge(
-            &mut counts,
-            &mut blocks,
-            count,
-            around,
-            loops,
-            header,
-            from,
-            v,
-        );
+        let u = blocks[i] as usize;
+        let v = first[u];
+        count = remove_edge(&mut counts, &mut blocks, count, around, loops, header, u, v);
+        let v = second[u];
+        count = remove_edge(&mut counts, &mut blocks, count, around, loops, header, u, v);
         i += 1;
     }
     Order { blocks, count }

@@ -38,14 +38,14 @@ sources-requires c κs = (c .before .before .before .before .before .before .bef
 loop-holds : tie.Need-loop-holds Inv-loop μ-loop
 loop-holds c = taken-start _ _ _ _ _ (c .sources .ensures .0) (c .sources .ensures .1) (c .before .before .before .incoming-edges .ensures)
 
-mul-from : tie.Need-mul-from Inv-loop μ-loop
-mul-from c = omega (arith, few c)
+mul-u : tie.Need-mul-u Inv-loop μ-loop
+mul-u c = omega (arith, few c)
 
-array-read-from : tie.Need-array-read-from Inv-loop μ-loop
-array-read-from c = omega (arith, few c)
+array-read-u : tie.Need-array-read-u Inv-loop μ-loop
+array-read-u c = omega (arith, few c)
 
-cast-from : tie.Need-cast-from Inv-loop μ-loop
-cast-from c = omega (arith, low c, few c)
+cast-u : tie.Need-cast-u Inv-loop μ-loop
+cast-u c = omega (arith, low c, few c)
 
 mul-v : tie.Need-mul-v Inv-loop μ-loop
 mul-v c = omega (arith, low c, few c)
@@ -101,9 +101,9 @@ order-of-spec =
     incoming-edges-requires
     sources-requires
     loop-holds
-    mul-from
-    array-read-from
-    cast-from
+    mul-u
+    array-read-u
+    cast-u
     mul-v
     shared-slice-read-v
     remove-edge-requires
