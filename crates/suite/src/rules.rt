@@ -1,5 +1,5 @@
-// The rules 201 to 208 and the bound, written from document 01 apart from the library: one rule after the other, one place after the other,
-// one edge at a time, and whether a block is inside a loop found by following parents.
+// The rules 201 to 209 and the bound, written from documents 01 and 02 apart from the library: one rule after the other, one place after the
+// other, one edge at a time, and whether a block is inside a loop found by following parents.
 use crate::cells::BlockCells;
 use crate::cells::LoopCells;
 use crate::cells::i64_at;
@@ -131,6 +131,70 @@ fn inequality_broken(b: &BlockCells, l: &LoopCells, m: usize, u: usize, v: usize
     plus(after, weight(multiplier, of_loop(l, k, LIMIT))) > before
 }
 
+// Whether the edge from u to v ends at the header of a loop that u is inside.
+fn returns(b: &BlockCells, l: &LoopCells, m: usize, u: usize, v: usize) -> bool {
+    let k = headed_by(l, m, v);
+    if k == m {
+        return false;
+    }
+    inside(b, l, u, k)
+}
+
+// A block is marked when every walk from it without a returning edge comes to an end. An edge does not stand in the way of that if it is missing,
+// if it returns or if it ends at a marked block.
+fn edge_ends(
+    b: &BlockCells,
+    l: &LoopCells,
+    m: usize,
+    u: usize,
+    v: usize,
+    marks: &[bool; 1024],
+) -> bool {
+    if v == MISSING {
+        return true;
+    }
+    if v >= 1024 {
+        return false;
+    }
+    if marks[v] {
+        return true;
+    }
+    returns(b, l, m, u, v)
+}
+
+fn block_ends(b: &BlockCells, l: &LoopCells, m: usize, u: usize, marks: &[bool; 1024]) -> bool {
+    edge_ends(b, l, m, u, of_block(b, u, FIRST), marks)
+        & edge_ends(b, l, m, u, of_block(b, u, SECOND), marks)
+}
+
+// One round over all blocks; how many are marked after it.
+fn mark(b: &BlockCells, l: &LoopCells, n: usize, m: usize, marks: &mut [bool; 1024]) -> usize {
+    let mut count = 0;
+    for u in 0..n {
+        if u < 1024 {
+            let ends = block_ends(b, l, m, u, marks);
+            marks[u] = ends;
+            count = more_if(ends, count);
+        }
+    }
+    count
+}
+
+// Whether there is a closed walk of one edge or more, none of which returns: then, and only then, some block is never marked. Where a round marks
+// no further block, no later one does.
+fn has_closed_walk(b: &BlockCells, l: &LoopCells, n: usize, m: usize) -> bool {
+    let mut marks = [false; 1024];
+    let mut count = 0;
+    for _ in 0..n {
+        let next = mark(b, l, n, m, &mut marks);
+        if next == count {
+            return count < n;
+        }
+        count = next;
+    }
+    count < n
+}
+
 fn edge_broken(
     rule: u32,
     b: &BlockCells,
@@ -190,12 +254,18 @@ fn broken(rule: u32, b: &BlockCells, l: &LoopCells, n: usize, m: usize, i: usize
     if rule == 205 {
         return depth(b, l, m, header) > 16;
     }
+    if rule == 209 {
+        return has_closed_walk(b, l, n, m);
+    }
     edge_broken(rule, b, l, n, m, i, of_block(b, i, FIRST))
         | edge_broken(rule, b, l, n, m, i, of_block(b, i, SECOND))
 }
 
-// How many places a rule has: loops or blocks.
+// How many places a rule has: loops, blocks, or the one place of 209.
 fn places_of(rule: u32, n: usize, m: usize) -> usize {
+    if rule == 209 {
+        return 1;
+    }
     if (rule == 202) | (rule == 204) | (rule == 205) {
         m
     } else {

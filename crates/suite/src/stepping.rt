@@ -142,7 +142,7 @@ pub fn reply(
     let mut l = [0usize; 260];
     copy_blocks(cost, inner, first, second, figure, &mut b);
     copy_loops(parent, header, limit, multiplier, &mut l);
-    let refusal = first_refusal(&b, &l, n, m, if walked { 208 } else { 209 });
+    let refusal = first_refusal(&b, &l, n, m, if walked { 208 } else { 210 });
     if refusal.number != 0 {
         return refusal;
     }
