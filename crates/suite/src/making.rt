@@ -268,3 +268,18 @@ pub fn declare_all(
         declare(inner, parent, header, k, nested);
     }
 }
+
+// The successor of block u in a row of n blocks: the next one, of the last but one block `back`, of the exit none. Where `back` is 0 no block has
+// one.
+fn next_in_row(n: usize, back: usize, u: usize) -> usize {
+    if (back == 0) | (plus(u, 1) == n) {
+        return 65535;
+    }
+    if plus(u, 2) == n { back } else { plus(u, 1) }
+}
+
+pub fn link_all(first: &mut [u16], n: usize, back: usize) {
+    for u in 0..n {
+        put_u16(first, u, to_u16(next_in_row(n, back, u)));
+    }
+}

@@ -1,6 +1,7 @@
 // The cases are lines of text: what to run, a name, the reply that it must have, and what it is run on, with a bar between them.
 use crate::cells::plus;
 use crate::making::declare_all;
+use crate::making::link_all;
 use crate::making::make_steps;
 use crate::making::make_text;
 use crate::parts::NONE;
@@ -123,22 +124,24 @@ fn walk_case(line: &[u8], walked: bool) -> Answers {
     routine_case(line, walked, first_u16(&steps, length, NONE, 0))
 }
 
-// blocks | loops | whether the loops are nested | shorter column: blocks without edges, costs and figures
+// blocks | loops | whether the loops are nested | shorter column | back: blocks without costs and figures, and without edges where `back` is empty
 fn sized_case(line: &[u8]) -> Answers {
     let cost = [0u32; 1026];
     let mut inner = [0u16; 1026];
-    let first = [65535u16; 1026];
+    let mut first = [65535u16; 1026];
     let second = [65535u16; 1026];
     let figure = [0i64; 1026];
     let mut parent = [0u16; 66];
     let mut header = [0u16; 66];
     let limit = [1u32; 66];
     let multiplier = [0u64; 66];
+    let n = number(field(line, 3));
     let m = number(field(line, 4));
     let nested = first_byte(field(line, 5)) == b'n';
     declare_all(&mut inner, &mut parent, &mut header, m, nested);
+    link_all(&mut first, n, number(field(line, 7)));
     columns(
-        number(field(line, 3)),
+        n,
         m,
         number_or(line, 6, NONE),
         &cost,
