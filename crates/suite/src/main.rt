@@ -1,4 +1,4 @@
-// The test program: the cases at the limits of document 01, each with the reply that it must have, are read from standard input. The library
+// The test program: the cases at the limits of the papers, each with the reply that it must have, are read from standard input. The library
 // and a checker that was written apart from it both reply to each case, and all three are compared.
 mod cells;
 mod making;
