@@ -7,7 +7,7 @@ use Prim.Native.Nat.{ℕ, _+_, _*_, _<_, _/_, _%_}
 use native.Mathlib.Decide.{ℕ-discrete}
 use native.Mathlib.Omega.{arith}
 use lib.Dec.{eqb}
-use lib.ListN.{getD}
+use lib.ListN.{length, getD}
 use borrow.Author.Tests.{eqb-true, eq-eqb, ne-eqb, not-true}
 use Rattle.lists.specs.Search.{if_then_else_}
 use Rattle.lists.proofs.Tests.{and-true, both, either}
@@ -39,7 +39,7 @@ module _ (sets loops headers : List ℕ) (u v : ℕ) where
   ends-there b = rw b
 
   -- which is a block, where there is one
-  pub end-names : (n : ℕ) → Names n v → Names n (targetBySets sets loops headers u v)
+  end-names : (n : ℕ) → Names n v → Names n (targetBySets sets loops headers u v)
   unfolding targetBySets
   end-names n names = go (backBySets sets loops headers u v)
     where
@@ -71,6 +71,16 @@ module _ (sets loops firsts seconds headers : List ℕ) where
   second-end u =
       let half : (2 * u + 1) / 2 ≡ u = omega arith in
       rw (odd firsts seconds (2 * u + 1) (λ z. omega arith), half)
+
+-- which is a block, where there is one
+pub edge-names : (sets loops firsts seconds headers : List ℕ) (e : ℕ) → Linked (length loops) firsts seconds → e < 2 * length loops
+    → Names (length loops) (edgeTarget sets loops firsts seconds headers e)
+unfolding edgeTarget
+edge-names sets loops firsts seconds headers e L b = end-names sets loops headers (e / 2) (successor firsts seconds e) (length loops) (named (ℕ-discrete (e % 2) 0))
+  where
+    named : Dec (e % 2 ≡ 0) → Names (length loops) (successor firsts seconds e)
+    named (yes z) = rw (even firsts seconds e z) (L .first-names (e / 2) (omega arith))
+    named (no z) = rw (odd firsts seconds e z) (L .second-names (e / 2) (omega arith))
 
 abbrev pub endsOf : Routine → List ℕ → ℕ → ℕ
 endsOf t sets = edgeTarget sets (t .loops) (t .firsts) (t .seconds) (t .headers)

@@ -14,8 +14,8 @@ use Rattle.lists.specs.Search.{if_then_else_, countBelow}
 use Rattle.lists.proofs.Search.{count-most}
 use Rattle.wcet.specs.Table.{missing}
 use Rattle.nesting.specs.Columns.{Names, Linked}
-use Rattle.order.specs.Edges.{targetBySets, edgeTarget, Counted, oneMore, Countable}
-use Rattle.order.proofs.Edges.{first-end, second-end, end-names}
+use Rattle.order.specs.Edges.{edgeTarget, Counted, oneMore, Countable}
+use Rattle.order.proofs.Edges.{edge-names}
 
 pub counted-none : (ends : ℕ → ℕ) (n : ℕ) → n ≤ mostBlocks → Counted ends n (replicate mostBlocks 0) 0
 unfolding countBelow
@@ -49,33 +49,14 @@ module _ (ends : ℕ → ℕ) (n : ℕ) (few : n ≤ mostBlocks) (counts : List 
       go (yes m) = rw (eq-eqb v missing m) (record { size = C .size; each = λ u h. C .each u h ∙ away u (λ q. omega arith) })
       go (no ne) = rw (ne-eqb v missing ne) (record { size = length-set counts v (getD counts v 0 + 1) ∙ C .size; each = λ u h. at (names ne) u h (ℕ-discrete u v) })
 
--- ---- the two edges of block u
+-- edge e of the columns, which leads to v
+module _ (sets loops firsts seconds headers : List ℕ) (L : Linked (length loops) firsts seconds) (counts : List ℕ) (e : ℕ) (b : e < 2 * length loops)
+    (C : Counted (edgeTarget sets loops firsts seconds headers) (length loops) counts e) (v : ℕ) (there : v ≡ edgeTarget sets loops firsts seconds headers e) where
+  names : Names (length loops) v
+  names = rw there (edge-names sets loops firsts seconds headers e L b)
 
-module _ (sets loops firsts seconds headers : List ℕ) (L : Linked (length loops) firsts seconds) (u : ℕ) (b : u < length loops) where
-  abbrev Counts : List ℕ → ℕ → Type 0
-  Counts = Counted (edgeTarget sets loops firsts seconds headers) (length loops)
+  pub edge-countable : Countable counts v
+  edge-countable = countable _ _ (L .few) counts e C (omega (arith, L .few)) v names
 
-  abbrev target : ℕ → ℕ
-  target v = targetBySets sets loops headers u v
-
-  module _ (counts : List ℕ) (C : Counts counts (2 * u)) where
-    names : Names (length loops) (target (getD firsts u 0))
-    names = end-names sets loops headers u (getD firsts u 0) (length loops) (L .first-names u b)
-
-    pub first-countable : Countable counts (target (getD firsts u 0))
-    first-countable = countable _ _ (L .few) counts (2 * u) C (omega (arith, L .few)) (target (getD firsts u 0)) names
-
-    pub first-counted : Counts (oneMore counts (target (getD firsts u 0))) (2 * u + 1)
-    first-counted = counted-next _ _ (L .few) counts (2 * u) C (target (getD firsts u 0)) (first-end sets loops firsts seconds headers u) names
-
-  module _ (counts : List ℕ) (C : Counts counts (2 * u + 1)) where
-    names' : Names (length loops) (target (getD seconds u 0))
-    names' = end-names sets loops headers u (getD seconds u 0) (length loops) (L .second-names u b)
-
-    pub second-countable : Countable counts (target (getD seconds u 0))
-    second-countable = countable _ _ (L .few) counts (2 * u + 1) C (omega (arith, L .few)) (target (getD seconds u 0)) names'
-
-    pub second-counted : Counts (oneMore counts (target (getD seconds u 0))) (2 * (u + 1))
-    second-counted =
-        let next : 2 * u + 1 + 1 ≡ 2 * (u + 1) = omega arith in
-        rw next at (counted-next _ _ (L .few) counts (2 * u + 1) C (target (getD seconds u 0)) (second-end sets loops firsts seconds headers u) names')
+  pub edge-counted : Counted (edgeTarget sets loops firsts seconds headers) (length loops) (oneMore counts v) (e + 1)
+  edge-counted = counted-next _ _ (L .few) counts e C v there names

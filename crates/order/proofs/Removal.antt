@@ -17,7 +17,7 @@ use Rattle.lists.proofs.Search.{any-none, any-ext, some-at, count-ext, none-cou
 use Rattle.wcet.specs.Table.{missing}
 use Rattle.nesting.specs.Columns.{Names, Linked}
 use Rattle.order.specs.Edges.{targetBySets, edgeTarget, Counted, Queue, oneLess, lastTo, queueAfter, countAfter, Removable, Removed}
-use Rattle.order.proofs.Edges.{first-end, second-end, end-names}
+use Rattle.order.proofs.Edges.{first-end, second-end, edge-names}
 use Rattle.order.proofs.Queues.{has-room, queue-lower, queue-take}
 
 -- the edge that is removed in step j: each block of the queue in two steps
@@ -181,7 +181,7 @@ module _ (ends : ℕ → ℕ) (n : ℕ) (counts queue : List ℕ) where
 
     -- one edge is removed: it leads to v, or nowhere
     module _ (v : ℕ) (there : v ≡ ends this) (names : Names n v) where
-      pub removable : Removable counts k v
+      removable : Removable counts k v
       removable ne = (omega (arith, names ne), omega (arith, some-left v there (names ne)), omega (arith, taken-room v there (names ne)))
 
       after-removal : Taken ends n (oneLess counts v) (queueAfter counts queue k v) (d + 1) (countAfter counts k v)
@@ -196,7 +196,7 @@ module _ (ends : ℕ → ℕ) (n : ℕ) (counts queue : List ℕ) where
           go (yes m) = rw (eq-eqb v missing m) (taken-skip (omega (arith, m, there)))
           go (no ne) = rw (ne-eqb v missing ne) (last ne (ℕ-discrete (getD counts v 0 - 1) 0))
 
-      pub taken-next : (counts' queue' : List ℕ) (k' : ℕ) → Removed counts queue k v counts' queue' k' → Taken ends n counts' queue' (d + 1) k'
+      taken-next : (counts' queue' : List ℕ) (k' : ℕ) → Removed counts queue k v counts' queue' k' → Taken ends n counts' queue' (d + 1) k'
       taken-next counts' queue' k' R = rw (R .counted, R .queued, R .taken) after-removal
 
 -- what was in the queue stays there, and the queue does not shrink
@@ -215,58 +215,60 @@ module _ (counts queue : List ℕ) (k v : ℕ) (counts' queue' : List ℕ) (k' :
       go true = getD-set-other queue k j v 0 (λ z. omega arith)
       go false = refl
 
--- ---- the two edges of the block at place i of the queue
+-- ---- the edges of the columns
 
-module _ (sets loops firsts seconds headers : List ℕ) (L : Linked (length loops) firsts seconds) (i : ℕ) where
+module _ (sets loops firsts seconds headers : List ℕ) (L : Linked (length loops) firsts seconds) where
   abbrev State : (counts queue : List ℕ) → ℕ → ℕ → Type 0
   State = Taken (edgeTarget sets loops firsts seconds headers) (length loops)
 
-  abbrev target : ℕ → ℕ → ℕ
-  target = targetBySets sets loops headers
+  -- the edge that step d removes, which leads to v
+  module _ (counts queue : List ℕ) (d k : ℕ) (more : d < 2 * k) (K : State counts queue d k) (v : ℕ)
+      (there : v ≡ edgeTarget sets loops firsts seconds headers (edgeAt queue d)) where
+    names : Names (length loops) v
+    names = rw there (edge-names sets loops firsts seconds headers (edgeAt queue d) L (this-low _ _ counts queue (L .few) d k K more))
 
-  module _ (counts queue : List ℕ) (k : ℕ) (more : i < k) (K : State counts queue (2 * i) k) where
+    edge-removable : Removable counts k v
+    edge-removable = removable _ _ counts queue (L .few) d k K more v there names
+
+    edge-removed : (counts' queue' : List ℕ) (k' : ℕ) → Removed counts queue k v counts' queue' k' → State counts' queue' (d + 1) k'
+    edge-removed = taken-next _ _ counts queue (L .few) d k K more v there names
+
+  -- the two edges of the block at place i
+  module _ (i : ℕ) (counts queue : List ℕ) (k : ℕ) (more : i < k) (K : State counts queue (2 * i) k) where
     abbrev u : ℕ
     u = getD queue i 0
+
+    abbrev first-target : ℕ
+    first-target = targetBySets sets loops headers u (getD firsts u 0)
+
+    abbrev second-target : ℕ
+    second-target = targetBySets sets loops headers u (getD seconds u 0)
 
     pub block-low : u < length loops
     block-low = K .queued .block i more
 
-    -- the first
-    abbrev v : ℕ
-    v = target u (getD firsts u 0)
-
-    there : v ≡ edgeTarget sets loops firsts seconds headers (edgeAt queue (2 * i))
+    there : first-target ≡ edgeTarget sets loops firsts seconds headers (edgeAt queue (2 * i))
     there = first-end sets loops firsts seconds headers u ∙ ap (edgeTarget sets loops firsts seconds headers) (even-edge queue i)
 
-    names : Names (length loops) v
-    names = end-names sets loops headers u (getD firsts u 0) (length loops) (L .first-names u block-low)
+    pub first-removable : Removable counts k first-target
+    first-removable = edge-removable counts queue (2 * i) k (omega arith) K first-target there
 
-    pub first-removable : Removable counts k v
-    first-removable = removable _ _ counts queue (L .few) (2 * i) k K (omega arith) v there names
-
-    module _ (counts' queue' : List ℕ) (k' : ℕ) (R : Removed counts queue k v counts' queue' k') where
+    module _ (counts' queue' : List ℕ) (k' : ℕ) (R : Removed counts queue k first-target counts' queue' k') where
       first-removed : State counts' queue' (2 * i + 1) k'
-      first-removed = taken-next _ _ counts queue (L .few) (2 * i) k K (omega arith) v there names counts' queue' k' R
+      first-removed = edge-removed counts queue (2 * i) k (omega arith) K first-target there counts' queue' k' R
 
-      -- and the second
-      more' : 2 * i + 1 < 2 * k'
-      more' = omega (arith, no-fewer counts queue k v counts' queue' k' R)
+      more-left : 2 * i + 1 < 2 * k'
+      more-left = omega (arith, no-fewer counts queue k first-target counts' queue' k' R)
 
-      abbrev v' : ℕ
-      v' = target u (getD seconds u 0)
-
-      there' : v' ≡ edgeTarget sets loops firsts seconds headers (edgeAt queue' (2 * i + 1))
-      there' =
+      there-too : second-target ≡ edgeTarget sets loops firsts seconds headers (edgeAt queue' (2 * i + 1))
+      there-too =
           second-end sets loops firsts seconds headers u
-          ∙ ap (edgeTarget sets loops firsts seconds headers) (ap (λ (x : ℕ). 2 * x + 1) (sym (kept counts queue k v counts' queue' k' R i more)) ∙ odd-edge queue' i)
+          ∙ ap (edgeTarget sets loops firsts seconds headers) (ap (λ (x : ℕ). 2 * x + 1) (sym (kept counts queue k first-target counts' queue' k' R i more)) ∙ odd-edge queue' i)
 
-      names' : Names (length loops) v'
-      names' = end-names sets loops headers u (getD seconds u 0) (length loops) (L .second-names u block-low)
+      pub second-removable : Removable counts' k' second-target
+      second-removable = edge-removable counts' queue' (2 * i + 1) k' more-left first-removed second-target there-too
 
-      pub second-removable : Removable counts' k' v'
-      second-removable = removable _ _ counts' queue' (L .few) (2 * i + 1) k' first-removed more' v' there' names'
-
-      pub both-removed : (counts'' queue'' : List ℕ) (k'' : ℕ) → Removed counts' queue' k' v' counts'' queue'' k'' → State counts'' queue'' (2 * (i + 1)) k''
+      pub both-removed : (counts'' queue'' : List ℕ) (k'' : ℕ) → Removed counts' queue' k' second-target counts'' queue'' k'' → State counts'' queue'' (2 * (i + 1)) k''
       both-removed counts'' queue'' k'' R' =
           let next : 2 * i + 1 + 1 ≡ 2 * (i + 1) = omega arith in
-          rw next at (taken-next _ _ counts' queue' (L .few) (2 * i + 1) k' first-removed more' v' there' names' counts'' queue'' k'' R')
+          rw next at (edge-removed counts' queue' (2 * i + 1) k' more-left first-removed second-target there-too counts'' queue'' k'' R')
