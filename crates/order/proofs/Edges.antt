@@ -39,9 +39,9 @@ module _ (sets loops headers : List ℕ) (u v : ℕ) where
   ends-there b = rw b
 
   -- which is a block, where there is one
-  end-names : (n : ℕ) → Names n v → Names n (targetBySets sets loops headers u v)
+  target-names : (n : ℕ) → Names n v → Names n (targetBySets sets loops headers u v)
   unfolding targetBySets
-  end-names n names = go (backBySets sets loops headers u v)
+  target-names n names = go (backBySets sets loops headers u v)
     where
       go : (b : Bool) → Names n (if b then missing else v)
       go true ne = absurd (ne refl)
@@ -60,15 +60,15 @@ module _ (sets loops firsts seconds headers : List ℕ) where
   abbrev ends : ℕ → ℕ
   ends = edgeTarget sets loops firsts seconds headers
 
-  pub first-end : (u : ℕ) → targetBySets sets loops headers u (getD firsts u 0) ≡ ends (2 * u)
+  pub first-edge : (u : ℕ) → targetBySets sets loops headers u (getD firsts u 0) ≡ ends (2 * u)
   unfolding edgeTarget
-  first-end u =
+  first-edge u =
       let half : (2 * u) / 2 ≡ u = omega arith in
       rw (even firsts seconds (2 * u) (omega arith), half)
 
-  pub second-end : (u : ℕ) → targetBySets sets loops headers u (getD seconds u 0) ≡ ends (2 * u + 1)
+  pub second-edge : (u : ℕ) → targetBySets sets loops headers u (getD seconds u 0) ≡ ends (2 * u + 1)
   unfolding edgeTarget
-  second-end u =
+  second-edge u =
       let half : (2 * u + 1) / 2 ≡ u = omega arith in
       rw (odd firsts seconds (2 * u + 1) (λ z. omega arith), half)
 
@@ -76,14 +76,14 @@ module _ (sets loops firsts seconds headers : List ℕ) where
 pub edge-names : (sets loops firsts seconds headers : List ℕ) (e : ℕ) → Linked (length loops) firsts seconds → e < 2 * length loops
     → Names (length loops) (edgeTarget sets loops firsts seconds headers e)
 unfolding edgeTarget
-edge-names sets loops firsts seconds headers e L b = end-names sets loops headers (e / 2) (successor firsts seconds e) (length loops) (named (ℕ-discrete (e % 2) 0))
+edge-names sets loops firsts seconds headers e L b = target-names sets loops headers (e / 2) (successor firsts seconds e) (length loops) (named (ℕ-discrete (e % 2) 0))
   where
     named : Dec (e % 2 ≡ 0) → Names (length loops) (successor firsts seconds e)
     named (yes z) = rw (even firsts seconds e z) (L .first-names (e / 2) (omega arith))
     named (no z) = rw (odd firsts seconds e z) (L .second-names (e / 2) (omega arith))
 
-abbrev pub endsOf : Routine → List ℕ → ℕ → ℕ
-endsOf t sets = edgeTarget sets (t .loops) (t .firsts) (t .seconds) (t .headers)
+abbrev pub targetsOf : Routine → List ℕ → ℕ → ℕ
+targetsOf t sets = edgeTarget sets (t .loops) (t .firsts) (t .seconds) (t .headers)
 
 -- ---- of tables in their ranges, with their sets
 
@@ -106,7 +106,7 @@ module _ (t : Routine) (sets : List ℕ) (R : Ranged t) (S : sets ≡ setsAround
       (either (ofEdge (first t u) (λ x. eqb x v)) (ofEdge (second t u) (λ x. eqb x v)) h)
 
   -- a forward edge has a number, at which the code finds its target
-  pub numbered : (u v : ℕ) → u < blockCount t → v < blockCount t → forwardEdge t u v ≡ true → (e : ℕ) × (e < 2 * blockCount t) × (e / 2 ≡ u) × (endsOf t sets e ≡ v)
+  pub numbered : (u v : ℕ) → u < blockCount t → v < blockCount t → forwardEdge t u v ≡ true → (e : ℕ) × (e < 2 * blockCount t) × (e / 2 ≡ u) × (targetsOf t sets e ≡ v)
   unfolding forwardEdge edgeTarget
   numbered u v b c h =
       let p = and-true (edge t u v) (not (backEdge t u v)) h in
@@ -120,7 +120,7 @@ module _ (t : Routine) (sets : List ℕ) (R : Ranged t) (S : sets ≡ setsAround
       )
 
   -- and the other way
-  pub leads : (e v : ℕ) → e < 2 * blockCount t → v < blockCount t → endsOf t sets e ≡ v → forwardEdge t (e / 2) v ≡ true
+  pub leads : (e v : ℕ) → e < 2 * blockCount t → v < blockCount t → targetsOf t sets e ≡ v → forwardEdge t (e / 2) v ≡ true
   unfolding forwardEdge edge edgeTarget targetBySets
   leads e v b c h = go (backBySets sets (t .loops) (t .headers) (e / 2) s) refl h
     where

@@ -23,7 +23,7 @@ use Rattle.nesting.specs.Columns.{Ranged}
 use Rattle.nesting.proofs.Stages.{headed}
 use Rattle.order.specs.Ordering.{StandsBefore, Ordering, Topological}
 use Rattle.order.specs.declared.Order.{Order}
-use Rattle.order.proofs.Edges.{endsOf, numbered, leads}
+use Rattle.order.proofs.Edges.{targetsOf, numbered, leads}
 use Rattle.order.proofs.Removal.{edgeAt, removed, waits, Taken}
 
 -- ---- all blocks in order leave no closed walk
@@ -49,14 +49,14 @@ module _ (t : Routine) (target : (u v : ℕ) → u < blockCount t → edge t u v
       once (i .0) (j .0) (i .1) (omega (arith, j .1)) (i .2 ∙ sym (j .2))
 
 module _ (t : Routine) (holds : AllHold (structureRules t)) (sets : List ℕ) (S : sets ≡ setsAround (t .parents)) (counts queue : List ℕ) (k : ℕ)
-    (removed-all : Taken (endsOf t sets) (length (t .loops)) counts queue (2 * k) k) where
+    (removed-all : Taken (targetsOf t sets) (length (t .loops)) counts queue (2 * k) k) where
   target : (u v : ℕ) → u < blockCount t → edge t u v ≡ true → v < blockCount t
   target = nested t holds .target
 
   ranged : Ranged t
   ranged = headed t holds .ranged
 
-  K : Taken (endsOf t sets) (blockCount t) counts queue (2 * k) k
+  K : Taken (targetsOf t sets) (blockCount t) counts queue (2 * k) k
   K = rw (ranged .sized .loops) at removed-all
 
   in-order : (u j : ℕ) → u < blockCount t → j < k → forwardEdge t u (getD queue j 0) ≡ true → StandsBefore queue j u
@@ -80,10 +80,10 @@ module _ (t : Routine) (holds : AllHold (structureRules t)) (sets : List ℕ) (S
   behind : (o : Left) → (p : Left) × (forwardEdge t (p .at) (o .at) ≡ true)
   unfolding removed
   behind o =
-      let s = some-counted (2 * blockCount t) (waits (endsOf t sets) queue (2 * k) (o .at)) (λ z. o .left (K .counted (o .at) (o .low) ∙ z)) in
-      let q = and-true (eqb (endsOf t sets (s .0)) (o .at)) (not (removed queue (2 * k) (s .0))) (s .2) in (
+      let s = some-counted (2 * blockCount t) (waits (targetsOf t sets) queue (2 * k) (o .at)) (λ z. o .left (K .counted (o .at) (o .low) ∙ z)) in
+      let q = and-true (eqb (targetsOf t sets (s .0)) (o .at)) (not (removed queue (2 * k) (s .0))) (s .2) in (
         record { at = s .0 / 2; low = omega (arith, s .1); left = waiting (s .0) (s .1) (not-true _ (q .1)) },
-        leads t sets ranged S (s .0) (o .at) (s .1) (o .low) (eqb-true (endsOf t sets (s .0)) (o .at) (q .0)),
+        leads t sets ranged S (s .0) (o .at) (s .1) (o .low) (eqb-true (targetsOf t sets (s .0)) (o .at) (q .0)),
       )
     where
       waiting : (e : ℕ) → e < 2 * blockCount t → removed queue (2 * k) e ≡ false → getD counts (e / 2) 0 ≡ 0 → ⊥

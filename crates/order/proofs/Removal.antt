@@ -17,7 +17,7 @@ use Rattle.lists.proofs.Search.{any-none, any-ext, some-at, count-ext, none-cou
 use Rattle.wcet.specs.Table.{missing}
 use Rattle.nesting.specs.Columns.{Names, Linked}
 use Rattle.order.specs.Edges.{targetBySets, edgeTarget, Counted, Queue, oneLess, lastTo, queueAfter, countAfter, Removable, Removed}
-use Rattle.order.proofs.Edges.{first-end, second-end, edge-names}
+use Rattle.order.proofs.Edges.{first-edge, second-edge, edge-names}
 use Rattle.order.proofs.Queues.{has-room, queue-lower, queue-take}
 
 -- the edge that is removed in step j: each block of the queue in two steps
@@ -248,7 +248,7 @@ module _ (sets loops firsts seconds headers : List ℕ) (L : Linked (length loop
     block-low = K .queued .block i more
 
     there : first-target ≡ edgeTarget sets loops firsts seconds headers (edgeAt queue (2 * i))
-    there = first-end sets loops firsts seconds headers u ∙ ap (edgeTarget sets loops firsts seconds headers) (even-edge queue i)
+    there = first-edge sets loops firsts seconds headers u ∙ ap (edgeTarget sets loops firsts seconds headers) (even-edge queue i)
 
     pub first-removable : Removable counts k first-target
     first-removable = edge-removable counts queue (2 * i) k (omega arith) K first-target there
@@ -262,7 +262,7 @@ module _ (sets loops firsts seconds headers : List ℕ) (L : Linked (length loop
 
       there-too : second-target ≡ edgeTarget sets loops firsts seconds headers (edgeAt queue' (2 * i + 1))
       there-too =
-          second-end sets loops firsts seconds headers u
+          second-edge sets loops firsts seconds headers u
           ∙ ap (edgeTarget sets loops firsts seconds headers) (ap (λ (x : ℕ). 2 * x + 1) (sym (kept counts queue k first-target counts' queue' k' R i more)) ∙ odd-edge queue' i)
 
       pub second-removable : Removable counts' k' second-target

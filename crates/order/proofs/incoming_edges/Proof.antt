@@ -3,7 +3,7 @@ use mathlib.Core.Path.{_≡_}
 use native.Mathlib.Omega.{arith}
 use lib.ListN.{length}
 use Rattle.order.specs.Edges.{edgeTarget, Counted}
-use Rattle.order.proofs.Edges.{first-end, second-end}
+use Rattle.order.proofs.Edges.{first-edge, second-edge}
 use Rattle.order.proofs.Incoming.{counted-none, edge-countable, edge-counted}
 use borrow.Author.Needs.{needs}
 use Rattle.order.proofs.incoming_edges.Statement.{statement}
@@ -24,7 +24,7 @@ once : (c : tie.After-count-edge Inv-loop μ-loop)
     Counted (edgeTarget (a .around .now) (a .loops .now) (a .first .now) (a .second .now) (a .header .now)) (length (a .loops .now)) (c .count-edge .last .0) (2 * c .before .before .before .before .loop .u + 1)
 once c =
     let loop = c .before .before .before .before .loop in
-    rw (c .count-edge .ensures) (edge-counted _ _ _ _ _ (c .before .before .before .before .before .before .before .before .before .pre .1) (loop .counts) (2 * loop .u) (omega arith) (loop .inv .1) _ (first-end _ _ _ _ _ (loop .u)))
+    rw (c .count-edge .ensures) (edge-counted _ _ _ _ _ (c .before .before .before .before .before .before .before .before .before .pre .1) (loop .counts) (2 * loop .u) (omega arith) (loop .inv .1) _ (first-edge _ _ _ _ _ (loop .u)))
 
 loop-holds : tie.Need-loop-holds Inv-loop μ-loop
 loop-holds c = (omega arith, counted-none _ _ (c .before .before .before .before .pre .1 .few))
@@ -39,7 +39,7 @@ count-edge-requires : tie.Need-count-edge-requires Inv-loop μ-loop
 count-edge-requires c κs =
     let loop = c .before .before .before .loop in
     let p = c .before .before .before .before .before .before .before .before .pre in
-    (p .0, omega arith, p .1 .first-names _ (omega arith), edge-countable _ _ _ _ _ (p .1) (loop .counts) (2 * loop .u) (omega arith) (loop .inv .1) _ (first-end _ _ _ _ _ (loop .u)))
+    (p .0, omega arith, p .1 .first-names _ (omega arith), edge-countable _ _ _ _ _ (p .1) (loop .counts) (2 * loop .u) (omega arith) (loop .inv .1) _ (first-edge _ _ _ _ _ (loop .u)))
 
 mul-count-edge-2 : tie.Need-mul-count-edge-2 Inv-loop μ-loop
 mul-count-edge-2 c = search needs
@@ -51,7 +51,7 @@ count-edge-requires-2 : tie.Need-count-edge-requires-2 Inv-loop μ-loop
 count-edge-requires-2 c κs =
     let u = c .before .before .before .before .before .before .loop .u in
     let p = c .before .before .before .before .before .before .before .before .before .before .before .pre in
-    (p .0, omega arith, p .1 .second-names _ (omega arith), edge-countable _ _ _ _ _ (p .1) _ (2 * u + 1) (omega arith) (once (c .before .before)) _ (second-end _ _ _ _ _ u))
+    (p .0, omega arith, p .1 .second-names _ (omega arith), edge-countable _ _ _ _ _ (p .1) _ (2 * u + 1) (omega arith) (once (c .before .before)) _ (second-edge _ _ _ _ _ u))
 
 add-u : tie.Need-add-u Inv-loop μ-loop
 add-u c = search needs
@@ -63,7 +63,7 @@ loop-again : tie.Need-loop-again Inv-loop μ-loop
 loop-again c =
     let u = c .before .before .before .before .before .before .before .loop .u in
     let next : 2 * u + 1 + 1 ≡ 2 * (u + 1) = omega arith in
-    (omega arith, rw (c .count-edge2 .ensures, ← next) (edge-counted _ _ _ _ _ (c .before .before .before .before .before .before .before .before .before .before .before .before .pre .1) _ (2 * u + 1) (omega arith) (once (c .before .before .before)) _ (second-end _ _ _ _ _ u)))
+    (omega arith, rw (c .count-edge2 .ensures, ← next) (edge-counted _ _ _ _ _ (c .before .before .before .before .before .before .before .before .before .before .before .before .pre .1) _ (2 * u + 1) (omega arith) (once (c .before .before .before)) _ (second-edge _ _ _ _ _ u)))
 
 returns : tie.Need-returns Inv-loop μ-loop
 returns c =
