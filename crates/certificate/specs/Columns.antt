@@ -53,13 +53,13 @@ brokenBySets sets t u v =
 abbrev pub anyBrokenBySets : (sets firsts seconds : List ℕ) (t : Routine) → ℕ → Bool
 anyBrokenBySets sets firsts seconds t u = someEdge (edgeColumns [] firsts seconds) u (brokenBySets sets t u)
 
--- x is the reply to every pair of tables with these eight columns, where it passes 201 to 207 and the sets are its own
+-- x is the reply to every pair of tables with these eight columns, if it passes 201 to 207 and the sets are those of its parents
 abbrev pub Certified : (sets costs loops firsts seconds : List ℕ) (figures : List ℤ) (headers limits multipliers : List ℕ) → Reply ℤ → Type 0
 Certified sets costs loops firsts seconds figures headers limits multipliers x =
     (parents : List ℕ) → AllHold (structureRules (routine costs loops firsts seconds figures parents headers limits multipliers)) → sets ≡ setsAround parents
     → x ≡ tableReply (routine costs loops firsts seconds figures parents headers limits multipliers)
 
--- and where the structure check gave this answer and these sets
+-- x is the reply to every pair of tables with these eight columns of which the structure check gives this answer and these sets
 abbrev pub RepliedAfter : Structured → (costs loops firsts seconds : List ℕ) (figures : List ℤ) (headers limits multipliers : List ℕ) → Reply ℤ → Type 0
 RepliedAfter checked costs loops firsts seconds figures headers limits multipliers x =
     (parents : List ℕ) → StructureChecked (routine costs loops firsts seconds figures parents headers limits multipliers) checked
