@@ -109,17 +109,17 @@ module _ (t : Routine) (holds : AllHold (structureRules t)) (sets : List ℕ) (S
   chain o zero = o
   chain o (suc i) = behind (chain o i) .0
 
-  descends : (o : Left) (i j : ℕ) → i < j → reaches t (blockCount t) (chain o j .at) (chain o i .at) ≡ true
+  descends : (o : Left) (i j : ℕ) → i < j → reaches (forwardEdge t) (blockCount t) (chain o j .at) (chain o i .at) ≡ true
   unfolding chain
   descends o i zero h = absurd (omega arith)
   descends o i (suc j) h = go (ℕ-discrete i j) (descends o i j)
     where
-      one : reaches t (blockCount t) (behind (chain o j) .0 .at) (chain o j .at) ≡ true
-      one = reaches-one t (blockCount t) (behind (chain o j) .0 .at) (chain o j .at) (behind (chain o j) .1)
+      one : reaches (forwardEdge t) (blockCount t) (behind (chain o j) .0 .at) (chain o j .at) ≡ true
+      one = reaches-one (forwardEdge t) (blockCount t) (behind (chain o j) .0 .at) (chain o j .at) (behind (chain o j) .1)
 
-      go : Dec (i ≡ j) → (i < j → reaches t (blockCount t) (chain o j .at) (chain o i .at) ≡ true) → reaches t (blockCount t) (behind (chain o j) .0 .at) (chain o i .at) ≡ true
+      go : Dec (i ≡ j) → (i < j → reaches (forwardEdge t) (blockCount t) (chain o j .at) (chain o i .at) ≡ true) → reaches (forwardEdge t) (blockCount t) (behind (chain o j) .0 .at) (chain o i .at) ≡ true
       go (yes e) rest = rw e one
-      go (no ne) rest = reaches-by t (blockCount t) (behind (chain o j) .0 .at) (chain o i .at) (chain o j .at) (chain o j .low) one (rest (omega (arith, ne)))
+      go (no ne) rest = reaches-by (forwardEdge t) (blockCount t) (behind (chain o j) .0 .at) (chain o i .at) (chain o j .at) (chain o j .low) one (rest (omega (arith, ne)))
 
   closed-walk : k < blockCount t → ClosedWalk t
   closed-walk few =
@@ -127,7 +127,7 @@ module _ (t : Routine) (holds : AllHold (structureRules t)) (sets : List ℕ) (S
       let p = pigeonhole (blockCount t) (λ i. chain o i .at) (λ i h. chain o i .low) in
       closed-exactly t target .0
       (reached t (chain o (p .0) .at) (chain o (p .0) .low)
-      (subst (λ (x : ℕ). reaches t (blockCount t) x (chain o (p .0) .at) ≡ true) (sym (p .4)) (descends o (p .0) (p .1) (p .2))))
+      (subst (λ (x : ℕ). reaches (forwardEdge t) (blockCount t) x (chain o (p .0) .at) ≡ true) (sym (p .4)) (descends o (p .0) (p .1) (p .2))))
 
   pub ordering : Ordering t (record { blocks = queue; count = k })
   ordering = record {

@@ -32,7 +32,7 @@ abbrev certificate : Routine → Certificate
 certificate t = record { figure = figure t; multiplier = multiplier t; visits = limit t }
 
 -- what is left within a limit is not negative
-remaining-left : (k b c : ℕ) → c ≤ b → pos 0 ≤ℤ remaining k b c
+pub remaining-left : (k b c : ℕ) → c ≤ b → pos 0 ≤ℤ remaining k b c
 remaining-left k b c h = omega (ints, times k (pos b -ℤ pos c), mul-le-mul-left k less)
   where
     less : dn (pos b -ℤ pos c) ≤ up (pos b -ℤ pos c)

@@ -2,6 +2,7 @@
 use mathlib.Core.Path.{_≡_, refl}
 use mathlib.Core.Bool.{Bool, true, false, not, _&&_, _||_, false≢true}
 use Prim.Native.Nat.{ℕ, _≤_, _<_}
+use native.Mathlib.Decide.{ℕ-discrete}
 use native.Mathlib.Omega.{arith}
 use lib.Dec.{eqb, ltb}
 use borrow.Author.Tests.{eqb-true, eqb-false, ltb-true, ltb-false, not-false, ne-eqb}
@@ -37,12 +38,15 @@ pub record Nested (t : Routine) : Type 0 where
   pub loop0-limit : limit t 0 ≡ 1
   pub loop0-multiplier : multiplier t 0 ≡ 0
   pub parent-below : (l : ℕ) → 0 < l → l < loopCount t → parent t l < l
+  pub header-block : (l : ℕ) → l < loopCount t → header t l < blockCount t
+  pub limit-least : (l : ℕ) → l < loopCount t → 1 ≤ limit t l
   -- 203
   pub innermost : (u : ℕ) → u < blockCount t → loopOf t u < loopCount t
   pub target : (u v : ℕ) → u < blockCount t → edge t u v ≡ true → v < blockCount t
   -- 204
   pub own : (l : ℕ) → l < loopCount t → loopOf t (header t l) ≡ l
   -- 206
+  pub entry-starts : (u : ℕ) → u < blockCount t → edge t u 0 ≡ true → ⊥
   pub exit-ends : (v : ℕ) → edge t (exit t) v ≡ true → ⊥
   -- 207
   pub at-header : (u v l : ℕ) → u < blockCount t → edge t u v ≡ true → l < loopCount t → inside t v l ≡ true → inside t u l ≡ false → header t l ≡ v
@@ -56,10 +60,13 @@ nested t h = record {
   loop0-header = eqb-true (header t 0) 0 (and-true (eqb (parent t 0) 0) _ (loop0 .0) .1);
   loop0-limit = eqb-true (limit t 0) 1 (loop0 .1);
   loop0-multiplier = eqb-true (multiplier t 0) 0 (all0 .1);
-  parent-below = λ l z b. ltb-true (parent t l) l (not-false _ (or-false _ _ (or-false _ _ (or-false _ _ (rw (ne-eqb l 0 (λ e. omega arith)) at (h .1 .0 l b)) .0) .0) .0));
+  parent-below = λ l z b. ltb-true (parent t l) l (not-false _ (or-false _ _ (ranges l b (λ e. omega arith) .0) .0));
+  header-block = λ l b. header-at l b (ℕ-discrete l 0);
+  limit-least = λ l b. limit-at l b (ℕ-discrete l 0);
   innermost = λ u b. ltb-true (loopOf t u) (loopCount t) (not-false _ (or-false (ltb 1000000 (cost t u)) _ (block u b .0) .1));
   target = λ u v b e. ltb-true v (blockCount t) (not-false _ (no-edge t u v (λ x. not (ltb x (blockCount t))) (block u b .1) e));
   own = λ l b. eqb-true (loopOf t (header t l)) l (not-false _ (h .1 .1 .1 .0 l b));
+  entry-starts = λ u b e. eqb-false 0 0 (or-false (eqb 0 0) (eqb u (exit t)) (no-edge t u 0 (λ x. eqb x 0 || eqb u (exit t)) (h .1 .1 .1 .1 .1 .0 u b) e) .0) refl;
   exit-ends = λ v e. eqb-false (exit t) (exit t) (or-false (eqb v 0) _ (no-edge t (exit t) v (λ x. eqb x 0 || eqb (exit t) (exit t)) (h .1 .1 .1 .1 .1 .0 (exit t) (omega (arith, blocks))) e) .1) refl;
   at-header = λ u v l b e k iv iu. eqb-true (header t l) v (not-false _ (rw (iv, iu) at (none-of (loopCount t) _ (no-edge t u v (pastHeader t u) (h .1 .1 .1 .1 .1 .1 .0 u b) e) l k)));
 }
@@ -78,6 +85,18 @@ nested t h = record {
 
     loop0 : ((eqb (parent t 0) 0 && eqb (header t 0) 0) ≡ true) × (eqb (limit t 0) 1 ≡ true)
     loop0 = and-true _ _ (all0 .0)
+
+    ranges : (l : ℕ) → l < loopCount t → (l ≡ 0 → ⊥)
+        → ((not (ltb (parent t l) l) || not (ltb (header t l) (blockCount t))) ≡ false) × (outOfRange 1 65535 (limit t l) ≡ false)
+    ranges l b ne = or-false _ _ (or-false _ _ (rw (ne-eqb l 0 ne) at (h .1 .0 l b)) .0)
+
+    header-at : (l : ℕ) → l < loopCount t → Dec (l ≡ 0) → header t l < blockCount t
+    header-at l b (yes z) = rw (z, eqb-true (header t 0) 0 (and-true (eqb (parent t 0) 0) _ (loop0 .0) .1)) (omega (arith, blocks))
+    header-at l b (no ne) = ltb-true (header t l) (blockCount t) (not-false _ (or-false (not (ltb (parent t l) l)) _ (ranges l b ne .0) .1))
+
+    limit-at : (l : ℕ) → l < loopCount t → Dec (l ≡ 0) → 1 ≤ limit t l
+    limit-at l b (yes z) = rw (z, eqb-true (limit t 0) 1 (loop0 .1)) (omega arith)
+    limit-at l b (no ne) = ltb-false (limit t l) 1 (or-false _ _ (ranges l b ne .1) .0)
 
     block : (u : ℕ) → u < blockCount t → ((ltb 1000000 (cost t u) || not (ltb (loopOf t u) (loopCount t))) ≡ false) × (someEdge t u (λ v. not (ltb v (blockCount t))) ≡ false)
     block u b = or-false _ _ (or-false _ _ (h .1 .1 .0 u b) .0)

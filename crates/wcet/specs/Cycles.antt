@@ -27,13 +27,13 @@ pub record ClosedWalk (t : Routine) : Type 0 where
   pub block : start < blockCount t
   pub closed : forwardPath t start (between ++ start ∷ []) ≡ true
 
--- The same as a test that computes (Warshall's recursion). From u to v leads a walk of one forward edge or more, and all blocks between are
--- below k. For k + 1: a walk that avoids block k, or one from u to k and one from k to v.
-unfoldable pub reaches : Routine → ℕ → ℕ → ℕ → Bool
-reaches t zero u v = forwardEdge t u v
-reaches t (suc k) u v = reaches t k u v || (reaches t k u k && reaches t k k v)
+-- Walks as a test that computes (Warshall's recursion), by any kind of edge. From u to v leads a walk of one edge or more, and all blocks
+-- between are below k. For k + 1: a walk that avoids block k, or one from u to k and one from k to v.
+unfoldable pub reaches : (leads : ℕ → ℕ → Bool) → ℕ → ℕ → ℕ → Bool
+reaches leads zero u v = leads u v
+reaches leads (suc k) u v = reaches leads k u v || (reaches leads k u k && reaches leads k k v)
 
 -- 209: "a table is refused if it has a closed walk of one edge or more, none of which returns to a header from inside that header's loop":
--- some block reaches itself. Of tables that pass 201 to 207 the test holds exactly where there is a `ClosedWalk`: see `RepliesExactly`.
+-- by forward edges some block reaches itself. Of tables that pass 201 to 207 the test holds exactly where there is a `ClosedWalk`: see `RepliesExactly`.
 unfoldable pub undeclaredLoop : Routine → Bool
-undeclaredLoop t = anyBelow (blockCount t) (λ u. reaches t (blockCount t) u u)
+undeclaredLoop t = anyBelow (blockCount t) (λ u. reaches (forwardEdge t) (blockCount t) u u)
