@@ -60,7 +60,7 @@ snoc-assoc (x ∷ q) w v = ap (λ (s : List ℕ). x ∷ s) (snoc-assoc q w v)
 
 module _ (t : Routine) (N : Nested t) where
   -- a header is inside its own loop (204)
-  header-inside : (l : ℕ) → l < loopCount t → inside t (header t l) l ≡ true
+  pub header-inside : (l : ℕ) → l < loopCount t → inside t (header t l) l ≡ true
   header-inside l b = rw (N .own l b) at (inside-own t (header t l))
 
   module _ (l : ℕ) (below : l < loopCount t) where
