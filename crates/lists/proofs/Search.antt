@@ -12,7 +12,7 @@ use lib.Dec.{eqb}
 use lib.ListN.{length, getD}
 use borrow.Author.Tests.{eq-eqb, ne-eqb}
 use Rattle.lists.specs.Search.{if_then_else_, anyBelow, countBelow, orElse, firstBelow, tabulate}
-use Rattle.lists.proofs.Tests.{or-false, neither, either}
+use Rattle.lists.proofs.Tests.{or-false, neither, both, either}
 
 -- ---- one number more
 
@@ -189,6 +189,24 @@ count-remove (suc k) h p l e = go (ℕ-discrete h k) (λ b. count-remove k h p b
         rw (← q, e, eq-eqb h h refl) (let s : countBelow h (λ i. p i && not (eqb i h)) ≡ countBelow h p = rw (← q) at same in omega arith)
     go (no ne) rest =
         rw (ne-eqb k h (λ z. ne (sym z)), and-true (p k)) (let r = rest (omega arith) in omega arith)
+
+-- a test that passes wherever another does counts no less, and where it passes once more it counts more
+pub count-mono : (k : ℕ) (p q : ℕ → Bool) → ((i : ℕ) → i < k → p i ≡ true → q i ≡ true) → countBelow k p ≤ countBelow k q
+unfolding countBelow
+count-mono zero p q h = omega arith
+count-mono (suc k) p q h = go (p k) (q k) (h k (omega arith)) (count-mono k p q (λ i l. h i (omega arith)))
+  where
+    go : (a b : Bool) → (a ≡ true → b ≡ true) → countBelow k p ≤ countBelow k q → countBelow k p + (if a then 1 else 0) ≤ countBelow k q + (if b then 1 else 0)
+    go true true e r = omega arith
+    go true false e r = absurd (false≢true (e refl))
+    go false true e r = omega arith
+    go false false e r = omega arith
+
+pub count-more : (k : ℕ) (p q : ℕ → Bool) → ((i : ℕ) → i < k → p i ≡ true → q i ≡ true) → (j : ℕ) → j < k → p j ≡ false → q j ≡ true
+    → countBelow k p < countBelow k q
+count-more k p q h j b fails passes =
+    rw (count-remove k j q b passes)
+    (let r = count-mono k p (λ i. q i && not (eqb i j)) (λ i l e. both (h i l e) (rw (ne-eqb i j (λ z. false≢true (sym fails ∙ ap p (sym z) ∙ e))))) in omega arith)
 
 -- ---- tabulate
 

@@ -2,6 +2,8 @@
 pub mod Local
 pub mod Structure
 pub mod Tails
--- Other columns in the same routine; tails in steps and in words.
+-- Other columns in the same routine; tails in steps and in words; the multipliers.
 pub mod Columns
 pub mod Words
+pub mod Ranks
+pub mod Multipliers

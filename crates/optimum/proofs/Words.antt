@@ -1,4 +1,4 @@
--- Tails that can be computed. Followed for as many edges as the ranks allow they keep the equations (`tails-step`): a block's tail reads
+-- Tails that can be computed. Followed for as many edges as the ranks allow they keep the equations (`enough-steps`): a block's tail reads
 -- only those of the blocks that its forward edges lead to. Those of loop l read the multipliers of the loops inside l only, and not l's own
 -- (`tails-inner`), so that the multipliers can be made from the highest loop down, or from the innermost loops out. And a cap on each number
 -- keeps the equations too (`capped`): what is below the cap is exact (`below-cap`). Assumes nothing.
@@ -104,9 +104,9 @@ module _ (t : Routine) (N : Nested t) (l : ℕ) where
         tail-same t fs ks l x (tailBy t d l) (tailBy (withColumns t fs ks) d l) (λ v. weight-inner x v b i)
         (λ v e j r. tails-inner d v (N .target x v b e) j)
 
-pub tails-step : (t : Routine) → Nested t → (K : Ranked t) (n : ℕ) → ((x : ℕ) → x < blockCount t → K .rank x < n) → Tailed t (tailBy t n)
+pub enough-steps : (t : Routine) → Nested t → (K : Ranked t) (n : ℕ) → ((x : ℕ) → x < blockCount t → K .rank x < n) → Tailed t (tailBy t n)
 unfolding tailBy
-tails-step t N K n h l x m b i = steps-same t N l K n (suc n) x (h x b) (omega (arith, h x b)) b
+enough-steps t N K n h l x m b i = steps-same t N l K n (suc n) x (h x b) (omega (arith, h x b)) b
 
 -- ---- under a cap
 
