@@ -7,3 +7,10 @@ pub mod Columns
 pub mod Words
 pub mod Ranks
 pub mod Multipliers
+-- Figures that come from tails keep the inequalities and are the smallest; how they are filled in loop by loop.
+pub mod Figures
+pub mod Filled
+-- 401: lists of blocks after one another, paths to the exit, and the blocks that get a figure.
+pub mod Joined
+pub mod Paths
+pub mod Exits
