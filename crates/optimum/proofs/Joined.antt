@@ -1,4 +1,4 @@
--- Lists of blocks behind one another: where the second starts, and what holds of both. Assumes nothing.
+-- Lists of blocks after one another: where the second starts, and what holds of both. Assumes nothing.
 use mathlib.Core.Path.{_≡_, refl, sym}
 use mathlib.Core.Bool.{Bool, true, false, not}
 use mathlib.Core.List.{List, [], _∷_, _++_}

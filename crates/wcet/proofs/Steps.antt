@@ -15,9 +15,9 @@ use Rattle.wcet.proofs.Limits.{WithinLimits}
 use Rattle.wcet.proofs.Around.{header-of}
 
 -- a loop whose header is not visited keeps its count or loses it
-kept : (t : Routine) (s : State) (v l : ℕ) → (header t l ≡ v → ⊥) → {b : ℕ} → s .count l ≤ b → next t s v .count l ≤ b
+pub kept-count : (t : Routine) (s : State) (v l : ℕ) → (header t l ≡ v → ⊥) → {b : ℕ} → s .count l ≤ b → next t s v .count l ≤ b
 unfolding next nextCount
-kept t s v l ne {b} h = rw (ne-eqb (header t l) v ne) (go (inside t (s .block) l && not (inside t v l)))
+kept-count t s v l ne {b} h = rw (ne-eqb (header t l) v ne) (go (inside t (s .block) l && not (inside t v l)))
   where
     go : (x : Bool) → (if x then 0 else s .count l) ≤ b
     go true = omega arith
@@ -35,7 +35,7 @@ limit-at-header t N s v b W e = go (isHeader t v) refl (passes h) refl
     passes l = ltb (limit t l) (next t s v .count l)
 
     others : (l : ℕ) → l < loopCount t → (header t l ≡ v → ⊥) → passes l ≡ false
-    others l k ne = le-ltb (limit t l) (next t s v .count l) (kept t s v l ne (W l k))
+    others l k ne = le-ltb (limit t l) (next t s v .count l) (kept-count t s v l ne (W l k))
 
     go : (i : Bool) → isHeader t v ≡ i → (p : Bool) → passes h ≡ p → anyBelow (loopCount t) passes ≡ (i && p)
     go true i true p = any-at (loopCount t) passes h (N .innermost v (N .target (s .block) v b e)) p

@@ -1,0 +1,93 @@
+-- Columns that are made locally are optimal (`optimal`): the multipliers are the greatest rounds' costs, the figures are the smallest, and
+-- some finished counted run costs the bound. The table is accepted with its bound (`accepted-made`), no accepted certificate of the same
+-- routine gives less (`no-less`), and no other columns are optimal (`same-multipliers`, `same-figures`). Assumes nothing.
+use mathlib.Core.Path.{_≡_, refl, sym, _∙_}
+use mathlib.Core.Bool.{false, not}
+use mathlib.Core.List.{List, [], _∷_, _++_}
+use mathlib.Core.Logic.{inl, inr}
+use Prim.Native.Nat.{ℕ, _≤_, _<_}
+use native.Mathlib.Decide.{ℕ-discrete}
+use native.Mathlib.Omega.{arith}
+use lib.IntN.{ℤ, pos}
+use lib.ListN.{getD}
+use lib.Signed.{_≤ℤ_}
+use Rattle.integers.proofs.Laws.{ints}
+use Rattle.wcet.specs.Table.{Routine, blockCount, loopCount, loopOf, figure, header, multiplier, someEdge, edge, inside}
+use Rattle.wcet.specs.Rules.{accepted, edgeHolds, inequalityBroken, structureRules, inequalityRule, undeclaredRule, tableRules, bound, tableReply}
+use Rattle.wcet.specs.Cycles.{undeclaredLoop}
+use Rattle.wcet.specs.Claim.{AllHold}
+use Rattle.wcet.proofs.Replies.{append-all, replies-exactly}
+use Rattle.wcet.proofs.Bound.{finished-bounded}
+use Rattle.wcet.proofs.Nesting.{Nested, nested}
+use Rattle.optimum.specs.Rounds.{GreatestRound}
+use Rattle.optimum.specs.Remade.{withColumns, Optimal}
+use Rattle.optimum.proofs.Local.{LocallyMade, Ranked}
+use Rattle.optimum.proofs.Structure.{no-edge-at, target-loop}
+use Rattle.optimum.proofs.Figures.{feasible, smallest}
+use Rattle.optimum.proofs.Rounds.{greatest-round}
+use Rattle.optimum.proofs.Attained.{round-attained, run-made}
+use Rattle.optimum.proofs.Columns.{same-cost, same-run, same-round, nested-too}
+
+pub optimal : (t : Routine) → Nested t → LocallyMade t → Ranked t → Optimal t
+optimal t N L K = record {
+  rounds = λ l z m. greatest-round t N L l z m (λ k e. round-attained t N L K l k z m e);
+  figures = smallest t N L K;
+  run = run-made t N L K;
+}
+
+-- "The result must be accepted, the reply is its bound"
+pub accepted-made : (t : Routine) → AllHold (structureRules t) → undeclaredLoop t ≡ false → LocallyMade t → tableReply t ≡ accepted (bound t)
+unfolding tableRules inequalityBroken
+accepted-made t h declared L =
+    replies-exactly t .accepts (bound t) .1 (
+      append-all (structureRules t) (inequalityRule t ∷ undeclaredRule t ∷ []) h (
+        λ u b. no-edge-at t u (λ v. not (edgeHolds t u v)) (λ v e. rw (feasible t (nested t h) L .holds u v b e)),
+        (λ p b. declared, tt),
+      ),
+      refl,
+    )
+
+module _ (t : Routine) (fs : List ℤ) (ks : List ℕ) where
+  abbrev t′ : Routine
+  t′ = withColumns t fs ks
+
+  -- "so no certificate gives less"
+  pub no-less : Optimal t → (b : ℤ) → tableReply t′ ≡ accepted b → bound t ≤ℤ b
+  no-less M b e =
+      let w : List ℕ = M .run .0 in
+      rw (← M .run .2, ← same-cost t fs ks w) (finished-bounded t′ b e w (record { counted = same-run t fs ks w ∙ M .run .1 .counted; at-exit = M .run .1 .at-exit }))
+
+  -- greatest rounds, and with the same multipliers smallest figures, are no greater in the one than in the other
+  rounds-le : (l a b : ℕ) → GreatestRound t l a → GreatestRound t′ l b → a ≤ b
+  rounds-le l a b G G′ = elim (G .attained) [
+    | inl p ↦ omega (arith, G′ .most (p .0) (same-round t fs ks l (p .0) (p .1)), same-cost t fs ks (p .0 ++ header t l ∷ []), p .2)
+    | inr p ↦ omega (arith, p .0)
+  ]
+
+  figures-le : Nested t → ((l : ℕ) → l < loopCount t → multiplier t l ≡ multiplier t′ l) → Optimal t → Optimal t′
+      → (u : ℕ) → u < blockCount t → figure t u ≤ℤ figure t′ u
+  unfolding edge someEdge edgeHolds inside
+  figures-le N e M M′ =
+      M .figures .smallest fs (record {
+        holds = λ u v b d. rw (e (loopOf t v) (target-loop t N u v b d)) (M′ .figures .feasible .holds u v b d);
+        at-exit = M′ .figures .feasible .at-exit;
+      })
+
+-- no other columns are so made
+module _ (t : Routine) (N : Nested t) (fs : List ℤ) (ks : List ℕ) (loop0 : getD ks 0 0 ≡ 0) (M : Optimal t) (M′ : Optimal (withColumns t fs ks)) where
+  pub same-multipliers : (l : ℕ) → l < loopCount t → multiplier t l ≡ getD ks l 0
+  same-multipliers l m = go (ℕ-discrete l 0)
+    where
+      go : Dec (l ≡ 0) → multiplier t l ≡ getD ks l 0
+      go (yes z) = rw z (N .loop0-multiplier ∙ sym loop0)
+      go (no ne) =
+          let G : GreatestRound t l (multiplier t l) = M .rounds l (omega arith) m in
+          let G′ : GreatestRound (withColumns t fs ks) l (getD ks l 0) = M′ .rounds l (omega arith) m in
+          omega (arith, rounds-le t fs ks l (multiplier t l) (getD ks l 0) G G′, rounds-le (withColumns t fs ks) (t .figures) (t .multipliers) l (getD ks l 0) (multiplier t l) G′ G)
+
+  pub same-figures : (u : ℕ) → u < blockCount t → figure t u ≡ getD fs u (pos 0)
+  same-figures u b =
+      let p : figure t u ≤ℤ getD fs u (pos 0) = figures-le t fs ks N same-multipliers M M′ u b in
+      let q : getD fs u (pos 0) ≤ℤ figure t u
+      = figures-le (withColumns t fs ks) (t .figures) (t .multipliers) (nested-too t fs ks N loop0) (λ l m. sym (same-multipliers l m)) M′ M u b in
+      omega (ints, p, q)
