@@ -216,6 +216,11 @@ tabulate-at zero f d i h = absurd (omega arith)
 tabulate-at (suc k) f d zero h = refl
 tabulate-at (suc k) f d (suc i) h = tabulate-at k (λ j. f (suc j)) d i (omega arith)
 
+pub tabulate-length {ℓ} : {A : Type ℓ} (k : ℕ) (f : ℕ → A) → length (tabulate k f) ≡ k
+unfolding tabulate
+tabulate-length zero f = refl
+tabulate-length (suc k) f = ap suc (tabulate-length k (λ i. f (suc i)))
+
 -- a list of k entries that f gives is the list of f
 pub tabulated {ℓ} : {A : Type ℓ} (xs : List A) (k : ℕ) (f : ℕ → A) (d : A) → length xs ≡ k → ((i : ℕ) → i < k → getD xs i d ≡ f i) → xs ≡ tabulate k f
 unfolding tabulate

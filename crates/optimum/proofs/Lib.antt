@@ -20,3 +20,5 @@ pub mod Rounds
 pub mod Stretch
 pub mod Attained
 pub mod Optimal
+-- The remade columns: optimal, the only ones, accepted.
+pub mod Remade

@@ -101,9 +101,23 @@ broken-refuses rs passed n p b =
     ∙ decides (b .rule) (b .later) passed p (record { below = b .there; passes = b .breaks; lower = b .lowest })
     ∙ ap (λ (k : ℕ). refused k p) (b .named))
 
+-- the rules in the words of `RepliesExactly`, where a list that none breaks is accepted with a
+module _ {A : Type 0} (rs : List Rule) (a : A) where
+  pub accepted-exactly : (b : A) → (check rs (accepted a) ≡ accepted b) ↔ (AllHold rs × (a ≡ b))
+  accepted-exactly b = (
+    λ e. let q : AllHold rs × (accepted a ≡ accepted b) = passes rs (accepted a) b e in (q .0, cc (q .1)),
+    λ h. all-pass rs (accepted a) (h .0) ∙ ap accepted (h .1),
+  )
+
+  pub refused-exactly : (n p : ℕ) → (check rs (accepted a) ≡ refused n p) ↔ FirstBroken rs n p
+  refused-exactly n p = (
+    λ e. ⊎-elim (λ b. b) (λ q. absurd (let z : _≡_ {A = ℕ} 0 1 = cc in omega arith)) (first-broken rs (accepted a) n p e),
+    broken-refuses rs (accepted a) n p,
+  )
+
 -- a refusal stands whatever rules follow
 pub refused-append : {A B : Type 0} (rs qs : List Rule) (a : A) (passed : Reply B) (n p : ℕ) → check rs (accepted a) ≡ refused n p → check (rs ++ qs) passed ≡ refused n p
-refused-append rs qs a passed n p e = ⊎-elim (λ b. go b) (λ q. absurd (let z : _≡_ {A = ℕ} 0 1 = cc in omega arith)) (first-broken rs (accepted a) n p e)
+refused-append rs qs a passed n p e = go (refused-exactly rs a n p .0 e)
   where
     go : FirstBroken rs n p → check (rs ++ qs) passed ≡ refused n p
     go b = broken-refuses (rs ++ qs) passed n p (record {
@@ -166,14 +180,8 @@ undeclared-exactly t p = (
 pub replies-exactly : (t : Routine) → RepliesExactly t
 unfolding tableReply
 replies-exactly t = record {
-  accepts = λ b. (
-    λ e. let q : AllHold (tableRules t) × (accepted (bound t) ≡ accepted b) = passes (tableRules t) (accepted (bound t)) b e in (q .0, cc (q .1)),
-    λ h. all-pass (tableRules t) (accepted (bound t)) (h .0) ∙ ap accepted (h .1),
-  );
-  refuses = λ n p. (
-    λ e. ⊎-elim (λ b. b) (λ q. absurd (let z : _≡_ {A = ℕ} 0 1 = cc in omega arith)) (first-broken (tableRules t) (accepted (bound t)) n p e),
-    broken-refuses (tableRules t) (accepted (bound t)) n p,
-  );
+  accepts = accepted-exactly (tableRules t) (bound t);
+  refuses = refused-exactly (tableRules t) (bound t);
   closed = λ h. closed-exactly t (nested t h .target);
   undeclared = undeclared-exactly t;
 }
