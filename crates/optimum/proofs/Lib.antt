@@ -22,3 +22,6 @@ pub mod Attained
 pub mod Optimal
 -- The remade columns: optimal, the only ones, accepted.
 pub mod Remade
+-- The solver's reply, and routine A.
+pub mod Replies
+pub mod Cases
