@@ -7,13 +7,12 @@ use native.Mathlib.Omega.{arith}
 use lib.Dec.{eqb}
 use borrow.Author.Tests.{eqb-false}
 use lib.ListN.{length, getD}
-use lib.Seq.{take-length}
 use Rattle.lists.specs.Search.{if_then_else_}
 use Rattle.lists.proofs.Tests.{and-true, both}
-use Rattle.wcet.specs.Table.{Routine, edge, inside}
+use Rattle.wcet.specs.Table.{Routine, edge}
 use Rattle.wcet.specs.Run.{path, runCost, State, next, after, passesLimit, keepsLimits}
-use Rattle.wcet.specs.Stays.{allInside, visits}
-use Rattle.wcet.proofs.Limits.{WithinLimits, kept-limits, keeps-each}
+use Rattle.wcet.specs.Stays.{visits}
+use Rattle.wcet.proofs.Limits.{WithinLimits, kept-limits}
 
 -- the last block of x ∷ w
 unfoldable pub end : ℕ → List ℕ → ℕ
@@ -32,11 +31,6 @@ end-at (v ∷ w) x = end-at w v
 
 pub end-last : (w : List ℕ) (x : ℕ) → getD (x ∷ w) (length (x ∷ w) - 1) 0 ≡ end x w
 end-last w x = let k : length (x ∷ w) - 1 ≡ length w = omega arith in rw k (end-at w x)
-
-pub visits-joined : (h : ℕ) (a b : List ℕ) → visits h (a ++ b) ≡ visits h a + visits h b
-unfolding visits
-visits-joined h [] b = omega arith
-visits-joined h (v ∷ a) b = let rest = visits-joined h a b in omega arith
 
 -- w begins with no h, where it has none
 pub not-first : (h v : ℕ) (w : List ℕ) → visits h (v ∷ w) ≡ 0 → (v ≡ h → ⊥) × (visits h w ≡ 0)
@@ -75,23 +69,12 @@ module _ (t : Routine) where
       let e : (edge t x v ≡ true) × (path t v a ≡ true) = and-true _ _ p in
       both (e .0) (path-joined a b v (e .1) q)
 
-  pub inside-joined : (l : ℕ) (a b : List ℕ) → allInside t l a ≡ true → allInside t l b ≡ true → allInside t l (a ++ b) ≡ true
-  unfolding allInside
-  inside-joined l [] b p q = q
-  inside-joined l (v ∷ a) b p q =
-      let e : (inside t v l ≡ true) × (allInside t l a ≡ true) = and-true _ _ p in
-      both (e .0) (inside-joined l a b (e .1) q)
-
   pub keeps-joined : (a b : List ℕ) (s : State) → keepsLimits t s a ≡ true → keepsLimits t (after t s a) b ≡ true → keepsLimits t s (a ++ b) ≡ true
   unfolding keepsLimits after
   keeps-joined [] b s p q = q
   keeps-joined (v ∷ a) b s p q =
       let e : (not (passesLimit t s) ≡ true) × (keepsLimits t (next t s v) a ≡ true) = and-true _ _ p in
       both (e .0) (keeps-joined a b (next t s v) (e .1) q)
-
-  -- a list that keeps the limits ends within them
-  pub within-after : (w : List ℕ) (s : State) → keepsLimits t s w ≡ true → WithinLimits t (after t s w)
-  within-after w s k = rw (take-length w) at (keeps-each t w s k (length w) (omega arith))
 
   pub after-joined : (a b : List ℕ) (s : State) → after t s (a ++ b) ≡ after t (after t s a) b
   unfolding after

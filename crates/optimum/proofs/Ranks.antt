@@ -3,7 +3,7 @@
 -- as the number of blocks, and so the tails of that many steps keep the equations (`tails-step`). Assumes nothing.
 use mathlib.Core.Path.{_≡_, refl}
 use mathlib.Core.Bool.{Bool, true, false}
-use Prim.Native.Nat.{ℕ, _≤_, _<_}
+use Prim.Native.Nat.{ℕ, _<_}
 use native.Mathlib.Omega.{arith}
 use Rattle.lists.specs.Search.{countBelow}
 use Rattle.lists.proofs.Search.{none-of, count-most, count-more}

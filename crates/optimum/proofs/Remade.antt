@@ -14,7 +14,6 @@ use lib.ListN.{length, getD}
 use lib.Seq.{ext-getD}
 use lib.Signed.{_≤ℤ_}
 use Rattle.limits.specs.Limits.{mostBlocks, mostLoops}
-use Rattle.lists.specs.Search.{tabulate}
 use Rattle.lists.proofs.Tests.{or-false}
 use Rattle.lists.proofs.Search.{tabulate-at, tabulate-length}
 use Rattle.integers.proofs.Laws.{ints, sum}

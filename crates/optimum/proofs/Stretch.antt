@@ -2,25 +2,24 @@
 -- (`joined`); a forward edge is one (`one-edge`), and so is an edge that enters a loop with all its rounds (`all-rounds`).
 -- Assumes nothing.
 use mathlib.Core.Path.{_≡_, refl, sym, _∙_, ap}
-use mathlib.Core.Bool.{Bool, true, false, not, _&&_, true≢false}
+use mathlib.Core.Bool.{true, false, true≢false}
 use mathlib.Core.List.{List, [], _∷_, _++_}
 use Prim.Native.Nat.{ℕ, zero, suc, _+_, _≤_, _<_}
 use native.Mathlib.Decide.{ℕ-discrete}
 use native.Mathlib.Omega.{arith}
 use borrow.Author.Tests.{eq-eqb, ne-eqb}
-use Rattle.lists.specs.Search.{if_then_else_}
 use Rattle.lists.proofs.Tests.{and-true}
 use Rattle.wcet.specs.Table.{Routine, blockCount, loopCount, header, limit, edge, inside}
 use Rattle.wcet.specs.Run.{path, State, nextCount, next, after, keepsLimits}
 use Rattle.wcet.specs.Stays.{allInside, visits}
 use Rattle.wcet.specs.Cycles.{backEdge}
-use Rattle.wcet.proofs.Limits.{WithinLimits}
+use Rattle.wcet.proofs.Limits.{WithinLimits, within-after}
 use Rattle.wcet.proofs.Around.{header-of}
 use Rattle.wcet.proofs.Steps.{kept-count}
 use Rattle.wcet.proofs.Nesting.{Nested}
-use Rattle.wcet.proofs.Counts.{header-inside}
+use Rattle.wcet.proofs.Counts.{inside-append, visits-append, header-inside}
 use Rattle.optimum.proofs.Structure.{outside-above, inside-trans, from-outside}
-use Rattle.optimum.proofs.Joined.{end, end-joined, visits-joined, not-first, copies, after-end, after-joined, path-joined, inside-joined, keeps-joined, keeps-none, keeps-more, within-after}
+use Rattle.optimum.proofs.Joined.{end, end-joined, not-first, copies, after-end, after-joined, path-joined, keeps-joined, keeps-none, keeps-more}
 
 -- from block x along w to block y, inside loop l and so inside each loop around l's header
 pub record Walk (t : Routine) (l x : ℕ) (w : List ℕ) (y : ℕ) : Type 0 where
@@ -51,13 +50,13 @@ module _ (t : Routine) (l : ℕ) where
     ends = end-joined a b x ∙ ap (λ (u : ℕ). end u b) (A .ends) ∙ B .ends;
     block = B .block;
     inner = B .inner;
-    stays = λ k i. inside-joined t k a b (A .stays k i) (B .stays k i);
+    stays = λ k i. rw (inside-append t k a b, A .stays k i, B .stays k i);
   }
 
   pub joined : (x y z : ℕ) (a b : List ℕ) → Stretch t l x a y → Stretch t l y b z → Stretch t l x (a ++ b) z
   joined x y z a b A B = record {
     way = walks-joined x y z a b (A .way) (B .way);
-    avoids = omega (arith, visits-joined (header t l) a b, A .avoids, B .avoids);
+    avoids = omega (arith, visits-append (header t l) a b, A .avoids, B .avoids);
     keeps = λ s e W.
         let k : keepsLimits t s a ≡ true = A .keeps s e W in
         keeps-joined t a b s k (B .keeps (after t s a) (after-end t a s ∙ ap (λ (u : ℕ). end u a) e ∙ A .way .ends) (within-after t a s k));

@@ -25,7 +25,7 @@ use Rattle.wcet.proofs.Nesting.{no-edge, Nested, nested}
 use Rattle.wcet.proofs.Potential.{Certificate, remaining, Sound}
 use Rattle.wcet.proofs.Path.{AllSound, at-end, whole-run, after-block}
 use Rattle.wcet.proofs.Entry.{stepCost, potential-start, weight-cost}
-use Rattle.wcet.proofs.Limits.{WithinLimits, keeps-each}
+use Rattle.wcet.proofs.Limits.{WithinLimits, keeps-each, within-after}
 
 -- the tables' own certificate: figures and multipliers as claimed, visits as limited
 abbrev certificate : Routine → Certificate
@@ -87,10 +87,7 @@ module _ (t : Routine) (F : Facts t) where
   so-far w h k =
       rw (weight-cost t w 0, potential-start t (F .nesting) (certificate t) loop0-multiplier) at
       (whole-run _≤ℤ_ atMost t (certificate t) (stepCost t) w start (all-sound w start (omega arith) h k)
-      (at-end _≤ℤ_ atMost t (certificate t) (stepCost t) (after t start w) (λ l b i. remaining-left (multiplier t l) (limit t l) (after t start w .count l) (W l b))))
-    where
-      W : WithinLimits t (after t start w)
-      W = rw (take-length w) at (keeps-each t w start k (length w) (omega arith))
+      (at-end _≤ℤ_ atMost t (certificate t) (stepCost t) (after t start w) (λ l b i. remaining-left (multiplier t l) (limit t l) (after t start w .count l) (within-after t w start k l b))))
 
 -- the claim at an index, of a list that starts at block 0
 from-entry : (t : Routine) (b : ℤ) → Facts t → bound t ≡ b → (w : List ℕ) (k : ℕ) → k ≤ length w → path t 0 (take k w) ≡ true → keepsLimits t start (take k w) ≡ true

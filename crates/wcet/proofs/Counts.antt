@@ -22,12 +22,21 @@ use Rattle.wcet.proofs.Potential.{inside-own}
 use Rattle.wcet.proofs.Entry.{inside-0}
 use Rattle.wcet.proofs.Limits.{keeps-each, each-keeps}
 
--- ---- one block more at the end of a list
+-- ---- a list after another, and one block more at the end of a list
+
+pub inside-append : (t : Routine) (l : ℕ) (w w' : List ℕ) → allInside t l (w ++ w') ≡ (allInside t l w && allInside t l w')
+unfolding allInside
+inside-append t l [] w' = refl
+inside-append t l (u ∷ w) w' = rw (inside-append t l w w') (sym (mathlib.Core.Bool.and-assoc (inside t u l) (allInside t l w) (allInside t l w')))
+
+pub visits-append : (h : ℕ) (w w' : List ℕ) → visits h (w ++ w') ≡ visits h w + visits h w'
+unfolding visits
+visits-append h [] w' = omega arith
+visits-append h (u ∷ w) w' = let rest = visits-append h w w' in omega arith
 
 all-snoc : (t : Routine) (l : ℕ) (w : List ℕ) (v : ℕ) → allInside t l (w ++ v ∷ []) ≡ (allInside t l w && inside t v l)
 unfolding allInside
-all-snoc t l [] v = mathlib.Core.Bool.and-true (inside t v l)
-all-snoc t l (u ∷ w) v = rw (all-snoc t l w v) (sym (mathlib.Core.Bool.and-assoc (inside t u l) (allInside t l w) (inside t v l)))
+all-snoc t l w v = inside-append t l w (v ∷ []) ∙ ap (λ (x : Bool). allInside t l w && x) (mathlib.Core.Bool.and-true (inside t v l))
 
 stay-snoc : (t : Routine) (l : ℕ) (w : List ℕ) (v : ℕ) → currentStay t l (w ++ v ∷ []) ≡ (if inside t v l then currentStay t l w ++ v ∷ [] else [])
 unfolding currentStay allInside
@@ -49,8 +58,7 @@ stay-snoc t l (u ∷ w) v = rw (all-snoc t l w v, stay-snoc t l w v) (go (inside
 
 visits-snoc : (h : ℕ) (w : List ℕ) (v : ℕ) → visits h (w ++ v ∷ []) ≡ visits h w + (if eqb h v then 1 else 0)
 unfolding visits
-visits-snoc h [] v = omega arith
-visits-snoc h (u ∷ w) v = let rest = visits-snoc h w v in omega arith
+visits-snoc h w v = omega (arith, visits-append h w (v ∷ []))
 
 snoc-assoc : (q w : List ℕ) (v : ℕ) → (q ++ v ∷ []) ++ w ≡ q ++ v ∷ w
 snoc-assoc [] w v = refl

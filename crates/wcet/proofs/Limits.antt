@@ -7,6 +7,7 @@ use native.Mathlib.Omega.{arith}
 use lib.Dec.{ltb}
 use borrow.Author.Tests.{ltb-false, le-ltb, not-true}
 use lib.ListN.{length, take}
+use lib.Seq.{take-length}
 use Rattle.lists.proofs.Tests.{and-true, both}
 use Rattle.lists.proofs.Search.{none-of, any-none}
 use Rattle.wcet.specs.Table.{Routine, loopCount, limit}
@@ -34,6 +35,10 @@ module _ (t : Routine) where
   keeps-each [] s e (suc k) h = absurd (omega arith)
   keeps-each (v ∷ w) s e zero h = limits-kept s (not-true _ (and-true _ _ e .0))
   keeps-each (v ∷ w) s e (suc k) h = keeps-each w (next t s v) (and-true (not (passesLimit t s)) _ e .1) k (omega arith)
+
+  -- so one that keeps them ends within them
+  pub within-after : (w : List ℕ) (s : State) → keepsLimits t s w ≡ true → WithinLimits (after t s w)
+  within-after w s e = rw (take-length w) at (keeps-each w s e (length w) (omega arith))
 
   pub each-keeps : (w : List ℕ) (s : State) → ((k : ℕ) → k ≤ length w → WithinLimits (after t s (take k w))) → keepsLimits t s w ≡ true
   unfolding keepsLimits after
