@@ -144,19 +144,19 @@ module _ (t : Routine) (N : Nested t) (fs : List ℤ) (F : Feasible (withColumns
   module _ (L : LocallyMade t) (K : Ranked t) where
     open LocallyMade L using (tail, tails, from)
 
-    -- what stands behind a tail of loop l: the exit's 0, or l's header less l's multiplier
-    abbrev behind : ℕ → ℤ
-    behind l = if eqb l 0 then pos 0 else other (header t l) -ℤ pos (multiplier t l)
+    -- where a tail of loop l leads: to the exit's 0, or to the figure of l's header, less l's multiplier
+    abbrev beyond : ℕ → ℤ
+    beyond l = if eqb l 0 then pos 0 else other (header t l) -ℤ pos (multiplier t l)
 
     -- a way falls by its weight
-    tail-least : (l x k : ℕ) → l < loopCount t → x < blockCount t → inside t x l ≡ true → tail l x ≡ some k → (pos k +ℤ behind l) ≤ℤ other x
+    tail-least : (l x k : ℕ) → l < loopCount t → x < blockCount t → inside t x l ≡ true → tail l x ≡ some k → (pos k +ℤ beyond l) ≤ℤ other x
     tail-least l x k m =
-        along-ways t N K tail tails l m (λ x k. (pos k +ℤ behind l) ≤ℤ other x)
+        along-ways t N K tail tails l m (λ x k. (pos k +ℤ beyond l) ≤ℤ other x)
         (λ x b i z e. let w : other (exit t) ≡ pos 0 = F .at-exit in rw (z, e, w) (omega ints))
         (λ x b i z d.
         rw (ne-eqb l 0 z)
         (omega (ints, other-back x l m b d i, diff (other x) (other h), sum (other x -ℤ other h) (pos (multiplier t l)), diff (other h) (pos (multiplier t l)), sum (pos (cost t h)) (other h -ℤ pos (multiplier t l)))))
-        (λ x v a b i d s r p. omega (ints, p, other-forward x v b d r, diff (other x) (other v), sum (pos (weight t v + a)) (behind l), sum (pos a) (behind l)))
+        (λ x v a b i d s r p. omega (ints, p, other-forward x v b d r, diff (other x) (other v), sum (pos (weight t v + a)) (beyond l), sum (pos a) (beyond l)))
         x k
       where
         h : ℕ

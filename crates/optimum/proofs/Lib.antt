@@ -14,7 +14,7 @@ pub mod Filled
 pub mod Joined
 pub mod Paths
 pub mod Exits
--- Lists of blocks: no round costs more than the multiplier, and none is there where it is 0; the tails are attained, by rounds that cost the
+-- No round costs more than the multiplier, which is 0 where there is no round; and the tails are attained, by rounds that cost the
 -- multipliers and a finished counted run that costs the bound. So the columns are optimal.
 pub mod Rounds
 pub mod Stretch

@@ -73,7 +73,7 @@ module _ (t : Routine) (fs : List ℤ) (ks : List ℕ) where
         at-exit = M′ .figures .feasible .at-exit;
       })
 
--- no other columns are so made
+-- no other columns are optimal
 module _ (t : Routine) (N : Nested t) (fs : List ℤ) (ks : List ℕ) (loop0 : getD ks 0 0 ≡ 0) (M : Optimal t) (M′ : Optimal (withColumns t fs ks)) where
   pub same-multipliers : (l : ℕ) → l < loopCount t → multiplier t l ≡ getD ks l 0
   same-multipliers l m = go (ℕ-discrete l 0)

@@ -1,5 +1,5 @@
 -- The solver's reply: the rules mean what document 02 says of them (`solves-exactly`), and an accepted bound is the optimum (`optimum-of`). So
--- a solver whose reply is that of the rules, beside the columns that go with it, is proved (`solved`). Assumes nothing.
+-- a solver whose reply is that of the rules, beside the columns that go with it, keeps document 02, §3 (`solved`). Assumes nothing.
 use mathlib.Core.Path.{_≡_, sym, _∙_, ap}
 use mathlib.Core.Bool.{false}
 use mathlib.Core.List.{List, [], _∷_}
