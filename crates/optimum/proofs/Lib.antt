@@ -2,9 +2,9 @@
 pub mod Local
 pub mod Structure
 pub mod Tails
--- Other columns in the same routine; tails in steps and in words; the multipliers.
+-- Other columns in the same routine; tails in steps; the multipliers.
 pub mod Columns
-pub mod Words
+pub mod Steps
 pub mod Ranks
 pub mod Multipliers
 -- Figures that come from tails keep the inequalities and are the smallest; how they are filled in loop by loop.

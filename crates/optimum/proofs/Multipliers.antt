@@ -15,7 +15,7 @@ use Rattle.optimum.specs.Remade.{withColumns}
 use Rattle.optimum.specs.Columns.{orDefault, tails, multipliersDown, remadeMultipliers, remultiplied}
 use Rattle.optimum.proofs.Structure.{inside-highest}
 use Rattle.optimum.proofs.Columns.{nested-too}
-use Rattle.optimum.proofs.Words.{tails-inner}
+use Rattle.optimum.proofs.Steps.{tails-inner}
 
 module _ (t : Routine) where
   -- the multiplier of loop l by the multipliers ks

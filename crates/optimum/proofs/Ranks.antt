@@ -13,7 +13,7 @@ use Rattle.wcet.proofs.Nesting.{Nested}
 use Rattle.wcet.proofs.Cycles.{reaches-one, reaches-by, forward-target}
 use Rattle.optimum.specs.Columns.{tails}
 use Rattle.optimum.proofs.Local.{Tailed, Ranked}
-use Rattle.optimum.proofs.Words.{enough-steps}
+use Rattle.optimum.proofs.Steps.{enough-steps}
 
 module _ (t : Routine) (N : Nested t) (declared : undeclaredLoop t ≡ false) where
   abbrev n : ℕ
