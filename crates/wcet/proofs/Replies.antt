@@ -132,25 +132,34 @@ refused-append rs qs a passed n p e = go (refused-exactly rs a n p .0 e)
       lowest = b .lowest;
     })
 
--- a refusal with the number of the last rule alone: the rules before it hold, and it is broken there
+-- a refusal with the number of one rule alone: the rules before it hold, and it is broken there and at no lower place
 module _ (n : ℕ) where
   -- no rule has this number
-  abbrev Unnumbered : List Rule → Type 0
+  abbrev pub Unnumbered : List Rule → Type 0
   Unnumbered [] = Unit {0}
   Unnumbered (r ∷ rs) = (r .number ≡ n → ⊥) × Unnumbered rs
 
-  last-broken : {A : Type 0} (rs : List Rule) (r : Rule) (a : A) (p : ℕ) → Unnumbered rs → check (rs ++ r ∷ []) (accepted a) ≡ refused n p
-      → AllHold rs × Lowest (r .places) (r .broken) p
+  other-number : {A : Type 0} (rs : List Rule) (a : A) (p : ℕ) → Unnumbered rs → check rs (accepted a) ≡ refused n p → ⊥
   unfolding check
-  last-broken {A} [] r a p u e = (tt, go (firstBelow (r .places) (r .broken)) refl e)
+  other-number [] a p u e = let z : _≡_ {A = ℕ} 0 1 = cc in omega arith
+  other-number {A} (r ∷ rs) a p u e = go (firstBelow (r .places) (r .broken)) e (other-number rs a p (u .1))
     where
-      go : (o : Option ℕ) → firstBelow (r .places) (r .broken) ≡ o → refusedAt {A = A} (r .number) o (accepted a) ≡ refused n p → Lowest (r .places) (r .broken) p
+      go : (o : Option ℕ) → refusedAt {A = A} (r .number) o (check rs (accepted a)) ≡ refused n p → (check rs (accepted a) ≡ refused n p → ⊥) → ⊥
+      go (some i) e rest = u .0 cc
+      go none e rest = rest e
+
+  pub numbered-broken : {A : Type 0} (rs : List Rule) (r : Rule) (qs : List Rule) (a : A) (p : ℕ) → Unnumbered rs → Unnumbered qs
+      → check (rs ++ r ∷ qs) (accepted a) ≡ refused n p → AllHold rs × Lowest (r .places) (r .broken) p
+  unfolding check
+  numbered-broken {A} [] r qs a p u v e = (tt, go (firstBelow (r .places) (r .broken)) refl e)
+    where
+      go : (o : Option ℕ) → firstBelow (r .places) (r .broken) ≡ o → refusedAt {A = A} (r .number) o (check qs (accepted a)) ≡ refused n p → Lowest (r .places) (r .broken) p
       go (some q) f e = let there : q ≡ p = cc in found-lowest (r .places) (r .broken) p (f ∙ ap some there)
-      go none f e = absurd (let z : _≡_ {A = ℕ} 0 1 = cc in omega arith)
-  last-broken {A} (q ∷ rs) r a p u e = go (firstBelow (q .places) (q .broken)) refl e (last-broken rs r a p (u .1))
+      go none f e = absurd (other-number qs a p v e)
+  numbered-broken {A} (q ∷ rs) r qs a p u v e = go (firstBelow (q .places) (q .broken)) refl e (numbered-broken rs r qs a p (u .1) v)
     where
-      go : (o : Option ℕ) → firstBelow (q .places) (q .broken) ≡ o → refusedAt {A = A} (q .number) o (check (rs ++ r ∷ []) (accepted a)) ≡ refused n p
-          → (check (rs ++ r ∷ []) (accepted a) ≡ refused n p → AllHold rs × Lowest (r .places) (r .broken) p) → (Holds q × AllHold rs) × Lowest (r .places) (r .broken) p
+      go : (o : Option ℕ) → firstBelow (q .places) (q .broken) ≡ o → refusedAt {A = A} (q .number) o (check (rs ++ r ∷ qs) (accepted a)) ≡ refused n p
+          → (check (rs ++ r ∷ qs) (accepted a) ≡ refused n p → AllHold rs × Lowest (r .places) (r .broken) p) → (Holds q × AllHold rs) × Lowest (r .places) (r .broken) p
       go (some i) f e rest = absurd (u .0 cc)
       go none f e rest = let s = rest e in ((not-found (q .places) (q .broken) f, s .0), s .1)
 
@@ -161,7 +170,7 @@ undeclared-exactly : (t : Routine) (p : ℕ) → (tableReply t ≡ refused 209 p
 unfolding tableReply tableRules structureRules
 undeclared-exactly t p = (
   λ e.
-      let q = last-broken 209 (structureRules t ++ inequalityRule t ∷ []) (undeclaredRule t) (bound t) p numbers e in
+      let q = numbered-broken 209 (structureRules t ++ inequalityRule t ∷ []) (undeclaredRule t) [] (bound t) p numbers tt e in
       let l = q .1 .below in
       (omega arith, q .0, closed-exactly t (target (q .0)) .0 (q .1 .passes)),
   λ h.

@@ -27,8 +27,9 @@ pub record ClosedWalk (t : Routine) : Type 0 where
   pub block : start < blockCount t
   pub closed : forwardPath t start (between ++ start ∷ []) ≡ true
 
--- Walks as a test that computes (Warshall's recursion), by any kind of edge. From u to v leads a walk of one edge or more, and all blocks
--- between are below k. For k + 1: a walk that avoids block k, or one from u to k and one from k to v.
+-- Walks as a test that computes (Warshall's recursion), by any kind of edge: with `forwardEdge` for 209, with `edge` for 401. From u to v
+-- leads a walk of one edge or more, and all blocks between are below k. For k + 1: a walk that avoids block k, or one from u to k and one
+-- from k to v.
 unfoldable pub reaches : (leads : ℕ → ℕ → Bool) → ℕ → ℕ → ℕ → Bool
 reaches leads zero u v = leads u v
 reaches leads (suc k) u v = reaches leads k u v || (reaches leads k u k && reaches leads k k v)

@@ -60,13 +60,17 @@ loopWrong t l =
     then not (eqb (parent t 0) 0 && eqb (header t 0) 0 && eqb (limit t 0) 1 && eqb (multiplier t 0) 0)
     else not (ltb (parent t l) l) || not (ltb (header t l) (blockCount t)) || outOfRange 1 65535 (limit t l) || ltb (2 ^ 40) (multiplier t l)
 
+-- 203: "figure outside −2^60 to 2^60"
+abbrev pub figureOutside : ℤ → Bool
+figureOutside z = ltZ z (negℤ (pos (2 ^ 60))) || ltZ (pos (2 ^ 60)) z
+
 -- 203: "cost over 1,000,000; loop not below m; successor present and not below n; figure outside −2^60 to 2^60"
 unfoldable pub blockWrong : Routine → ℕ → Bool
 blockWrong t u =
     ltb 1000000 (cost t u)
     || not (ltb (loopOf t u) (loopCount t))
     || someEdge t u (λ v. not (ltb v (blockCount t)))
-    || (ltZ (figure t u) (negℤ (pos (2 ^ 60))) || ltZ (pos (2 ^ 60)) (figure t u))
+    || figureOutside (figure t u)
 
 -- 204: "the header's innermost loop is another loop"
 unfoldable pub headerElsewhere : Routine → ℕ → Bool
