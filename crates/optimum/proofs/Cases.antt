@@ -1,4 +1,4 @@
--- The columns and the bound that document 01 gives routine A, by computation from zero columns. Assumes nothing.
+-- The solver's cases, by computation. Assumes nothing.
 use mathlib.Core.Path.{refl}
 use Rattle.lists.specs.Search.{anyBelow, countBelow, firstBelow, tabulate}
 use Rattle.wcet.specs.Table.{someEdge, edge, around, inside}
@@ -7,8 +7,8 @@ use Rattle.wcet.specs.Rules.{check, sizesWrong, loopWrong, blockWrong, headerEl
 use Rattle.optimum.specs.Tails.{best, more, weight, via, tailAt, tailBy}
 use Rattle.optimum.specs.Columns.{orDefault, multipliersDown, remadeMultipliers, fromExit, fromHeader, turn, figureBy, remadeFigures, remade}
 use Rattle.optimum.specs.Replies.{noPath, multiplierOver, figureOver, solveRules, solveReply}
-use Rattle.optimum.specs.Cases.{RoutineAHolds}
+use Rattle.optimum.specs.Cases.{answer, cases, CasesHold}
 
-pub routine-A-holds : RoutineAHolds
-unfolding anyBelow countBelow firstBelow tabulate someEdge edge around inside backEdge forwardEdge reaches undeclaredLoop check sizesWrong loopWrong blockWrong headerElsewhere tooDeep entryOrExitEdge pastHeader entersPastHeader structureRules bound best more weight via tailAt tailBy orDefault multipliersDown remadeMultipliers fromExit fromHeader turn figureBy remadeFigures remade noPath multiplierOver figureOver solveRules solveReply
-routine-A-holds = (refl, refl)
+pub cases-hold : CasesHold
+unfolding cases answer anyBelow countBelow firstBelow tabulate someEdge edge around inside backEdge forwardEdge reaches undeclaredLoop check sizesWrong loopWrong blockWrong headerElsewhere tooDeep entryOrExitEdge pastHeader entersPastHeader structureRules bound best more weight via tailAt tailBy orDefault multipliersDown remadeMultipliers fromExit fromHeader turn figureBy remadeFigures remade noPath multiplierOver figureOver solveRules solveReply
+cases-hold = refl

@@ -1,6 +1,6 @@
--- Columns that are made locally are optimal (`optimal`): the multipliers are the greatest rounds' costs, the figures are the smallest, and
--- some finished counted run costs the bound. The table is accepted with its bound (`accepted-made`), no accepted certificate of the same
--- routine gives less (`no-less`), and no other columns are optimal (`same-multipliers`, `same-figures`). Assumes nothing.
+-- Columns that are made locally are optimal (`optimal`): the multipliers are the greatest rounds' costs, and the figures are the smallest.
+-- The table is accepted with its bound (`accepted-made`), no accepted certificate of a routine gives less than one of its finished counted
+-- runs costs (`no-less`), and no other columns are optimal (`same-multipliers`, `same-figures`). Assumes nothing.
 use mathlib.Core.Path.{_≡_, refl, sym, _∙_}
 use mathlib.Core.Bool.{false, not}
 use mathlib.Core.List.{List, [], _∷_, _++_}
@@ -15,7 +15,8 @@ use Rattle.integers.proofs.Laws.{ints}
 use Rattle.wcet.specs.Table.{Routine, blockCount, loopCount, loopOf, figure, header, multiplier, someEdge, edge, inside}
 use Rattle.wcet.specs.Rules.{accepted, edgeHolds, inequalityBroken, structureRules, inequalityRule, undeclaredRule, tableRules, bound, tableReply}
 use Rattle.wcet.specs.Cycles.{undeclaredLoop}
-use Rattle.wcet.specs.Claim.{AllHold}
+use Rattle.wcet.specs.Run.{runCost}
+use Rattle.wcet.specs.Claim.{AllHold, FinishedRun}
 use Rattle.wcet.proofs.Replies.{append-all, replies-exactly}
 use Rattle.wcet.proofs.Bound.{finished-bounded}
 use Rattle.wcet.proofs.Nesting.{Nested, nested}
@@ -24,16 +25,16 @@ use Rattle.optimum.specs.Remade.{withColumns, Optimal}
 use Rattle.optimum.proofs.Local.{LocallyMade, Ranked}
 use Rattle.optimum.proofs.Structure.{no-edge-at, target-loop}
 use Rattle.optimum.proofs.Figures.{feasible, smallest}
-use Rattle.optimum.proofs.Rounds.{greatest-round}
-use Rattle.optimum.proofs.Attained.{round-attained, run-made}
+use Rattle.optimum.proofs.Rounds.{greatest-round, no-round-0}
+use Rattle.optimum.proofs.Attained.{round-attained}
 use Rattle.optimum.proofs.Columns.{same-cost, same-run, same-round, nested-too}
 
 pub optimal : (t : Routine) → Nested t → LocallyMade t → Ranked t → Optimal t
-optimal t N L K = record {
-  rounds = λ l z m. greatest-round t N L l z m (λ k e. round-attained t N L K l k z m e);
-  figures = smallest t N L K;
-  run = run-made t N L K;
-}
+optimal t N L K = record { rounds = λ l m. rounds l m (ℕ-discrete l 0); figures = smallest t N L K }
+  where
+    rounds : (l : ℕ) → l < loopCount t → Dec (l ≡ 0) → GreatestRound t l (multiplier t l)
+    rounds l m (yes z) = rw z (record { most = λ w r. absurd (no-round-0 t N w r); attained = inr (N .loop0-multiplier, no-round-0 t N) })
+    rounds l m (no ne) = greatest-round t N L l (omega arith) m (λ k e. round-attained t N L K l k (omega arith) m e)
 
 -- "The result must be accepted, the reply is its bound"
 pub accepted-made : (t : Routine) → AllHold (structureRules t) → undeclaredLoop t ≡ false → LocallyMade t → tableReply t ≡ accepted (bound t)
@@ -52,10 +53,8 @@ module _ (t : Routine) (fs : List ℤ) (ks : List ℕ) where
   t′ = withColumns t fs ks
 
   -- "so no certificate gives less"
-  pub no-less : Optimal t → (b : ℤ) → tableReply t′ ≡ accepted b → bound t ≤ℤ b
-  no-less M b e =
-      let w : List ℕ = M .run .0 in
-      rw (← M .run .2, ← same-cost t fs ks w) (finished-bounded t′ b e w (record { counted = same-run t fs ks w ∙ M .run .1 .counted; at-exit = M .run .1 .at-exit }))
+  pub no-less : (w : List ℕ) → FinishedRun t w → (b : ℤ) → tableReply (withColumns t fs ks) ≡ accepted b → pos (runCost t w) ≤ℤ b
+  no-less w r b e = rw (← same-cost t fs ks w) (finished-bounded t′ b e w (record { counted = same-run t fs ks w ∙ r .counted; at-exit = r .at-exit }))
 
   -- greatest rounds, and with the same multipliers smallest figures, are no greater in the one than in the other
   rounds-le : (l a b : ℕ) → GreatestRound t l a → GreatestRound t′ l b → a ≤ b
@@ -73,21 +72,24 @@ module _ (t : Routine) (fs : List ℤ) (ks : List ℕ) where
         at-exit = M′ .figures .feasible .at-exit;
       })
 
+-- loop 0's multiplier is 0 (202), since it has no round
+pub loop0-optimal : (t : Routine) → Nested t → (fs : List ℤ) (ks : List ℕ) → Optimal (withColumns t fs ks) → getD ks 0 0 ≡ 0
+loop0-optimal t N fs ks M = elim (M .rounds 0 (N .some-loop) .attained) [
+  | inl p ↦ absurd (no-round-0 t N (p .0) (same-round (withColumns t fs ks) (t .figures) (t .multipliers) 0 (p .0) (p .1)))
+  | inr p ↦ p .0
+]
+
 -- no other columns are optimal
-module _ (t : Routine) (N : Nested t) (fs : List ℤ) (ks : List ℕ) (loop0 : getD ks 0 0 ≡ 0) (M : Optimal t) (M′ : Optimal (withColumns t fs ks)) where
+module _ (t : Routine) (N : Nested t) (fs : List ℤ) (ks : List ℕ) (M : Optimal t) (M′ : Optimal (withColumns t fs ks)) where
   pub same-multipliers : (l : ℕ) → l < loopCount t → multiplier t l ≡ getD ks l 0
-  same-multipliers l m = go (ℕ-discrete l 0)
-    where
-      go : Dec (l ≡ 0) → multiplier t l ≡ getD ks l 0
-      go (yes z) = rw z (N .loop0-multiplier ∙ sym loop0)
-      go (no ne) =
-          let G : GreatestRound t l (multiplier t l) = M .rounds l (omega arith) m in
-          let G′ : GreatestRound (withColumns t fs ks) l (getD ks l 0) = M′ .rounds l (omega arith) m in
-          omega (arith, rounds-le t fs ks l (multiplier t l) (getD ks l 0) G G′, rounds-le (withColumns t fs ks) (t .figures) (t .multipliers) l (getD ks l 0) (multiplier t l) G′ G)
+  same-multipliers l m =
+      let G : GreatestRound t l (multiplier t l) = M .rounds l m in
+      let G′ : GreatestRound (withColumns t fs ks) l (getD ks l 0) = M′ .rounds l m in
+      omega (arith, rounds-le t fs ks l (multiplier t l) (getD ks l 0) G G′, rounds-le (withColumns t fs ks) (t .figures) (t .multipliers) l (getD ks l 0) (multiplier t l) G′ G)
 
   pub same-figures : (u : ℕ) → u < blockCount t → figure t u ≡ getD fs u (pos 0)
   same-figures u b =
       let p : figure t u ≤ℤ getD fs u (pos 0) = figures-le t fs ks N same-multipliers M M′ u b in
-      let q : getD fs u (pos 0) ≤ℤ figure t u
-      = figures-le (withColumns t fs ks) (t .figures) (t .multipliers) (nested-too t fs ks N loop0) (λ l m. sym (same-multipliers l m)) M′ M u b in
+      let N′ : Nested (withColumns t fs ks) = nested-too t fs ks N (loop0-optimal t N fs ks M′) in
+      let q : getD fs u (pos 0) ≤ℤ figure t u = figures-le (withColumns t fs ks) (t .figures) (t .multipliers) N′ (λ l m. sym (same-multipliers l m)) M′ M u b in
       omega (ints, p, q)

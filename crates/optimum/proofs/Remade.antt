@@ -1,6 +1,6 @@
 -- The remade columns of a table that passes 201 to 207 and 209, where each block has a path to the exit: they are optimal
--- (`remade-columns`) and the only ones that are (`only-remade`), and within the ranges of 202 and 203 the table with them is accepted with its
--- bound (`remade-accepted`). Assumes nothing.
+-- (`remade-columns`) and the only ones that are (`only-remade`), some finished counted run costs their bound (`remade-run`), and within the
+-- ranges of 202 and 203 the table with them is accepted with that bound (`remade-accepted`). Assumes nothing.
 use mathlib.Core.Path.{_≡_, refl, sym, _∙_}
 use mathlib.Core.Bool.{false}
 use mathlib.Core.List.{List, []}
@@ -20,17 +20,19 @@ use Rattle.integers.proofs.Laws.{ints, sum}
 use Rattle.wcet.specs.Table.{Routine, blockCount, loopCount, header, inside}
 use Rattle.wcet.specs.Cycles.{backEdge, undeclaredLoop}
 use Rattle.wcet.specs.Rules.{accepted, outOfRange, sizesWrong, structureRules, bound, tableReply}
-use Rattle.wcet.specs.Claim.{AllHold}
+use Rattle.wcet.specs.Run.{runCost}
+use Rattle.wcet.specs.Claim.{AllHold, FinishedRun}
 use Rattle.wcet.proofs.Nesting.{Nested}
 use Rattle.optimum.specs.Remade.{withColumns, Optimal, RemadeColumns, PathToExit}
 use Rattle.optimum.specs.Tails.{weight, via, tailAt}
 use Rattle.optimum.specs.Columns.{orDefault, tails, remadeMultipliers, turn, figureBy, remultiplied, remadeFigures, remade}
-use Rattle.optimum.proofs.Local.{Tailed, LocallyMade, HasFigure}
-use Rattle.optimum.proofs.Columns.{Fitting, same-path, rules-kept, nested-too, ranked-too, undeclared-kept}
+use Rattle.optimum.proofs.Local.{Tailed, LocallyMade, Ranked, HasFigure}
+use Rattle.optimum.proofs.Columns.{Fitting, same-path, same-cost, same-run, rules-kept, nested-too, ranked-too, undeclared-kept}
 use Rattle.optimum.proofs.Ranks.{ranked, tails-step}
 use Rattle.optimum.proofs.Multipliers.{multiplier-count, loop0-multiplier, made-multiplier}
 use Rattle.optimum.proofs.Filled.{filled-made, figure-least}
 use Rattle.optimum.proofs.Exits.{path-figure}
+use Rattle.optimum.proofs.Attained.{run-made}
 use Rattle.optimum.proofs.Optimal.{optimal, accepted-made, same-multipliers, same-figures}
 
 -- filling in reads no figures
@@ -85,27 +87,36 @@ module _ (t : Routine) (N : Nested t) (declared : undeclaredLoop t ≡ false) wh
         (λ l k z m e. made-multiplier t N l z m ∙ rw e) (λ l z m e. made-multiplier t N l z m ∙ rw e)
         (λ x b. figures-any t′ fs (tails t′) (loopCount t) x ∙ made-figure x b)
 
-    pub remade-optimal : Optimal (remade t)
+    remade-ranked : Ranked (remade t)
     unfolding remade
-    remade-optimal = optimal (remade t) remade-nested remade-local (ranked-too t fs ks (ranked t N declared .0))
+    remade-ranked = ranked-too t fs ks (ranked t N declared .0)
+
+    pub remade-optimal : Optimal (remade t)
+    remade-optimal = optimal (remade t) remade-nested remade-local remade-ranked
 
     pub remade-columns : RemadeColumns t (remadeFigures t) (remadeMultipliers t)
     unfolding remade
     remade-columns = record {
       figure-count = figure-count t;
       multiplier-count = multiplier-count t;
-      loop0-multiplier = loop0-multiplier t N;
       optimal = remade-optimal;
     }
+
+    -- a run reads neither column
+    pub remade-run : (w : List ℕ) × FinishedRun t w × (pos (runCost t w) ≡ bound (remade t))
+    unfolding remade
+    remade-run =
+        let R : (w : List ℕ) × FinishedRun (remade t) w × (pos (runCost (remade t) w) ≡ bound (remade t)) = run-made (remade t) remade-nested remade-local remade-ranked in
+        (R .0, record { counted = sym (same-run t fs ks (R .0)) ∙ R .1 .counted; at-exit = R .1 .at-exit }, rw (← same-cost t fs ks (R .0)) (R .2))
 
     -- the columns of one table that are optimal with as many entries are these
     pub only-remade : (fs′ : List ℤ) (ks′ : List ℕ) → RemadeColumns t fs′ ks′ → (fs′ ≡ remadeFigures t) × (ks′ ≡ remadeMultipliers t)
     unfolding remade
     only-remade fs′ ks′ C = (
       ext-getD (pos 0) fs′ fs (C .figure-count ∙ sym (figure-count t))
-          (λ u b. sym (same-figures (remade t) remade-nested fs′ ks′ (C .loop0-multiplier) remade-optimal (C .optimal) u (rw (C .figure-count) at b))),
+          (λ u b. sym (same-figures (remade t) remade-nested fs′ ks′ remade-optimal (C .optimal) u (rw (C .figure-count) at b))),
       ext-getD 0 ks′ ks (C .multiplier-count ∙ sym (multiplier-count t))
-          (λ l b. sym (same-multipliers (remade t) remade-nested fs′ ks′ (C .loop0-multiplier) remade-optimal (C .optimal) l (rw (C .multiplier-count) at b))),
+          (λ l b. sym (same-multipliers (remade t) remade-nested fs′ ks′ remade-optimal (C .optimal) l (rw (C .multiplier-count) at b))),
     )
 
     -- within the ranges, of which the figures' lower one is never left

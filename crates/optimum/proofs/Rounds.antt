@@ -1,7 +1,8 @@
 -- No round of a loop costs more than the loop's multiplier, by any figures that keep the inequalities (`rounds-most`): the potential along
 -- the round, with nothing left of the loops around its header, starts and ends at the header's figure. And where a loop has a round, its
 -- header has a tail (`round-tail`): back along a round each block has a tail, or is inside an inner loop whose header has one. So the
--- multiplier is the greatest round's cost, where each tail of a header is some round's cost (`greatest-round`). Assumes nothing.
+-- multiplier is the greatest round's cost, where each tail of a header is some round's cost (`greatest-round`). Loop 0 has no round
+-- (`no-round-0`). Assumes nothing.
 use mathlib.Core.Path.{_≡_, refl, sym, _∙_, ap}
 use mathlib.Core.Bool.{Bool, true, false, not, _&&_, and-false}
 use mathlib.Core.List.{List, [], _∷_, _++_}
@@ -209,3 +210,15 @@ module _ (t : Routine) (N : Nested t) (L : LocallyMade t) (l : ℕ) (z : 0 < l) 
           → ((w : List ℕ) × Round t l w × (roundCost t l w ≡ multiplier t l)) ⊎ ((multiplier t l ≡ 0) × ((w : List ℕ) → Round t l w → ⊥))
       go none e = inr (L .no-round l z m e, λ w r. let q : There (tail l (header t l)) = round-tail w r in none-some (sym e ∙ q .1))
       go (some k) e = let a : (w : List ℕ) × Round t l w × (roundCost t l w ≡ k) = attains k e in inl (a .0, a .1, a .2 ∙ sym (L .some-round l k z m e))
+
+-- no edge ends at block 0 (206)
+module _ (t : Routine) (N : Nested t) where
+  never-home : (w : List ℕ) (u : ℕ) → u < blockCount t → path t u (w ++ header t 0 ∷ []) ≡ true → ⊥
+  unfolding path
+  never-home [] u b p = let e : edge t u (header t 0) ≡ true = and-true _ _ p .0 in N .entry-starts u b (rw (N .loop0-header) at e)
+  never-home (v ∷ w) u b p =
+      let q : (edge t u v ≡ true) × (path t v (w ++ header t 0 ∷ []) ≡ true) = and-true _ _ p in
+      never-home w v (N .target u v b (q .0)) (q .1)
+
+  pub no-round-0 : (w : List ℕ) → Round t 0 w → ⊥
+  no-round-0 w r = never-home w (header t 0) (N .header-block 0 (N .some-loop)) (r .follows)

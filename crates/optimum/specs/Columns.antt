@@ -18,29 +18,32 @@ unfoldable pub orDefault : {A : Type 0} → A → Option A → A
 orDefault d none = d
 orDefault d (some a) = a
 
--- the tails of t: a way of forward edges passes no block twice, so it has fewer edges than there are blocks
+-- the tails of t: where 209 passes, forward edges come to no block twice, so a way has fewer forward edges than there are blocks
 abbrev pub tails : Routine → (l x : ℕ) → Option ℕ
 tails t = tailBy t (blockCount t)
 
--- ks with the multipliers of loops l down to 1 made, each the tail at its loop's header, 0 where there is none
+-- ks with the multipliers of loops l down to 1 made, each the tail at its loop's header; "it is 0 if no round exists"
 unfoldable pub multipliersDown : Routine → ℕ → List ℕ → List ℕ
 multipliersDown t zero ks = ks
 multipliersDown t (suc l) ks = multipliersDown t l (set ks (suc l) (orDefault 0 (tails (withColumns t [] ks) (suc l) (header t (suc l)))))
 
+-- of all loops; loop 0 has no round, and its multiplier stays 0
 unfoldable pub remadeMultipliers : Routine → List ℕ
 remadeMultipliers t = multipliersDown t (loopCount t - 1) (replicate (loopCount t) 0)
 
--- a figure by a tail of loop 0; and by a tail of a loop with multiplier m, less m, from the figure of the loop's header
+-- a figure by a tail k of loop 0
 unfoldable pub fromExit : Option ℕ → Option ℤ
 fromExit none = none
 fromExit (some k) = some (pos k)
 
+-- and by a tail k of another loop: tail k − multiplier m + the header's figure f
 unfoldable pub fromHeader : ℕ → Option ℕ → Option ℤ → Option ℤ
 fromHeader m none h = none
 fromHeader m (some k) none = none
 fromHeader m (some k) (some f) = some (pos k -ℤ pos m +ℤ f)
 
--- what loop l gives to x's figure in its turn, where the figure of l's header is h by then
+-- What x's figure must be at least, by the ways whose first back edge returns to l's header; for l = 0, by the ways to the exit without a
+-- back edge. Loop l gives this in its turn, when the figure of its header is h.
 unfoldable pub turn : Routine → ((l x : ℕ) → Option ℕ) → ℕ → ℕ → Option ℤ → Option ℤ
 turn t tail l x h =
     if not (inside t x l) then none else

@@ -7,12 +7,11 @@ use lib.IntN.{ℤ, pos}
 use lib.ListN.{length, getD}
 use lib.Signed.{_≤ℤ_}
 use Rattle.wcet.specs.Table.{Routine, blockCount, loopCount, exit, figure, multiplier, edge}
-use Rattle.wcet.specs.Rules.{edgeHolds, bound}
-use Rattle.wcet.specs.Run.{path, runCost}
-use Rattle.wcet.specs.Claim.{FinishedRun}
+use Rattle.wcet.specs.Rules.{edgeHolds}
+use Rattle.wcet.specs.Run.{path}
 use Rattle.optimum.specs.Rounds.{GreatestRound}
 
--- t with these columns in place of its figures and multipliers: the same routine
+-- t with these columns in place of its figures and multipliers: the same blocks, edges, costs, nesting and limits
 abbrev pub withColumns : Routine → List ℤ → List ℕ → Routine
 withColumns t fs ks = record {
   costs = t .costs;
@@ -31,23 +30,22 @@ pub record Feasible (t : Routine) : Type 0 where
   pub holds : (u v : ℕ) → u < blockCount t → edge t u v ≡ true → edgeHolds t u v ≡ true
   pub at-exit : figure t (exit t) ≡ pos 0
 
--- "The exit's figure is 0, and every other figure is the smallest that meets all inequalities with those multipliers."
+-- "The exit's figure is 0, and every other figure is the smallest that meets all inequalities with those multipliers": of all lists fs of
+-- figures. A short list stands for 0 after its end, and entries after the last block's are not read.
 pub record SmallestFigures (t : Routine) : Type 0 where
   pub feasible : Feasible t
   pub smallest : (fs : List ℤ) → Feasible (withColumns t fs (t .multipliers)) → (u : ℕ) → u < blockCount t → figure t u ≤ℤ getD fs u (pos 0)
 
--- t's own columns are the remade ones: each multiplier, but loop 0's, is the greatest cost of a round, the figures are the smallest, "and some
--- finished counted run must cost exactly" the bound
+-- t's own columns are the remade ones: "A loop's multiplier is the greatest cost of one round ..; it is 0 if no round exists", and the figures
+-- are the smallest. Loop 0 has no round, because no edge ends at block 0 (206), so its multiplier is 0.
 pub record Optimal (t : Routine) : Type 0 where
-  pub rounds : (l : ℕ) → 0 < l → l < loopCount t → GreatestRound t l (multiplier t l)
+  pub rounds : (l : ℕ) → l < loopCount t → GreatestRound t l (multiplier t l)
   pub figures : SmallestFigures t
-  pub run : (w : List ℕ) × FinishedRun t w × (pos (runCost t w) ≡ bound t)
 
--- fs and ks are the remade columns of t. Loop 0 is entered once and has no round: its multiplier is 0 (202).
+-- fs and ks are the remade columns of t: a figure for each block and a multiplier for each loop
 pub record RemadeColumns (t : Routine) (fs : List ℤ) (ks : List ℕ) : Type 0 where
   pub figure-count : length fs ≡ blockCount t
   pub multiplier-count : length ks ≡ loopCount t
-  pub loop0-multiplier : getD ks 0 0 ≡ 0
   pub optimal : Optimal (withColumns t fs ks)
 
 -- 401: a path from block u to the exit: the blocks after u, none where u is the exit

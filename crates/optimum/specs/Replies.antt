@@ -5,18 +5,18 @@ use mathlib.Core.Logic.{_↔_}
 use mathlib.Core.Bool.{Bool, false, not, _||_}
 use mathlib.Core.List.{List, [], _∷_, _++_}
 use lib.Dec.{eqb, ltb}
-use lib.IntN.{ℤ, pos, negℤ}
-use lib.ListN.{getD}
-use lib.Signed.{ltZ, _≤ℤ_}
+use lib.IntN.{ℤ, pos}
+use lib.Signed.{_≤ℤ_}
 use Rattle.lists.specs.Search.{anyBelow}
 use Rattle.wcet.specs.Table.{Routine, blockCount, loopCount, exit, figure, multiplier, edge}
 use Rattle.wcet.specs.Cycles.{reaches}
-use Rattle.wcet.specs.Rules.{Reply, accepted, refused, Rule, check, structureRules, undeclaredRule, bound, tableReply}
-use Rattle.wcet.specs.Claim.{AllHold, FirstBroken}
+use Rattle.wcet.specs.Rules.{Reply, accepted, refused, Rule, check, figureOutside, structureRules, undeclaredRule, bound, tableReply}
+use Rattle.wcet.specs.Run.{runCost}
+use Rattle.wcet.specs.Claim.{AllHold, FirstBroken, FinishedRun}
 use Rattle.optimum.specs.Remade.{withColumns, RemadeColumns, PathToExit}
 use Rattle.optimum.specs.Columns.{remadeFigures, remadeMultipliers, remade}
 
--- 401: block u is not the exit, and no walk of one edge or more leads from it to the exit
+-- 401: "some block has no path to the exit": block u is not the exit, and no walk of one edge or more leads from it to the exit
 unfoldable pub noPath : Routine → ℕ → Bool
 noPath t u = not (eqb u (exit t) || reaches (edge t) (blockCount t) u (exit t))
 
@@ -26,7 +26,7 @@ multiplierOver t = anyBelow (loopCount t) (λ l. ltb (2 ^ 40) (multiplier t l))
 
 -- 403: "a figure passes the limits of 203"
 unfoldable pub figureOver : Routine → Bool
-figureOver t = anyBelow (blockCount t) (λ u. ltZ (figure t u) (negℤ (pos (2 ^ 60))) || ltZ (pos (2 ^ 60)) (figure t u))
+figureOver t = anyBelow (blockCount t) (λ u. figureOutside (figure t u))
 
 -- "Given tables that pass 201 to 207 and 209": 208 is not asked
 abbrev pub givenRules : Routine → List Rule
@@ -46,7 +46,7 @@ solveRules t =
 unfoldable pub solveReply : Routine → Reply ℤ
 solveReply t = check (solveRules t) (accepted (bound (remade t)))
 
--- the columns beside the reply: "A refusal leaves both columns untouched."
+-- the columns after the call: "A refusal leaves both columns untouched."
 abbrev pub figuresAfter : Routine → Reply ℤ → List ℤ
 figuresAfter t (accepted b) = remadeFigures t
 figuresAfter t (refused number place) = t .figures
@@ -57,21 +57,28 @@ multipliersAfter t (refused number place) = t .multipliers
 
 -- ---- what is claimed, and proved in proofs/
 
--- What the rules mean: a pair of tables is accepted exactly where none is broken, and refused exactly with the first broken one at its lowest
--- place. The test of 401 fails exactly where there is a path. And the columns of 402, 403 and an accepted reply are the remade ones and no
--- others, however large they are.
+-- What the rules mean: the solver replies with a bound exactly where none of its rules is broken, and refuses exactly with the first broken
+-- one at its lowest place. (Document 01 gives "accepted" another meaning for a pair of tables: that of `tableReply`.) The test of 209 is tied
+-- to closed walks by `RepliesExactly.closed`. The test of 401 fails exactly where there is a path, so that 401 is the reply exactly where the
+-- rules before it hold and "some block has no path to the exit (place the lowest such block)". The columns of 402, 403 and a bound are the
+-- remade ones and no others, and "some finished counted run" costs exactly their bound, however large they are.
 pub record SolvesExactly (t : Routine) : Type 0 where
   pub accepts : (b : ℤ) → (solveReply t ≡ accepted b) ↔ (AllHold (solveRules t) × (bound (remade t) ≡ b))
   pub refuses : (number place : ℕ) → (solveReply t ≡ refused number place) ↔ FirstBroken (solveRules t) number place
   pub path : AllHold (structureRules t) → (u : ℕ) → u < blockCount t → (noPath t u ≡ false) ↔ PathToExit t u
+  pub no-path : (u : ℕ)
+      → (solveReply t ≡ refused 401 u) ↔ (AllHold (givenRules t) × (u < blockCount t) × (PathToExit t u → ⊥) × ((y : ℕ) → y < u → PathToExit t y))
   pub columns : AllHold (givenRules t) → ((u : ℕ) → u < blockCount t → PathToExit t u)
       → (fs : List ℤ) (ks : List ℕ) → RemadeColumns t fs ks ↔ ((fs ≡ remadeFigures t) × (ks ≡ remadeMultipliers t))
+  pub run : AllHold (givenRules t) → ((u : ℕ) → u < blockCount t → PathToExit t u)
+      → (w : List ℕ) × FinishedRun t w × (pos (runCost t w) ≡ bound (remade t))
 
--- What an accepted bound b beside the columns fs and ks means: "The result must be accepted, the reply is its bound, and some finished counted
--- run must cost exactly that, so no certificate gives less." The columns are the remade ones, and no others are.
+-- What holds when the reply is `accepted b` and the columns are fs and ks: "The result must be accepted, the reply is its bound, and some
+-- finished counted run must cost exactly that, so no certificate gives less." The columns are the remade ones, and no others are.
 pub record Optimum (t : Routine) (fs : List ℤ) (ks : List ℕ) (b : ℤ) : Type 0 where
   pub result : tableReply (withColumns t fs ks) ≡ accepted b
   pub columns : RemadeColumns t fs ks
+  pub run : (w : List ℕ) × FinishedRun t w × (pos (runCost t w) ≡ b)
   pub least : (fs′ : List ℤ) (ks′ : List ℕ) (b′ : ℤ) → tableReply (withColumns t fs′ ks′) ≡ accepted b′ → b ≤ℤ b′
   pub only : (fs′ : List ℤ) (ks′ : List ℕ) → RemadeColumns t fs′ ks′ → (fs′ ≡ fs) × (ks′ ≡ ks)
 

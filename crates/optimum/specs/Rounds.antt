@@ -11,12 +11,13 @@ use Rattle.wcet.specs.Table.{Routine, loopCount, header, limit}
 use Rattle.wcet.specs.Run.{State, next, path, runCost}
 use Rattle.wcet.specs.Stays.{allInside, visits}
 
--- where a round of loop l begins: at its header, with no inner loop under way
+-- Where a round of loop l begins: at its header, with no inner loop under way. Loops around l stand at 0 here, unlike in a run, and are never
+-- touched.
 unfoldable pub roundStart : Routine → ℕ → State
 roundStart t l = record { block = header t l; count = λ k. if eqb k l then 1 else 0 }
 
--- Some loop other than l is over its limit. Within a round these are the inner loops: a walk inside l does not come to the header of a loop
--- around l.
+-- Some loop other than l is over its limit. Within a round these are the inner loops: a walk inside l comes to no header but l's own and those
+-- of loops inside l (204).
 unfoldable pub passesInner : Routine → ℕ → State → Bool
 passesInner t l s = anyBelow (loopCount t) (λ k. not (eqb k l) && ltb (limit t k) (s .count k))
 
@@ -33,7 +34,7 @@ pub record Round (t : Routine) (l : ℕ) (w : List ℕ) : Type 0 where
   pub first-return : visits (header t l) w ≡ 0
   pub kept : keepsInner t l (roundStart t l) (w ++ header t l ∷ []) ≡ true
 
--- "the header counted once"
+-- "the header counted once": at the end and not at the start
 abbrev pub roundCost : Routine → ℕ → List ℕ → ℕ
 roundCost t l w = runCost t (w ++ header t l ∷ [])
 

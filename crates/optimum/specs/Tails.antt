@@ -1,6 +1,6 @@
--- How the columns are computed. The tail of loop l at a block x inside l: the greatest weight of a way from x (not counted) to l's header
--- (counted) that stays inside l, by forward edges up to the one back edge at its end; none where there is no way. Loop 0 has no back edge:
--- its tails lead to the exit.
+-- How the columns are computed. The tail of loop l at a block x inside l: the greatest weight of a way from x to l's header that stays inside
+-- l, by forward edges up to the one back edge at its end. Block x does not count, and the header at the end counts with its cost only. The
+-- tail is none where there is no way. Loop 0 has no back edge: its tails lead to the exit.
 use Prim.Native.Nat.{ℕ, zero, suc, _+_, _*_, _-_}
 use mathlib.Core.Bool.{Bool, not, _&&_}
 use mathlib.Core.Option.{Option, none, some}
@@ -24,7 +24,8 @@ more c (some a) = some (c + a)
 unfoldable pub weight : Routine → ℕ → ℕ
 weight t v = if isHeader t v then cost t v + multiplier t (loopOf t v) * (limit t (loopOf t v) - 1) else cost t v
 
--- what the edge from x to v gives to the tail of loop l at x, by those of the blocks that x leads to
+-- What the edge from x to v gives to the tail of loop l at x, given the tails of the next blocks: none where v is missing or outside l, or is
+-- another header reached by a back edge.
 unfoldable pub via : Routine → ℕ → (ℕ → Option ℕ) → ℕ → ℕ → Option ℕ
 via t l tail x v =
     if eqb v missing then none else
@@ -32,11 +33,12 @@ via t l tail x v =
     if backEdge t x v then (if not (eqb l 0) && eqb v (header t l) then some (cost t v) else none) else
     more (weight t v) (tail v)
 
+-- The tail of loop l at x, given the tails of the next blocks: the greater of what x's two successors give. Loop 0's tail at the exit is 0.
 unfoldable pub tailAt : Routine → ℕ → (ℕ → Option ℕ) → ℕ → Option ℕ
 tailAt t l tail x =
     if eqb l 0 && eqb x (exit t) then some 0 else best ltb (via t l tail x (first t x)) (via t l tail x (second t x))
 
--- the tail of loop l at x, by ways of fewer than d edges
+-- the tail of loop l at x, by ways of fewer than d forward edges
 unfoldable pub tailBy : Routine → ℕ → ℕ → ℕ → Option ℕ
 tailBy t zero l x = none
 tailBy t (suc d) l x = tailAt t l (tailBy t d l) x
