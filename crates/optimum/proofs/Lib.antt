@@ -20,8 +20,8 @@ pub mod Rounds
 pub mod Stretch
 pub mod Attained
 pub mod Optimal
--- The remade columns: optimal, the only ones, accepted.
+-- The remade columns: optimal, the only ones, accepted; and a finished counted run that costs their bound.
 pub mod Remade
--- The solver's reply, and routine A.
+-- The solver's reply, and its cases.
 pub mod Replies
 pub mod Cases

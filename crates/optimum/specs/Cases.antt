@@ -40,7 +40,8 @@ unsolved costs loops firsts seconds parents headers limits = record {
 -- Routine A, with the values that the cases change: block 2's first successor, and the exit's loop.
 abbrev pub likeA : (first2 loop3 : ℕ) → Routine
 likeA first2 loop3 =
-    unsolved (2 ∷ 3 ∷ 5 ∷ 1 ∷ []) (0 ∷ 1 ∷ 1 ∷ loop3 ∷ []) (1 ∷ 2 ∷ first2 ∷ missing ∷ []) (missing ∷ 3 ∷ missing ∷ missing ∷ []) (0 ∷ 0 ∷ []) (0 ∷ 1 ∷ []) (1 ∷ 4 ∷ [])
+    unsolved (2 ∷ 3 ∷ 5 ∷ 1 ∷ []) (0 ∷ 1 ∷ 1 ∷ loop3 ∷ []) (1 ∷ 2 ∷ first2 ∷ missing ∷ []) (missing ∷ 3 ∷ missing ∷ missing ∷ [])
+    (0 ∷ 0 ∷ []) (0 ∷ 1 ∷ []) (1 ∷ 4 ∷ [])
 
 -- block 1 has no edge, and its figure and block 0's are not 0
 abbrev pub deadEnd : Routine
@@ -53,12 +54,16 @@ itself = unsolved (1 ∷ 2 ∷ 3 ∷ []) (0 ∷ 1 ∷ 0 ∷ []) (1 ∷ 1 ∷ mis
 -- a loop of blocks 2 and 3, with this limit, inside a loop of blocks 1 to 4, with limit 4
 abbrev pub twoLoops : ℕ → Routine
 twoLoops limit2 =
-    unsolved (1 ∷ 2 ∷ 3 ∷ 4 ∷ 5 ∷ 6 ∷ []) (0 ∷ 1 ∷ 2 ∷ 2 ∷ 1 ∷ 0 ∷ []) (1 ∷ 2 ∷ 3 ∷ 2 ∷ 1 ∷ missing ∷ []) (missing ∷ 5 ∷ 4 ∷ missing ∷ missing ∷ missing ∷ []) (0 ∷ 0 ∷ 1 ∷ []) (0 ∷ 1 ∷ 2 ∷ []) (1 ∷ 4 ∷ limit2 ∷ [])
+    unsolved (1 ∷ 2 ∷ 3 ∷ 4 ∷ 5 ∷ 6 ∷ []) (0 ∷ 1 ∷ 2 ∷ 2 ∷ 1 ∷ 0 ∷ [])
+    (1 ∷ 2 ∷ 3 ∷ 2 ∷ 1 ∷ missing ∷ []) (missing ∷ 5 ∷ 4 ∷ missing ∷ missing ∷ missing ∷ [])
+    (0 ∷ 0 ∷ 1 ∷ []) (0 ∷ 1 ∷ 2 ∷ []) (1 ∷ 4 ∷ limit2 ∷ [])
 
 -- three loops inside one another at the greatest cost and limit: the outermost's multiplier passes 2^40
 abbrev pub threeLoops : Routine
 threeLoops =
-    unsolved (1000000 ∷ 1000000 ∷ 1000000 ∷ 1000000 ∷ 1000000 ∷ []) (0 ∷ 1 ∷ 2 ∷ 3 ∷ 0 ∷ []) (1 ∷ 2 ∷ 3 ∷ 3 ∷ missing ∷ []) (missing ∷ 4 ∷ 1 ∷ 2 ∷ missing ∷ []) (0 ∷ 0 ∷ 1 ∷ 2 ∷ []) (0 ∷ 1 ∷ 2 ∷ 3 ∷ []) (1 ∷ 65535 ∷ 65535 ∷ 65535 ∷ [])
+    unsolved (1000000 ∷ 1000000 ∷ 1000000 ∷ 1000000 ∷ 1000000 ∷ []) (0 ∷ 1 ∷ 2 ∷ 3 ∷ 0 ∷ [])
+    (1 ∷ 2 ∷ 3 ∷ 3 ∷ missing ∷ []) (missing ∷ 4 ∷ 1 ∷ 2 ∷ missing ∷ [])
+    (0 ∷ 0 ∷ 1 ∷ 2 ∷ []) (0 ∷ 1 ∷ 2 ∷ 3 ∷ []) (1 ∷ 65535 ∷ 65535 ∷ 65535 ∷ [])
 
 -- a case: what is asked, and the reply and the columns after the call
 pub record Case : Type 0 where
