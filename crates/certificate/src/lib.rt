@@ -156,7 +156,7 @@ fn bound_of(cost: u32, entry: i64, exit: i64) -> i64
     cost as i64 + entry - exit
 }
 
-fn bound_at_exit(cost: &[u32], figure: &[i64]) -> i64
+pub fn bound_at_exit(cost: &[u32], figure: &[i64]) -> i64
     requires { ⌜ Priced (priceColumns (now cost) (now figure)) ⌝ }
     ensures { λ r. ⌜ r ≡ bound (priceColumns (now (cost .entry)) (now (figure .entry))) ⌝ }
 {

@@ -24,7 +24,7 @@ pub struct Order {
 }
 
 // Whether an edge from block u to v is a back edge: it returns to a header from inside that header's loop.
-fn back_edge(around: &Sets, loops: &[u16], header: &[u16], u: usize, v: u16) -> bool
+pub fn back_edge(around: &Sets, loops: &[u16], header: &[u16], u: usize, v: u16) -> bool
     requires { ⌜ Innermost (now loops) (now header) × (u < length (now loops)) × (v < length (now loops)) ⌝ }
     ensures { λ r. ⌜ r ≡ backBySets (now (around .entry)) (now (loops .entry)) (now (header .entry)) u v ⌝ }
 {

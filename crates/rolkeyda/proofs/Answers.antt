@@ -20,6 +20,10 @@ use Rattle.nesting.specs.declared.StructureFault.the-variants.{Sizes, Loop, Blo
 use Rattle.certificate.specs.Answers.{tableMeaning}
 use Rattle.certificate.specs.declared.TableReply.{TableReply}
 use Rattle.certificate.specs.declared.TableReply.the-variants as table
+use Rattle.optimum.specs.Replies.{solveReply, figuresAfter, multipliersAfter, Optimum, Solved}
+use Rattle.solver.specs.Answers.{solveMeaning}
+use Rattle.solver.specs.declared.SolveReply.{SolveReply}
+use Rattle.solver.specs.declared.SolveReply.the-variants as solve
 use Rattle.walk.specs.Reply.{meaning}
 use Rattle.walk.specs.declared.WalkReply.{WalkReply}
 use Rattle.walk.specs.declared.WalkReply.the-variants as walk
@@ -31,8 +35,8 @@ use Rattle.limits.specs.Limits.{mostBlocks, mostLoops}
 use Rattle.tables.specs.declared.ReadReply.{ReadReply}
 use Rattle.tables.specs.declared.ReadReply.the-variants.{Rows, Refused}
 use Rattle.rolkeyda.specs.declared.Reply.{Reply}
-use Rattle.rolkeyda.specs.Replies.{acceptance, refusing, ofTables, ofWalk, endingNumber, ofReading, PlaceFits, ValueFits, TablesReplied, WalkReplied, BlocksReplied, LoopsReplied}
-use Rattle.rolkeyda.proofs.Ranges.{Small, table-place, walk-place, Finished, walk-finished, reading-small}
+use Rattle.rolkeyda.specs.Replies.{acceptance, refusing, ofTables, ofWalk, endingNumber, ofReading, PlaceFits, ValueFits, TablesReplied, TablesSolved, WalkReplied, BlocksReplied, LoopsReplied}
+use Rattle.rolkeyda.proofs.Ranges.{Small, table-place, solve-place, walk-place, Finished, walk-finished, reading-small}
 
 -- ---- 201 to 207
 
@@ -109,6 +113,45 @@ module _ (t : Routine) (a : TableReply) (C : Checked t (tableMeaning a)) where
       go (table.Structure f) B z = absurd (fault-number f z)
       go (table.Inequality u) B z = absurd (omega arith)
       go table.UndeclaredLoop B z = absurd (omega arith)
+
+-- ---- the solver
+
+module _ {a : SolveReply} (F : PlaceFits (ofTables (solveMeaning a))) where
+  pub solve-structure : (f : StructureFault) → a ≡ solve.Structure f → PlaceFits (ofTables (refusal f))
+  solve-structure f e = record { place = rw e at (F .place) }
+
+  pub solve-path : (u : ℕ) → a ≡ solve.NoPath u → u < 2 ^ 32
+  solve-path u e = rw e at (F .place)
+
+pub solve-told : {a g : SolveReply} {r : Reply} → a ≡ g → r ≡ ofTables (solveMeaning g) → r ≡ ofTables (solveMeaning a)
+solve-told e q = q ∙ ap (λ (x : SolveReply). ofTables (solveMeaning x)) (sym e)
+
+pub solve-accepted : {a : SolveReply} {r : Reply} (b : ℤ) → SFits w64 b → a ≡ solve.Accepted b → r ≡ acceptance (toZ w64 (ofZ w64 b)) 0 → r ≡ ofTables (solveMeaning a)
+solve-accepted b f e q = solve-told e (q ∙ ap (λ (z : ℤ). acceptance z 0) (toZ-ofZ f))
+
+module _ (t : Routine) (a : SolveReply) (fs : List ℤ) (ks : List ℕ) (C : Solved t (solveMeaning a) fs ks) where
+  pub solve-fits : PlaceFits (ofTables (solveMeaning a))
+  solve-fits = go (solveMeaning a) (C .replied)
+    where
+      go : (x : Answer ℤ) → x ≡ solveReply t → PlaceFits (ofTables x)
+      go (accepted b) e = record { place = omega arith }
+      go (refused n p) e = record { place = omega (arith, solve-place t n p (sym e)) }
+
+  pub tables-solved : (r : Reply) → r ≡ ofTables (solveMeaning a) → TablesSolved t r fs ks
+  tables-solved r e = rw e record {
+    replied = ap ofTables (C .replied);
+    figures = C .figures ∙ ap (figuresAfter t) (C .replied);
+    multipliers = C .multipliers ∙ ap (multipliersAfter t) (C .replied);
+    optimum = go a (C .optimum);
+  }
+    where
+      go : (x : SolveReply) → ((b : ℤ) → solveMeaning x ≡ accepted b → Optimum t fs ks b) → ofTables (solveMeaning x) .number ≡ 0 → Optimum t fs ks (ofTables (solveMeaning x) .value)
+      go (solve.Accepted b) B z = B b refl
+      go (solve.Structure f) B z = absurd (fault-number f z)
+      go solve.UndeclaredLoop B z = absurd (omega arith)
+      go (solve.NoPath u) B z = absurd (omega arith)
+      go solve.Multiplier B z = absurd (omega arith)
+      go solve.Figure B z = absurd (omega arith)
 
 -- ---- walks
 

@@ -21,6 +21,8 @@ use Rattle.wcet.specs.Walk.{Walked, walked, lengthRule, walkFrom, walkBlocks, w
 use Rattle.wcet.specs.Claim.{AllHold, FinishedRun}
 use Rattle.wcet.proofs.Replies.{decides, hands-on, all-append, passes}
 use Rattle.wcet.proofs.Walks.{walks-exactly}
+use Rattle.optimum.specs.Columns.{remade}
+use Rattle.optimum.specs.Replies.{solveRules, solveReply}
 use Rattle.nesting.specs.Columns.{Sized, Ranged}
 use Rattle.nesting.proofs.Stages.{fits, headed}
 use Rattle.tables.specs.Table as table
@@ -76,6 +78,16 @@ table-place t n p e =
     let b : blockCount t ≤ longestWalk = omega (arith, S .few-blocks) in
     let l : length (t .parents) ≤ longestWalk = omega (arith, S .few-loops) in
     (l, (b, (l, (l, (b, (b, (b, (omega arith, tt)))))))))
+    (λ h q. absurd (let z : _≡_ {A = ℕ} 0 1 = cc in omega arith)) e
+
+pub solve-place : (t : Routine) (n p : ℕ) → solveReply t ≡ refused n p → p ≤ longestWalk
+unfolding solveReply solveRules structureRules
+solve-place t n p e =
+    sized-within t longestWalk _ (accepted (bound (remade t))) n p
+    (λ S.
+    let b : blockCount t ≤ longestWalk = omega (arith, S .few-blocks) in
+    let l : length (t .parents) ≤ longestWalk = omega (arith, S .few-loops) in
+    (l, (b, (l, (l, (b, (b, (omega arith, (b, (omega arith, (omega arith, tt)))))))))))
     (λ h q. absurd (let z : _≡_ {A = ℕ} 0 1 = cc in omega arith)) e
 
 -- ---- walks

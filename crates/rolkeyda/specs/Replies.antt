@@ -13,6 +13,7 @@ use Rattle.wcet.specs.Run.{runCost}
 use Rattle.limits.specs.Limits.{longestWalk}
 use Rattle.wcet.specs.Walk.{Walked, walkReply}
 use Rattle.wcet.specs.Claim.{WcetBound, AllHold, FinishedRun}
+use Rattle.optimum.specs.Replies.{solveReply, figuresAfter, multipliersAfter, Optimum}
 use Rattle.csv.specs.declared.Ending.{Ending}
 use Rattle.csv.specs.declared.Ending.the-variants.{CrLf, Lf, EndOfText}
 use Rattle.tables.specs.Table.{blockTable, loopTable}
@@ -62,6 +63,14 @@ pub record ValueFits (r : Reply) : Type 0 where
 pub record TablesReplied (t : Routine) (r : Reply) : Type 0 where
   pub replied : r ≡ ofTables (tableReply t)
   pub bounded : r .number ≡ 0 → WcetBound t (r .value)
+
+-- Document 02, §3: the reply of the solver and both columns after the call. Where the number is 0, they are the remade columns and the value is
+-- their bound, and no certificate gives less.
+pub record TablesSolved (t : Routine) (r : Reply) (fs : List ℤ) (ks : List ℕ) : Type 0 where
+  pub replied : r ≡ ofTables (solveReply t)
+  pub figures : fs ≡ figuresAfter t (solveReply t)
+  pub multipliers : ks ≡ multipliersAfter t (solveReply t)
+  pub optimum : r .number ≡ 0 → Optimum t fs ks (r .value)
 
 -- Demand 2 of the reply to a walk: "A walk within the length limit, over tables that keep those ranges and rules, is accepted exactly when
 -- it is a finished counted run, with its true cost".

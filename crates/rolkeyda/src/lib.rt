@@ -1,16 +1,18 @@
-// The C library: the readers, the table checker and the walk checker, each with one reply struct for every answer. Nothing is decided
-// here; each function hands its answer over in the struct's fields.
+// The C library: the readers, the table checker, the walk checker and the solver, each with one reply struct for every answer. Nothing is
+// decided here; each function hands its answer over in the struct's fields.
 ghost use mathlib.Core.Path.{_≡_};
 ghost use Rattle.nesting.specs.Columns.{routine};
 ghost use Rattle.nesting.specs.Answers.{refusal};
 ghost use Rattle.certificate.specs.Answers.{tableMeaning};
 ghost use Rattle.walk.specs.Reply.{meaning};
+ghost use Rattle.solver.specs.Answers.{solveMeaning};
 ghost use Rattle.tables.specs.Columns.{blocks, loops};
-ghost use Rattle.rolkeyda.specs.Replies.{acceptance, refusing, ofTables, ofWalk, endingNumber, ofReading, PlaceFits, ValueFits, TablesReplied, WalkReplied, BlocksReplied, LoopsReplied};
+ghost use Rattle.rolkeyda.specs.Replies.{acceptance, refusing, ofTables, ofWalk, endingNumber, ofReading, PlaceFits, ValueFits, TablesReplied, TablesSolved, WalkReplied, BlocksReplied, LoopsReplied};
 ghost use Prim.Native.Nat.{_<_, _^_};
 use certificate::TableReply;
 use csv::Ending;
 use nesting::StructureFault;
+use solver::SolveReply;
 use tables::ReadReply;
 use walk::WalkReply;
 
@@ -72,6 +74,20 @@ fn table_reply(answer: TableReply) -> Reply
         TableReply::Structure(fault) => structure(fault),
         TableReply::Inequality(u) => refused(208, u),
         TableReply::UndeclaredLoop => refused(209, 0),
+    }
+}
+
+fn solve_reply(answer: SolveReply) -> Reply
+    requires { ⌜ PlaceFits (ofTables (solveMeaning answer)) ⌝ }
+    ensures { λ r. ⌜ r ≡ ofTables (solveMeaning answer) ⌝ }
+{
+    match answer {
+        SolveReply::Accepted(bound) => accepted(bound, 0),
+        SolveReply::Structure(fault) => structure(fault),
+        SolveReply::UndeclaredLoop => refused(209, 0),
+        SolveReply::NoPath(u) => refused(401, u),
+        SolveReply::Multiplier => refused(402, 0),
+        SolveReply::Figure => refused(403, 0),
     }
 }
 
@@ -203,4 +219,34 @@ pub extern "C" fn rolkeyda_walk(
         blocks,
     );
     walk_reply(answer)
+}
+
+// The bound of the remade figures and multipliers, which are then in place of the given ones; or the first broken rule, and both columns stay as
+// they were.
+#[no_mangle]
+pub extern "C" fn rolkeyda_solve(
+    cost: &[u32],
+    loops: &[u16],
+    first: &[u16],
+    second: &[u16],
+    figure: &mut [i64],
+    parent: &[u16],
+    header: &[u16],
+    limit: &[u32],
+    multiplier: &mut [u64],
+) -> Reply
+    ensures { λ r. ⌜ TablesSolved (routine (now (cost .entry)) (now (loops .entry)) (now (first .entry)) (now (second .entry)) (now (figure .entry)) (now (parent .entry)) (now (header .entry)) (now (limit .entry)) (now (multiplier .entry))) r (now (figure .exit)) (now (multiplier .exit)) ⌝ }
+{
+    let answer = solver::solve(
+        cost,
+        loops,
+        first,
+        second,
+        figure,
+        parent,
+        header,
+        limit,
+        multiplier,
+    );
+    solve_reply(answer)
 }

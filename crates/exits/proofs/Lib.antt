@@ -1,0 +1,3 @@
+pub mod Paths
+pub mod Passes
+pub mod Places

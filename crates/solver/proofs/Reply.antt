@@ -1,0 +1,120 @@
+-- How the solver comes to its reply, rule by rule, and the columns beside it. Assumes nothing.
+use mathlib.Core.Path.{_≡_, refl, sym, _∙_, ap}
+use mathlib.Core.Bool.{Bool, true, false, _||_, or-true}
+use mathlib.Core.List.{List, [], _∷_, _++_, append-assoc}
+use mathlib.Core.Logic.{_↔_}
+use mathlib.Core.Option.{some}
+use Prim.Native.Nat.{ℕ, _^_, _≤_, _<_}
+use native.Mathlib.Omega.{arith}
+use lib.Dec.{ltb}
+use borrow.Author.Tests.{lt-ltb, le-ltb}
+use lib.IntN.{ℤ, pos, negℤ}
+use lib.ListN.{length, getD}
+use lib.Signed.{ltZ, _≤ℤ_, _<ℤ_}
+use Rattle.integers.proofs.Laws.{ints}
+use Rattle.lists.proofs.Search.{any-none, any-at}
+use Rattle.wcet.specs.Table.{Routine, blockCount, loopCount, figure}
+use Rattle.wcet.specs.Cycles.{undeclaredLoop}
+use Rattle.wcet.specs.Rules.{Reply, accepted, refused, Rule, check, figureOutside, structureRules, undeclaredRule, bound}
+use Rattle.wcet.specs.Claim.{AllHold}
+use Rattle.wcet.proofs.Nesting.{Nested, nested}
+use Rattle.wcet.proofs.Replies.{decides, hands-on, past-all, append-all}
+use Rattle.nesting.specs.Answers.{refusal, StructureChecked}
+use Rattle.nesting.specs.declared.StructureFault.{StructureFault}
+use Rattle.nesting.specs.declared.StructureFault.the-variants.{Sizes, Loop, Block, Header, Depth, EntryOrExit, PastHeader}
+use Rattle.nesting.specs.declared.Structure.the-variants.{Broken}
+use Rattle.nesting.specs.declared.Structured.{Structured}
+use Rattle.nesting.proofs.Chain.{none-left, refusal-stands}
+use Rattle.order.specs.Ordering.{Ordering}
+use Rattle.order.specs.declared.Order.{Order}
+use Rattle.order.proofs.Orders.{undeclared-test}
+use Rattle.exits.specs.Lost.{LowestLost}
+use Rattle.exits.proofs.Places.{lowest-lost}
+use Rattle.optimum.specs.Remade.{PathToExit}
+use Rattle.optimum.specs.Columns.{remadeFigures, remadeMultipliers, remade}
+use Rattle.optimum.specs.Replies.{noPath, multiplierOver, figureOver, givenRules, solveRules, solveReply, figuresAfter, multipliersAfter, Solved}
+use Rattle.optimum.proofs.Paths.{path-exactly}
+use Rattle.optimum.proofs.Replies.{solved}
+
+module _ (t : Routine) where
+  -- the rules after 201 to 207
+  abbrev pathRule : Rule
+  pathRule = record { number = 401; places = blockCount t; broken = noPath t }
+
+  abbrev multiplierRule : Rule
+  multiplierRule = record { number = 402; places = 1; broken = λ _. multiplierOver (remade t) }
+
+  abbrev figureRule : Rule
+  figureRule = record { number = 403; places = 1; broken = λ _. figureOver (remade t) }
+
+  abbrev result : Reply ℤ
+  result = accepted (bound (remade t))
+
+  -- a refusal leaves both columns untouched
+  pub refused-solved : (n p : ℕ) → refused n p ≡ solveReply t → Solved t (refused n p) (t .figures) (t .multipliers)
+  refused-solved n p e = solved t (refused n p) (t .figures) (t .multipliers) e refl refl
+
+  -- ---- after the structure check
+
+  structure-refused : (s : Structured) → StructureChecked t s → (f : StructureFault) → s .answer ≡ Broken f → refusal f ≡ solveReply t
+  unfolding solveReply solveRules
+  structure-refused s C f q = rw append-assoc (refusal-stands t s C f q (undeclaredRule t ∷ pathRule ∷ multiplierRule ∷ figureRule ∷ []) result)
+
+  pub structure-solved : (s : Structured) → StructureChecked t s → (f : StructureFault) → s .answer ≡ Broken f → Solved t (refusal f) (t .figures) (t .multipliers)
+  structure-solved s C f q = go f (structure-refused s C f q)
+    where
+      go : (g : StructureFault) → refusal g ≡ solveReply t → Solved t (refusal g) (t .figures) (t .multipliers)
+      go Sizes e = refused-solved 201 0 e
+      go (Loop l) e = refused-solved 202 l e
+      go (Block u) e = refused-solved 203 u e
+      go (Header l) e = refused-solved 204 l e
+      go (Depth l) e = refused-solved 205 l e
+      go (EntryOrExit u) e = refused-solved 206 u e
+      go (PastHeader u) e = refused-solved 207 u e
+
+  -- ---- where 201 to 207 hold
+
+  module _ (h : AllHold (structureRules t)) where
+    N : Nested t
+    N = nested t h
+
+    later : check (undeclaredRule t ∷ pathRule ∷ multiplierRule ∷ figureRule ∷ []) result ≡ solveReply t
+    unfolding solveReply solveRules
+    later = sym (rw append-assoc (past-all (structureRules t) (undeclaredRule t ∷ pathRule ∷ multiplierRule ∷ figureRule ∷ []) result h))
+
+    -- 209, by the order of the blocks
+    pub undeclared-refused : (r : Order) → Ordering t r → r .count < blockCount t → refused 209 0 ≡ solveReply t
+    undeclared-refused r O l =
+        sym (decides (undeclaredRule t) (pathRule ∷ multiplierRule ∷ figureRule ∷ []) result 0 (record {
+          below = omega arith;
+          passes = sym (undeclared-test t h r O) ∙ lt-ltb (r .count) (blockCount t) l;
+          lower = λ j z. absurd (omega arith);
+        }))
+        ∙ later
+
+    pub declared-by : (r : Order) → Ordering t r → blockCount t ≤ r .count → undeclaredLoop t ≡ false
+    declared-by r O l = sym (undeclared-test t h r O) ∙ le-ltb (r .count) (blockCount t) l
+
+    module _ (declared : undeclaredLoop t ≡ false) where
+      after-209 : check (pathRule ∷ multiplierRule ∷ figureRule ∷ []) result ≡ solveReply t
+      after-209 = sym (hands-on (undeclaredRule t) (pathRule ∷ multiplierRule ∷ figureRule ∷ []) result (λ p z. declared)) ∙ later
+
+      pub path-refused : (u : ℕ) → LowestLost t u → refused 401 u ≡ solveReply t
+      path-refused u l = sym (decides pathRule (multiplierRule ∷ figureRule ∷ []) result u (lowest-lost t (noPath t) (path-exactly t N) u .1 l)) ∙ after-209
+
+      module _ (paths : (u : ℕ) → u < blockCount t → PathToExit t u) where
+        after-401 : check (multiplierRule ∷ figureRule ∷ []) result ≡ solveReply t
+        after-401 = sym (hands-on pathRule (multiplierRule ∷ figureRule ∷ []) result (λ u b. path-exactly t N u b .1 (paths u b))) ∙ after-209
+
+        pub multiplier-refused : multiplierOver (remade t) ≡ true → refused 402 0 ≡ solveReply t
+        multiplier-refused o = sym (decides multiplierRule (figureRule ∷ []) result 0 (record { below = omega arith; passes = o; lower = λ j z. absurd (omega arith) })) ∙ after-401
+
+        module _ (fits : multiplierOver (remade t) ≡ false) where
+          after-402 : check (figureRule ∷ []) result ≡ solveReply t
+          after-402 = sym (hands-on multiplierRule (figureRule ∷ []) result (λ p z. fits)) ∙ after-401
+
+          pub figure-refused : figureOver (remade t) ≡ true → refused 403 0 ≡ solveReply t
+          figure-refused o = sym (decides figureRule [] result 0 (record { below = omega arith; passes = o; lower = λ j z. absurd (omega arith) })) ∙ after-402
+
+          pub bound-accepted : figureOver (remade t) ≡ false → accepted (bound (remade t)) ≡ solveReply t
+          bound-accepted o = none-left result ∙ sym (hands-on figureRule [] result (λ p z. o)) ∙ after-402

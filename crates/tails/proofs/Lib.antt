@@ -1,0 +1,3 @@
+pub mod Words
+pub mod Capped
+pub mod Passes
