@@ -19,7 +19,8 @@ use Rattle.nesting.specs.Columns.{Linked}
 use Rattle.optimum.specs.Remade.{PathToExit}
 use Rattle.exits.specs.Lost.{Listed}
 use Rattle.exits.specs.Marks.{marked, unmarked, canMark, Sound, Closed, Passed, MarksPaths}
-use Rattle.exits.proofs.Paths.{edge-to, some-edge, target, exit-path, longer-path}
+use Rattle.optimum.proofs.Paths.{exit-path, path-on}
+use Rattle.exits.proofs.Paths.{edge-to, some-edge, target}
 
 -- ---- one mark more
 
@@ -88,7 +89,7 @@ module _ (t : Routine) (order : List ℕ) (old : List Bool) where
         sound : Sound t marks → (v : ℕ) → v < blockCount t → marked (set marks here true) v ≡ true → Dec (v ≡ here) → PathToExit t v
         sound S v b k (yes same) =
             let w = edge-to t here (marked marks) (q .1) in
-            rw same (longer-path t here (w .0) (w .1) (S (w .0) (target t here (blockCount t) (w .0) L low (w .1)) (w .2)))
+            rw same (path-on t here (w .0) (w .1) (S (w .0) (target t here (blockCount t) (w .0) L low (w .1)) (w .2)))
         sound S v b k (no ne) = S v b (sym (getD-set-other marks here v true false ne) ∙ k)
 
     pub pass-skips : canMark t marks here ≡ false → PassedFrom t order old marks more (i - 1)

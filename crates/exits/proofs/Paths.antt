@@ -1,4 +1,4 @@
--- Edges and paths to the exit, one edge at a time; and that they depend only on the successors and the number of blocks. Assumes nothing.
+-- Edges, one successor at a time; and that paths to the exit depend only on the successors and the number of blocks. Assumes nothing.
 use mathlib.Core.Path.{_≡_, refl, sym, _∙_, ap}
 use mathlib.Core.Logic.{⊎-elim}
 use mathlib.Core.Bool.{Bool, true, false, not, true≢false}
@@ -7,7 +7,7 @@ use Prim.Native.Nat.{ℕ, _-_, _<_}
 use lib.Dec.{eqb}
 use borrow.Author.Tests.{eqb-true, eqb-false, eq-eqb, not-true}
 use Rattle.lists.proofs.Tests.{and-true, both, either}
-use Rattle.wcet.specs.Table.{Routine, blockCount, exit, missing, first, second, someEdge, edge}
+use Rattle.wcet.specs.Table.{Routine, blockCount, missing, first, second, someEdge, edge}
 use Rattle.wcet.specs.Run.{path}
 use Rattle.wcet.proofs.Nesting.{no-edge}
 use Rattle.nesting.specs.Columns.{Names, ofEdge, Linked}
@@ -48,14 +48,6 @@ module _ (t : Routine) (u : ℕ) where
           rw (← eqb-true w v (r .1)) (names (eqb-false w missing (not-true _ (r .0))))
 
 -- ---- paths
-
-pub exit-path : (t : Routine) → PathToExit t (exit t)
-unfolding path
-exit-path t = record { blocks = []; follows = refl; at-exit = refl }
-
-pub longer-path : (t : Routine) (u v : ℕ) → edge t u v ≡ true → PathToExit t v → PathToExit t u
-unfolding path
-longer-path t u v e p = record { blocks = v ∷ p .blocks; follows = both e (p .follows); at-exit = p .at-exit }
 
 -- of two routines with the same successors and as many blocks
 module _ (t t' : Routine) (firsts : t .firsts ≡ t' .firsts) (seconds : t .seconds ≡ t' .seconds) (count : blockCount t ≡ blockCount t') where

@@ -4,15 +4,14 @@ use mathlib.Core.Path.{_≡_, refl, sym, _∙_, ap}
 use mathlib.Core.Bool.{Bool, true, false, true≢false}
 use mathlib.Core.List.{List, []}
 use mathlib.Core.Option.{Option, none, some}
-use Prim.Native.Nat.{ℕ, suc, _-_, _^_, _≤_, _<_}
+use Prim.Native.Nat.{ℕ, _-_, _^_, _≤_, _<_}
 use native.Mathlib.Decide.{ℕ-discrete}
 use native.Mathlib.Omega.{arith}
-use lib.Dec.{eqb, ltb}
+use lib.Dec.{ltb}
 use borrow.Author.Tests.{eq-eqb, ne-eqb, lt-ltb, le-ltb}
 use lib.IntN.{ℤ}
 use lib.ListN.{length, getD}
 use Rattle.limits.specs.Limits.{mostLoops}
-use Rattle.lists.specs.Search.{if_then_else_}
 use Rattle.lists.proofs.Search.{any-none, any-at}
 use Rattle.wcet.specs.Table.{Routine, blockCount, loopCount, loopOf, header, someEdge, edge, inside}
 use Rattle.wcet.specs.Cycles.{backEdge, forwardEdge}
@@ -27,7 +26,7 @@ use Rattle.optimum.specs.Replies.{multiplierOver}
 use Rattle.optimum.proofs.Columns.{nested-too}
 use Rattle.optimum.proofs.Steps.{tails-inner}
 use Rattle.optimum.proofs.Multipliers.{loop0-multiplier, made-multiplier}
-use Rattle.tails.specs.Words.{mostTail, wordOf, cap}
+use Rattle.tails.specs.Words.{mostTail, cap}
 use Rattle.tails.specs.Columns.{Passed, TailsIn}
 use Rattle.tails.proofs.Passes.{passed-nested, passed-parents, passed-few-loops, passed-headers}
 use Rattle.multipliers.specs.Columns.{roundBy, RoundsTaken, Multiplied}
@@ -63,10 +62,6 @@ pub record Multiplying (t : Routine) (values : List ℕ) (d : ℕ) : Type 0 wher
 module _ (t : Routine) (P : Passed t) where
   abbrev N : Nested t
   N = passed-nested t P
-
-  -- other multipliers in range
-  pub passed-with : (values : List ℕ) (d : ℕ) → Multiplying t values d → Passed (withColumns t [] values)
-  passed-with values d M = record { figures = P .figures; multipliers = P .multipliers; rules = P .rules; loop0-multiplier = M .loop0; multiplier-most = M .low }
 
   pub multiplying-first : (values : List ℕ) (d : ℕ) → length values ≡ mostLoops → ((l : ℕ) → getD values l 0 ≡ 0) → ((l : ℕ) → l < loopCount t → depth (t .parents) l ≤ d)
       → Multiplying t values d

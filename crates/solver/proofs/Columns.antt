@@ -2,22 +2,22 @@
 -- that agree are the same (`figures-agree`), so the two tests for a value over its limit are those of 402 and 403, and the columns that are
 -- written are the remade ones. Assumes nothing.
 use mathlib.Core.Path.{_≡_, refl, sym, _∙_, ap}
-use mathlib.Core.Bool.{Bool, true, false, not, _||_, or-true}
+use mathlib.Core.Bool.{Bool, true, false}
 use mathlib.Core.List.{List, []}
-use mathlib.Core.Option.{Option, none, some}
+use mathlib.Core.Option.{Option, some}
 use Prim.Native.Nat.{ℕ, zero, suc, _-_, _^_, _≤_, _<_}
 use native.Mathlib.Omega.{arith}
-use lib.Dec.{eqb, ltb}
+use lib.Dec.{ltb}
 use borrow.Author.Tests.{ltb-false, le-ltb}
 use lib.IntN.{ℤ, pos, negℤ}
 use lib.ListN.{length, getD, set, replicate, List·getD-eq-default}
 use lib.Seq.{ext-getD}
-use lib.Signed.{ltZ, _≤ℤ_, _<ℤ_}
+use lib.Signed.{ltZ}
 use Rattle.integers.proofs.Laws.{ints}
-use Rattle.lists.specs.Search.{if_then_else_, anyBelow}
+use Rattle.lists.specs.Search.{anyBelow}
 use Rattle.lists.proofs.Tests.{or-right, neither}
 use Rattle.lists.proofs.Search.{any-none, any-at, none-of}
-use Rattle.wcet.specs.Table.{Routine, blockCount, loopCount, header, multiplier, figure, inside}
+use Rattle.wcet.specs.Table.{Routine, blockCount, loopCount, header, inside}
 use Rattle.wcet.specs.Cycles.{undeclaredLoop}
 use Rattle.wcet.specs.Rules.{accepted, figureOutside, structureRules, bound}
 use Rattle.wcet.specs.Claim.{AllHold}
@@ -28,9 +28,7 @@ use Rattle.certificate.specs.Figures.{Figure}
 use Rattle.certificate.specs.Columns.{priceColumns, Priced}
 use Rattle.optimum.specs.Remade.{withColumns, PathToExit}
 use Rattle.optimum.specs.Columns.{orDefault, tails, multipliersDown, remadeMultipliers, turn, figureBy, remultiplied, remadeFigures, remade}
-use Rattle.optimum.specs.Tails.{best}
 use Rattle.optimum.specs.Replies.{multiplierOver, figureOver, Solved}
-use Rattle.optimum.proofs.Tails.{none-some}
 use Rattle.optimum.proofs.Columns.{Fitting, nested-too}
 use Rattle.optimum.proofs.Steps.{tails-inner}
 use Rattle.optimum.proofs.Multipliers.{multiplier-count, loop0-multiplier}
@@ -38,7 +36,6 @@ use Rattle.optimum.proofs.Filled.{figures-same}
 use Rattle.optimum.proofs.Remade.{figure-count, made-figure, remade-fits}
 use Rattle.optimum.proofs.Replies.{solved}
 use Rattle.tails.specs.Columns.{Passed}
-use Rattle.figures.specs.Figures.{figureOf}
 use Rattle.figures.specs.Columns.{Figured}
 use Rattle.figures.proofs.Signs.{figure-same}
 use Rattle.multipliers.specs.Columns as made

@@ -1,24 +1,17 @@
 -- How the solver comes to its reply, rule by rule, and the columns beside it. Assumes nothing.
-use mathlib.Core.Path.{_≡_, refl, sym, _∙_, ap}
-use mathlib.Core.Bool.{Bool, true, false, _||_, or-true}
-use mathlib.Core.List.{List, [], _∷_, _++_, append-assoc}
-use mathlib.Core.Logic.{_↔_}
-use mathlib.Core.Option.{some}
-use Prim.Native.Nat.{ℕ, _^_, _≤_, _<_}
+use mathlib.Core.Path.{_≡_, refl, sym, _∙_}
+use mathlib.Core.Bool.{true, false}
+use mathlib.Core.List.{[], _∷_, append-assoc}
+use Prim.Native.Nat.{ℕ, _≤_, _<_}
 use native.Mathlib.Omega.{arith}
-use lib.Dec.{ltb}
 use borrow.Author.Tests.{lt-ltb, le-ltb}
-use lib.IntN.{ℤ, pos, negℤ}
-use lib.ListN.{length, getD}
-use lib.Signed.{ltZ, _≤ℤ_, _<ℤ_}
-use Rattle.integers.proofs.Laws.{ints}
-use Rattle.lists.proofs.Search.{any-none, any-at}
-use Rattle.wcet.specs.Table.{Routine, blockCount, loopCount, figure}
+use lib.IntN.{ℤ}
+use Rattle.wcet.specs.Table.{Routine, blockCount}
 use Rattle.wcet.specs.Cycles.{undeclaredLoop}
-use Rattle.wcet.specs.Rules.{Reply, accepted, refused, Rule, check, figureOutside, structureRules, undeclaredRule, bound}
+use Rattle.wcet.specs.Rules.{Reply, accepted, refused, Rule, check, structureRules, undeclaredRule, bound}
 use Rattle.wcet.specs.Claim.{AllHold}
 use Rattle.wcet.proofs.Nesting.{Nested, nested}
-use Rattle.wcet.proofs.Replies.{decides, hands-on, past-all, append-all}
+use Rattle.wcet.proofs.Replies.{decides, hands-on, past-all}
 use Rattle.nesting.specs.Answers.{refusal, StructureChecked}
 use Rattle.nesting.specs.declared.StructureFault.{StructureFault}
 use Rattle.nesting.specs.declared.StructureFault.the-variants.{Sizes, Loop, Block, Header, Depth, EntryOrExit, PastHeader}
@@ -31,8 +24,8 @@ use Rattle.order.proofs.Orders.{undeclared-test}
 use Rattle.exits.specs.Lost.{LowestLost}
 use Rattle.exits.proofs.Places.{lowest-lost}
 use Rattle.optimum.specs.Remade.{PathToExit}
-use Rattle.optimum.specs.Columns.{remadeFigures, remadeMultipliers, remade}
-use Rattle.optimum.specs.Replies.{noPath, multiplierOver, figureOver, givenRules, solveRules, solveReply, figuresAfter, multipliersAfter, Solved}
+use Rattle.optimum.specs.Columns.{remade}
+use Rattle.optimum.specs.Replies.{noPath, multiplierOver, figureOver, solveRules, solveReply, Solved}
 use Rattle.optimum.proofs.Paths.{path-exactly}
 use Rattle.optimum.proofs.Replies.{solved}
 

@@ -1,10 +1,9 @@
 // The solver: remakes the figure and multiplier columns of a pair of tables, so that no certificate gives a smaller bound, or replies the first
 // reason why it cannot: 201 to 207, 209, 401 to 403. The columns are made in arrays, and written only when all of both is in range.
 ghost use mathlib.Core.Path.{_≡_};
-ghost use mathlib.Core.List.{[]};
-ghost use Prim.Native.Nat.{ℕ, _≤_, _<_};
+ghost use Prim.Native.Nat.{_≤_, _<_};
 ghost use lib.IntN.{pos};
-ghost use lib.ListN.{length, getD};
+ghost use lib.ListN.{length};
 ghost use Rattle.limits.specs.Limits.{mostBlocks, mostLoops};
 ghost use Rattle.wcet.specs.Rules.{structureRules};
 ghost use Rattle.wcet.specs.Claim.{AllHold};

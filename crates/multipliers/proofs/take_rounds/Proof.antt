@@ -2,7 +2,7 @@ use mathlib.Core.Logic.{⊎-elim}
 use native.Mathlib.Omega.{arith}
 use mathlib.Core.Path.{_≡_}
 use Prim.Native.Nat.{_≤_, _-_}
-use lib.ListN.{length, getD}
+use lib.ListN.{length}
 use Rattle.multipliers.proofs.Rounds.{Taking, taking-first, taking-set, taking-skip, taking-over, taking-all}
 use borrow.Author.Needs.{needs}
 use Rattle.multipliers.proofs.take_rounds.Statement.{statement}

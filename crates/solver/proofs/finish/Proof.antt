@@ -2,12 +2,11 @@ use mir.Syntax.{w64}
 use mir.Val.{SFits}
 use mir.Facts.{toZ-ofZ}
 use native.Mathlib.Omega.{arith}
-use mathlib.Core.Path.{_≡_, refl, sym, _∙_, ap}
-use mathlib.Core.List.{List, []}
-use lib.IntN.{ℤ, pos}
-use lib.ListN.{length, getD, getD-replicate}
+use mathlib.Core.Path.{refl}
+use mathlib.Core.List.{[]}
+use lib.IntN.{pos}
+use lib.ListN.{getD-replicate}
 use Rattle.wcet.specs.Table.{Routine}
-use Rattle.wcet.specs.Rules.{accepted, bound}
 use Rattle.nesting.specs.Columns.{routine}
 use Rattle.nesting.proofs.Stages.{headed}
 use Rattle.multipliers.proofs.Multipliers.{topological-with}

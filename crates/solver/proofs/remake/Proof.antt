@@ -1,7 +1,5 @@
-use native.Mathlib.Omega.{arith}
-use mathlib.Core.Path.{_≡_, refl}
+use mathlib.Core.Path.{refl}
 use mathlib.Core.List.{[]}
-use lib.ListN.{length}
 use Rattle.wcet.specs.Table.{Routine}
 use Rattle.nesting.specs.Columns.{routine}
 use Rattle.nesting.proofs.Stages.{headed}

@@ -1,7 +1,7 @@
 use Rattle.wcet.specs.Table.{Routine}
 use Rattle.nesting.specs.Columns.{routine}
 use Rattle.nesting.proofs.Chain.{sound-holds, sound-sets}
-use Rattle.solver.proofs.Reply.{refused-solved, structure-solved}
+use Rattle.solver.proofs.Reply.{structure-solved}
 use borrow.Author.Needs.{needs}
 use Rattle.solver.proofs.solve.Statement.{statement}
 use Rattle.solver.proofs.solve.Tie as tie

@@ -1,7 +1,7 @@
 use Rattle.wcet.specs.Table.{Routine}
 use native.Mathlib.Omega.{arith}
 use Prim.Native.Nat.{ℕ, _≤_, _<_, _-_}
-use mathlib.Core.Path.{_≡_, sym, _∙_}
+use mathlib.Core.Path.{_≡_, _∙_}
 use mathlib.Core.List.{List, []}
 use lib.ListN.{length, getD, length-set}
 use Rattle.limits.specs.Limits.{mostBlocks}
