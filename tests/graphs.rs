@@ -5,7 +5,7 @@ use crate::random::Random;
 use crate::reference::{Blocks, Loops, MISSING};
 
 /// A pair of tables.
-#[derive(Clone, Debug, Default)]
+#[derive(Clone, Debug, Default, PartialEq, Eq)]
 pub struct Tables {
     pub blocks: Blocks,
     pub loops: Loops,
