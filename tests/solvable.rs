@@ -60,7 +60,7 @@ impl Solved<'_> {
 }
 
 /// The blocks of which `wanted` holds that `start` leads to, by such blocks.
-fn reached(blocks: &Blocks, start: usize, wanted: impl Fn(usize) -> bool) -> Vec<bool> {
+pub fn reached(blocks: &Blocks, start: usize, wanted: impl Fn(usize) -> bool) -> Vec<bool> {
     let mut reached = vec![false; blocks.cost.len()];
     let mut waiting = vec![start];
     while let Some(u) = waiting.pop() {
