@@ -30,9 +30,13 @@ const NUMBERS: [u32; 27] = [
 ];
 /// The readers' replies that depend on line ends: number and more. Each is wanted from both readers, with and without a header row.
 const LINE_ENDS: [(&str, u32, u64); 4] = [("CR LF", 0, 0), ("LF", 0, 1), ("text", 0, 2), ("108", 108, 0)];
-/// What is tried on solved tables where it can be: all runs and rounds are searched, a run that costs the bound is walked, the bound is
-/// compared with that of a certificate which was made otherwise. The last: that bound was greater.
-const TRIED: [&str; 4] = ["searched", "walked at the cost of the bound", "with another accepted certificate", "with an accepted certificate of a greater bound"];
+/// What is tried on solved tables where it can be.
+const TRIED: [&str; 4] = [
+    "all runs and rounds searched",
+    "a run that costs the bound walked",
+    "another certificate accepted",
+    "another certificate accepted with a greater bound",
+];
 const SEARCHED: usize = 0;
 const WALKED: usize = 1;
 const OTHER: usize = 2;

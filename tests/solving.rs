@@ -28,7 +28,7 @@ pub fn solve(blocks: &Blocks, loops: &Loops) -> Result<Certificate, Refusal> {
         return reference::refuse(402, 0);
     }
     // every block has a path to the exit, so every figure is there
-    let figure: Vec<i128> = graph.ways_out(|_, _| true).longest.into_iter().map(Option::unwrap).collect();
+    let figure: Vec<i128> = graph.to_exit(|_, _| true).longest.into_iter().map(Option::unwrap).collect();
     if figure.iter().any(|figure| *figure < -(1 << 60) || *figure > 1 << 60) {
         return reference::refuse(403, 0);
     }
@@ -47,7 +47,7 @@ pub fn live_bound(blocks: &Blocks, loops: &Loops) -> Option<i128> {
     let around = reference::shape(blocks, loops).expect("good tables");
     let mut graph = Graph::new(blocks, loops, around);
     assert!(graph.make_multipliers(), "a multiplier over 2^40");
-    graph.ways_out(|_, _| true).longest[0].map(|figure| i128::from(blocks.cost[0]) + figure)
+    graph.to_exit(|_, _| true).longest[0].map(|figure| i128::from(blocks.cost[0]) + figure)
 }
 
 /// A finished counted run that costs the bound, by tables that the solver accepts; None if it has more than `most` blocks.
@@ -55,25 +55,25 @@ pub fn costly_run(blocks: &Blocks, loops: &Loops, most: usize) -> Option<Vec<u16
     let around = reference::shape(blocks, loops).expect("good tables");
     let mut graph = Graph::new(blocks, loops, around);
     assert!(graph.make_multipliers(), "a multiplier over 2^40");
-    // from block 0 back edges gain nothing: their loop is entered before, with the cost of all its rounds
-    let ways = graph.ways_out(|u, v| !graph.returns(u, v));
+    // from block 0 a back edge gains nothing: the weight of the edge that entered its loop has the cost of all rounds
+    let paths = graph.to_exit(|u, v| !graph.back_edge(u, v));
     let mut run = vec![0];
-    graph.follow(&ways, 0, most, &mut run)?;
+    graph.follow(&paths, 0, most, &mut run)?;
     Some(run)
 }
 
-/// Edges to follow to an end. There the block `last` stands.
-struct Ways {
+/// The paths along some edges to an end, where the block `last` stands.
+struct Paths {
     edges: Vec<Edge>,
     end: usize,
     last: usize,
-    /// For each block the greatest weight of a walk to the end; None if there is none.
+    /// For each block the greatest weight of a path to the end; None if there is none.
     longest: Vec<Option<i128>>,
 }
 
-impl Ways {
-    /// The ways of these edges, on which no closed walk gains.
-    fn new(edges: Vec<Edge>, count: usize, end: usize, last: usize) -> Ways {
+impl Paths {
+    /// Relaxes all edges until nothing changes. No cycle of them may have a weight over 0.
+    fn new(edges: Vec<Edge>, count: usize, end: usize, last: usize) -> Paths {
         let mut longest = vec![None; count];
         longest[end] = Some(0);
         let mut changed = true;
@@ -88,7 +88,7 @@ impl Ways {
                 }
             }
         }
-        Ways { edges, end, last, longest }
+        Paths { edges, end, last, longest }
     }
 }
 
@@ -124,8 +124,8 @@ impl<'a> Graph<'a> {
         self.around[u].contains(&l)
     }
 
-    /// Whether an edge from `u` to `v` goes to the header of a loop that `u` is inside.
-    fn returns(&self, u: usize, v: usize) -> bool {
+    /// Whether the edge from `u` to `v` is a back edge: `v` is the header of a loop that `u` is inside.
+    fn back_edge(&self, u: usize, v: usize) -> bool {
         self.heads[v].is_some_and(|l| self.inside(u, l))
     }
 
@@ -151,7 +151,7 @@ impl<'a> Graph<'a> {
 
     /// The rounds of loop `l`, to its header once more. An inner loop is entered at most once in a round, and its header is visited as often
     /// as its limit allows: the edge that enters it has the cost of all its rounds, and its back edges are left out.
-    fn rounds(&self, l: usize) -> Ways {
+    fn rounds(&self, l: usize) -> Paths {
         let (header, end) = (self.header(l), self.blocks.cost.len());
         let mut edges = Vec::new();
         for (u, v) in &self.edges {
@@ -160,11 +160,11 @@ impl<'a> Graph<'a> {
             }
             if *v == header {
                 edges.push((*u, end, self.cost(*v)));
-            } else if !self.returns(*u, *v) {
+            } else if !self.back_edge(*u, *v) {
                 edges.push((*u, *v, self.weight(*u, *v)));
             }
         }
-        Ways::new(edges, end + 1, end, header)
+        Paths::new(edges, end + 1, end, header)
     }
 
     /// Makes the multipliers, inner loops first; false as soon as one is over 2^40.
@@ -178,22 +178,22 @@ impl<'a> Graph<'a> {
         true
     }
 
-    /// The ways to the exit. The smallest figure of a block, with the exit's at 0, is the greatest weight from it; a block without a way may
-    /// have any figure.
-    fn ways_out(&self, wanted: impl Fn(usize, usize) -> bool) -> Ways {
+    /// The paths to the exit along wanted edges. Along all edges the greatest weight from a block is its smallest figure, with the exit's at 0; a
+    /// block without a path may have any figure.
+    fn to_exit(&self, wanted: impl Fn(usize, usize) -> bool) -> Paths {
         let last = self.blocks.cost.len() - 1;
         let edges = self.edges.iter().filter(|(u, v)| wanted(*u, *v)).map(|(u, v)| (*u, *v, self.weight(*u, *v))).collect();
-        Ways::new(edges, last + 1, last, last)
+        Paths::new(edges, last + 1, last, last)
     }
 
-    /// Adds a path of the greatest weight from `u` to the end of these ways, without `u`. On it the limits are used up, so that its cost is
-    /// that weight. None if the run would have more than `most` blocks.
-    fn follow(&self, ways: &Ways, mut u: usize, most: usize, run: &mut Vec<u16>) -> Option<()> {
-        while u != ways.end {
-            let heaviest = |(from, v, weight): &&Edge| *from == u && ways.longest[*v].map(|rest| rest + weight) == ways.longest[u];
-            u = ways.edges.iter().find(heaviest).expect("an edge of the greatest weight").1;
-            if u == ways.end {
-                run.push(ways.last as u16);
+    /// Adds a path of the greatest weight from `u` on, without `u`, and at each header as many rounds as the limit allows: then the cost is that
+    /// weight. The edges have no cycle. None if the run would have more than `most` blocks.
+    fn follow(&self, paths: &Paths, mut u: usize, most: usize, run: &mut Vec<u16>) -> Option<()> {
+        while u != paths.end {
+            let heaviest = |(from, v, weight): &&Edge| *from == u && paths.longest[*v].map(|rest| rest + weight) == paths.longest[u];
+            u = paths.edges.iter().find(heaviest).expect("an edge of the greatest weight").1;
+            if u == paths.end {
+                run.push(paths.last as u16);
                 break;
             }
             run.push(u as u16);
