@@ -277,6 +277,10 @@ fn part(seed: u64, rounds: usize) -> Tally {
             let heavy = solvable::heavy(&mut solving);
             solve(&mut bench, &mut tally, &mut solving, &heavy, None);
         }
+        if round % 400 == 0 {
+            let large = graphs::large(&mut solving);
+            solve(&mut bench, &mut tally, &mut solving, &large, None);
+        }
     }
     tally
 }

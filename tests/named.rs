@@ -54,10 +54,17 @@ impl Tester<'_> {
         self.expect(name, wanted, outcome);
     }
 
-    /// A table that the solver refuses.
+    /// A table that the solver refuses, also with other figures and multipliers where the given ones are not the reason.
     fn unsolved(&mut self, name: &str, tables: &Tables, number: u32, place: u32) {
         let outcome = self.bench.solve(tables).map(|(reply, _)| reply);
         self.expect(name, Refused(number, place), outcome);
+        if number >= 204 {
+            let mut other = tables.clone();
+            other.blocks.figure.iter_mut().zip(1..).for_each(|(figure, new)| *figure = new);
+            other.loops.multiplier.iter_mut().skip(1).zip(1..).for_each(|(multiplier, new)| *multiplier = new);
+            let outcome = self.bench.solve(&other).map(|(reply, _)| reply);
+            self.expect(&format!("{name}, with other figures and multipliers"), Refused(number, place), outcome);
+        }
     }
 
     /// A table with the bound, the figures and the multipliers that the solver makes. What it made is accepted, and unless it is too long for a
@@ -1199,6 +1206,12 @@ fn solver_limits(t: &mut Tester) {
         x.blocks.cost[first] = 1;
     });
     t.unsolved("solver: a multiplier of 2^40 + 1 in an unreachable loop", &unreachable, 402, 0);
+    let apart = changed(&[1], |x, first, last| {
+        past(x, last);
+        x.blocks.first[1] = last as u16;
+        x.blocks.cost[first] = 1;
+    });
+    t.unsolved("solver: a multiplier of 2^40 + 1 in a loop that no edge enters", &apart, 402, 0);
     t.unsolved("solver: a multiplier over 2^240", &deepest(1_000_000, 65_535), 402, 0);
     t.unsolved("solver: a multiplier over 2^128", &deepest(1, 1000), 402, 0);
     t.unsolved("solver: a multiplier over 2^64", &deepest(1 << 18, 16), 402, 0);

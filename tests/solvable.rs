@@ -11,7 +11,7 @@ const MOST_COST: u64 = 1_000_000;
 const MOST_LIMIT: u64 = 65_535;
 
 /// What is wanted of the tables that the solver made.
-pub const KINDS: [(&str, fn(&Solved) -> bool); 9] = [
+pub const KINDS: [(&str, fn(&Solved) -> bool); 12] = [
     ("a loop without a round", |s| s.any_loop(|l| !s.has_round(l))),
     ("a loop with a round that costs nothing", |s| s.any_loop(|l| s.multiplier(l) == 0 && s.has_round(l))),
     ("rounds through an inner loop", |s| s.any_loop(|l| s.multiplier(l) > 0 && s.multiplier(usize::from(s.tables.loops.parent[l])) > 0)),
@@ -21,6 +21,9 @@ pub const KINDS: [(&str, fn(&Solved) -> bool); 9] = [
     ("a figure below 0", |s| s.tables.blocks.figure.iter().any(|figure| *figure < 0)),
     ("the exit inside a loop", |s| s.tables.blocks.inner[s.reached.len() - 1] != 0),
     ("the exit as a header", |s| s.any_loop(|l| usize::from(s.tables.loops.header[l]) == s.reached.len() - 1)),
+    ("500 blocks and more", |s| s.reached.len() >= 500),
+    ("64 loops", |s| s.tables.loops.parent.len() == 64),
+    ("16 loops around a header", |s| s.any_loop(|l| s.depth(l) == 16)),
 ];
 
 /// Solved tables, and the blocks that block 0 leads to.
@@ -41,6 +44,11 @@ impl Solved<'_> {
 
     fn multiplier(&self, l: usize) -> u64 {
         self.tables.loops.multiplier[l]
+    }
+
+    /// The number of loops around the header of `l`.
+    fn depth(&self, l: usize) -> usize {
+        if l == 0 { 1 } else { 1 + self.depth(usize::from(self.tables.loops.parent[l])) }
     }
 
     /// Whether the header of `l` leads back to itself by blocks of the loop.
@@ -169,7 +177,9 @@ pub fn small(random: &mut Random) -> Tables {
     random.shuffle(&mut order);
     order.insert(0, 0);
     order.push(exit);
-    renumbered(random, &g.tables, &order)
+    let mut tables = renumbered(random, &g.tables, &order);
+    scramble(random, &mut tables);
+    tables
 }
 
 /// Adds a loop after the block `open` whose round costs `round` and whose header, which costs nothing, is the last block on the way out: to
@@ -223,7 +233,7 @@ pub fn heavy(random: &mut Random) -> Tables {
     let exit = g.block(cost, 0);
     g.edge(open, exit);
     let n = exit + 1;
-    // now and then a block without a path to the exit, or one that names itself
+    // now and then a block without a path to the exit, one that names itself, or no way into the first loops
     match random.below(12) {
         0 => {
             let u = random.range(1, n - 2);
@@ -234,6 +244,10 @@ pub fn heavy(random: &mut Random) -> Tables {
             let u = random.range(1, n - 2);
             g.tables.blocks.second[u] = u as u16;
         }
+        2 | 3 => {
+            let outer: Vec<u16> = (1..g.tables.loops.parent.len()).step_by(3).map(|l| g.tables.loops.header[l]).collect();
+            g.tables.blocks.first[0] = if random.once_in(4) { exit as u16 } else { random.pick(&outer) };
+        }
         _ => {}
     }
     let mut order: Vec<usize> = (1..n - 1).collect();
@@ -242,7 +256,9 @@ pub fn heavy(random: &mut Random) -> Tables {
     }
     order.insert(0, 0);
     order.push(exit);
-    renumbered(random, &g.tables, &order)
+    let mut tables = renumbered(random, &g.tables, &order);
+    scramble(random, &mut tables);
+    tables
 }
 
 /// The blocks in this order, and the loops in some order in which each stands after its parent.
@@ -281,7 +297,7 @@ fn renumbered(random: &mut Random, tables: &Tables, order: &[usize]) -> Tables {
     }
 }
 
-/// Puts any figures and multipliers that keep 202 and 203 in place of the given ones.
+/// Puts any figures and multipliers that keep 202 and 203 in place of those that are there.
 pub fn scramble(random: &mut Random, tables: &mut Tables) {
     for figure in &mut tables.blocks.figure {
         let any = (random.next() >> 4) as i64 - (1 << 59);
