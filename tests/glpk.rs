@@ -34,11 +34,11 @@ enum Kind {
     Stuck,
 }
 const KINDS: [(Kind, &str, usize); 5] = [
-    (Kind::FewLoops, "solved, with one loop from 1 up or none", 100),
-    (Kind::ManyLoops, "solved, with more loops", 200),
-    (Kind::Unreachable, "solved, with unreachable blocks", 100),
-    (Kind::NoPath, "401 at 0, and the program has no solution", 40),
-    (Kind::Stuck, "401 at another block, and the program has one", 40),
+    (Kind::FewLoops, "solved, with one loop from 1 up or none", 200),
+    (Kind::ManyLoops, "solved, with more loops", 400),
+    (Kind::Unreachable, "solved, with unreachable blocks", 200),
+    (Kind::NoPath, "401 at 0, and the program has no solution", 100),
+    (Kind::Stuck, "401 at another block, and the program has one", 100),
 ];
 /// The most blocks of a program, and the bounds that glpsol writes with all their digits.
 const MOST_BLOCKS: usize = 150;
@@ -144,9 +144,11 @@ fn check(tables: &Tables) -> Reply {
     })
 }
 
-/// The kind of a routine, or None if it is not for a program: tables that break a rule, or numbers that may be too large.
+/// The kind of a routine, or None if it is not for a program: tables that break a rule, numbers that may be too large, or no edges, where
+/// glpsol says nothing.
 fn kind(tables: &Tables, reply: Reply) -> Option<Kind> {
     match reply.number {
+        _ if graphs::edges(&tables.blocks).is_empty() => None,
         0 if i128::from(reply.value) >= MOST_BOUND => None,
         0 if solvable::reached(&tables.blocks, 0, |_| true).contains(&false) => Some(Kind::Unreachable),
         0 => Some(if tables.loops.parent.len() > 2 { Kind::ManyLoops } else { Kind::FewLoops }),
