@@ -49,14 +49,15 @@ extern "C" {
 #define ROLKEYDA_STACK_READ_LOOPS 12288u
 #define ROLKEYDA_STACK_CHECK 12288u
 #define ROLKEYDA_STACK_WALK 8192u
+#define ROLKEYDA_STACK_SOLVE 32768u
 
 /*
  * The reply of every function (`Reply` in the crate).
  *
  * number   0: accepted. Else the number of the first rule that is broken:
- *          101 to 106 and 108 for a text, 201 to 209 for a pair of tables, 301 to 303 and 311 to 314 for a walk.
- * place    where: the record of a text (the first is 1), the block or loop of a table (0 for 201 and 209), the index in a walk. 0 when
- *          accepted.
+ *          101 to 106 and 108 for a text, 201 to 209 for a pair of tables, 301 to 303 and 311 to 314 for a walk, 401 to 403 for the solver.
+ * place    where: the record of a text (the first is 1), the block or loop of a table (0 for 201, 209, 402 and 403), the index in a walk.
+ *          0 when accepted.
  * value    when accepted: the count of rows, the bound, or the cost. Else 0.
  * more     when a text is accepted: the line end of record 1, a header included (ROLKEYDA_CR_LF, ROLKEYDA_LF or ROLKEYDA_END_OF_TEXT).
  *          When a walk is accepted: its steps, the length less one. Else 0.
@@ -133,6 +134,23 @@ rolkeyda_reply rolkeyda_walk(
     const uint32_t *limit, size_t limit_length,
     const uint64_t *multiplier, size_t multiplier_length,
     const uint16_t *blocks, size_t blocks_length);
+
+/*
+ * Makes the figures and the multipliers of a pair of tables that keep rules 201 to 207 and 209; the given ones must keep 202 and 203 and do
+ * not count otherwise (208 is not checked). Accepted: the two columns hold a certificate that rolkeyda_check accepts, and `value` is its bound,
+ * which some counted run from block 0 to the last block costs. Refused: neither column is changed. 401 where a block has no path to the
+ * last block, 402 where a multiplier passes 2^40, 403 where a figure passes 2^60. Stack: ROLKEYDA_STACK_SOLVE.
+ */
+rolkeyda_reply rolkeyda_solve(
+    const uint32_t *cost, size_t cost_length,
+    const uint16_t *loops, size_t loops_length,
+    const uint16_t *first, size_t first_length,
+    const uint16_t *second, size_t second_length,
+    int64_t *figure, size_t figure_length,
+    const uint16_t *parent, size_t parent_length,
+    const uint16_t *header, size_t header_length,
+    const uint32_t *limit, size_t limit_length,
+    uint64_t *multiplier, size_t multiplier_length);
 
 #ifdef __cplusplus
 }

@@ -40,6 +40,14 @@ extern "C" {
         limit: *const u32, limit_length: usize, multiplier: *const u64, multiplier_length: usize,
         blocks: *const u16, blocks_length: usize,
     ) -> Reply;
+
+    fn rolkeyda_solve(
+        cost: *const u32, cost_length: usize, inner: *const u16, inner_length: usize,
+        first: *const u16, first_length: usize, second: *const u16, second_length: usize,
+        figure: *mut i64, figure_length: usize,
+        parent: *const u16, parent_length: usize, header: *const u16, header_length: usize,
+        limit: *const u32, limit_length: usize, multiplier: *mut u64, multiplier_length: usize,
+    ) -> Reply;
 }
 
 /// The nine columns of a pair of tables.
@@ -104,6 +112,21 @@ pub fn walk(c: Columns, blocks: &[u16]) -> Reply {
             c.parent.as_ptr(), c.parent.len(), c.header.as_ptr(), c.header.len(),
             c.limit.as_ptr(), c.limit.len(), c.multiplier.as_ptr(), c.multiplier.len(),
             blocks.as_ptr(), blocks.len(),
+        )
+    }
+}
+
+pub fn solve(
+    cost: &[u32], inner: &[u16], first: &[u16], second: &[u16], figure: &mut [i64],
+    parent: &[u16], header: &[u16], limit: &[u32], multiplier: &mut [u64],
+) -> Reply {
+    unsafe {
+        rolkeyda_solve(
+            cost.as_ptr(), cost.len(), inner.as_ptr(), inner.len(),
+            first.as_ptr(), first.len(), second.as_ptr(), second.len(),
+            figure.as_mut_ptr(), figure.len(),
+            parent.as_ptr(), parent.len(), header.as_ptr(), header.len(),
+            limit.as_ptr(), limit.len(), multiplier.as_mut_ptr(), multiplier.len(),
         )
     }
 }

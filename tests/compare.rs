@@ -5,6 +5,7 @@ use crate::graphs::Tables;
 use crate::lent::Yard;
 use crate::random::Random;
 use crate::reference::{self, Refusal};
+use crate::solving;
 use crate::texts::{Case, Table};
 
 /// The memory that is lent, and the generator for old contents and places.
@@ -158,5 +159,31 @@ impl Bench {
         self.kept(tables)?;
         unchanged(self.list.holds(list), "the walk")?;
         agree(reply(wanted), given)
+    }
+
+    /// The reply, and the tables as they are then: with the two columns that the solver made, or as they were.
+    pub fn solve(&mut self, tables: &Tables) -> Result<(Reply, Tables), String> {
+        let made = solving::solve(&tables.blocks, &tables.loops);
+        let wanted = made.as_ref().map(|made| (made.bound, 0)).map_err(|refusal| *refusal);
+        let mut after = tables.clone();
+        if let Ok(made) = made {
+            (after.blocks.figure, after.loops.multiplier) = (made.figure, made.multiplier);
+        }
+        let Bench { columns, random, .. } = self;
+        let Tables { blocks, loops } = tables;
+        let given = abi::solve(
+            columns[0].lend(&blocks.cost, random),
+            columns[1].lend(&blocks.inner, random),
+            columns[2].lend(&blocks.first, random),
+            columns[3].lend(&blocks.second, random),
+            columns[4].lend(&blocks.figure, random),
+            columns[5].lend(&loops.parent, random),
+            columns[6].lend(&loops.header, random),
+            columns[7].lend(&loops.limit, random),
+            columns[8].lend(&loops.multiplier, random),
+        );
+        agree(reply(wanted), given)?;
+        self.kept(&after)?;
+        Ok((given, after))
     }
 }

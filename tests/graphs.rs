@@ -5,7 +5,7 @@ use crate::random::Random;
 use crate::reference::{Blocks, Loops, MISSING};
 
 /// A pair of tables.
-#[derive(Clone, Debug, Default)]
+#[derive(Clone, Debug, Default, PartialEq, Eq)]
 pub struct Tables {
     pub blocks: Blocks,
     pub loops: Loops,
@@ -247,6 +247,16 @@ fn plan(random: &mut Random) -> Plan {
 pub fn routine(random: &mut Random) -> Tables {
     let plan = plan(random);
     let cycles = random.once_in(8);
+    planned(random, plan, cycles)
+}
+
+/// A large routine without cycles that no loop declares, unless odd edges close some.
+pub fn large(random: &mut Random) -> Tables {
+    let plan = Plan { blocks: random.range(500, 1024), exact: true, loops: random.range(2, 64), nest: random.pick(&[0, 0, 15]) };
+    planned(random, plan, false)
+}
+
+fn planned(random: &mut Random, plan: Plan, cycles: bool) -> Tables {
     let mut b = Builder {
         random,
         successors: vec![Vec::new()],

@@ -9,6 +9,9 @@ mod lent;
 mod named;
 mod random;
 mod reference;
+mod searching;
+mod solvable;
+mod solving;
 mod texts;
 
 use compare::Bench;
@@ -18,10 +21,29 @@ use std::collections::BTreeMap;
 use std::sync::atomic::{AtomicU64, Ordering};
 use texts::{Case, Table};
 
-const FUNCTIONS: [&str; 4] = ["read_blocks", "read_loops", "check", "walk"];
-const NUMBERS: [u32; 24] = [0, 101, 102, 103, 104, 105, 106, 108, 201, 202, 203, 204, 205, 206, 207, 208, 209, 301, 302, 303, 311, 312, 313, 314];
+const FUNCTIONS: [&str; 5] = ["read_blocks", "read_loops", "check", "walk", "solve"];
+const CHECK: usize = 2;
+const WALK: usize = 3;
+const SOLVE: usize = 4;
+const NUMBERS: [u32; 27] = [
+    0, 101, 102, 103, 104, 105, 106, 108, 201, 202, 203, 204, 205, 206, 207, 208, 209, 301, 302, 303, 311, 312, 313, 314, 401, 402, 403,
+];
 /// The readers' replies that depend on line ends: number and more. Each is wanted from both readers, with and without a header row.
 const LINE_ENDS: [(&str, u32, u64); 4] = [("CR LF", 0, 0), ("LF", 0, 1), ("text", 0, 2), ("108", 108, 0)];
+/// What is tried on solved tables where it can be.
+const TRIED: [&str; 4] = [
+    "all runs and rounds searched",
+    "a run that costs the bound walked",
+    "another certificate accepted",
+    "another certificate accepted with a greater bound",
+];
+const SEARCHED: usize = 0;
+const WALKED: usize = 1;
+const OTHER: usize = 2;
+const GREATER: usize = 3;
+/// The most states of a search, and the longest run that is walked.
+const MOST_STATES: u64 = 3000;
+const LONGEST_RUN: usize = 4096;
 const PARTS: u64 = 64;
 const ROUNDS: usize = 800;
 const OFTEN: u64 = 100;
@@ -36,6 +58,9 @@ pub struct Tally {
     reads: BTreeMap<(u32, u64, usize, bool), u64>,
     /// The checked tables of each kind of `cycles::KINDS`.
     graphs: [u64; cycles::KINDS.len()],
+    /// The solved tables of each kind of `solvable::KINDS`, and those that were tried in each way of `TRIED`.
+    solved: [u64; solvable::KINDS.len()],
+    tried: [u64; TRIED.len()],
     failures: Vec<String>,
 }
 
@@ -81,7 +106,8 @@ impl Tally {
         for (key, count) in other.reads {
             *self.reads.entry(key).or_default() += count;
         }
-        for (sum, count) in self.graphs.iter_mut().zip(other.graphs) {
+        let sums = self.graphs.iter_mut().chain(&mut self.solved).chain(&mut self.tried);
+        for (sum, count) in sums.zip(other.graphs.into_iter().chain(other.solved).chain(other.tried)) {
             *sum += count;
         }
         self.failures.extend(other.failures);
@@ -149,12 +175,77 @@ fn read(bench: &mut Bench, tally: &mut Tally, case: &Case) {
     tally.count(function, outcome, || shown);
 }
 
+/// Whether the solver's certificate holds what request 3 promises, as far as that can be tried on these tables without it. `given` is the bound
+/// of the certificate that they had, if it was accepted.
+fn promised(tally: &mut Tally, made: &Tables, bound: i64, given: Option<i64>) -> Result<(), String> {
+    if let Some(given) = given {
+        tally.tried[OTHER] += 1;
+        tally.tried[GREATER] += u64::from(given > bound);
+        if given < bound {
+            return Err(format!("the bound is {bound}, and an accepted certificate gives {given}"));
+        }
+    }
+    if !searching::smallest(made) {
+        return Err("a figure breaks an inequality or could be smaller".to_string());
+    }
+    if searching::states(made) > MOST_STATES {
+        return Ok(());
+    }
+    tally.tried[SEARCHED] += 1;
+    let most = searching::most_of_a_run(made);
+    if most != Some(bound) {
+        return Err(format!("the bound is {bound}, and the greatest cost of a finished counted run is {most:?}"));
+    }
+    for l in 1..made.loops.parent.len() {
+        let (multiplier, most) = (made.loops.multiplier[l], searching::most_of_a_round(made, l));
+        if i128::from(multiplier) != most.unwrap_or(0).into() {
+            return Err(format!("the multiplier of loop {l} is {multiplier}, and the greatest cost of a round is {most:?}"));
+        }
+    }
+    Ok(())
+}
+
+/// Solves tables. What the solver made is accepted with the same bound, is made again from itself and from any other values, and some run costs
+/// the bound. Gives back the bound.
+fn solve(bench: &mut Bench, tally: &mut Tally, random: &mut Random, tables: &Tables, given: Option<i64>) -> Option<i64> {
+    let outcome = bench.solve(tables);
+    let Some((reply, made)) = outcome.clone().ok().filter(|(reply, _)| reply.number == 0) else {
+        tally.count(SOLVE, outcome.map(|(reply, _)| reply), || show_tables(tables));
+        return None;
+    };
+    let solved = solvable::Solved::new(&made);
+    for (count, (_, is)) in tally.solved.iter_mut().zip(solvable::KINDS) {
+        *count += u64::from(is(&solved));
+    }
+    let outcome = promised(tally, &made, reply.value, given).map(|()| reply);
+    tally.count(SOLVE, outcome, || show_tables(&made));
+    let same = |again: abi::Reply| if again == reply { Ok(again) } else { Err(format!("{again:?}, where the solver said {reply:?}")) };
+    tally.count(CHECK, bench.check(&made).and_then(same), || show_tables(&made));
+    let mut other = made.clone();
+    solvable::scramble(random, &mut other);
+    for tables in [&made, &other] {
+        let again = bench.solve(tables).and_then(|(again, after)| if after == made { same(again) } else { Err("other columns".to_string()) });
+        tally.count(SOLVE, again, || show_tables(tables));
+    }
+    if let Some(run) = solving::costly_run(&made.blocks, &made.loops, LONGEST_RUN) {
+        tally.tried[WALKED] += 1;
+        let walked = bench.walk(&made, &run).and_then(|walked| match (walked.number, walked.value) {
+            (0, cost) if cost == reply.value => Ok(walked),
+            _ => Err(format!("{walked:?}, where the bound is {}", reply.value)),
+        });
+        tally.count(WALK, walked, || format!("{}\n  walk {run:?}", show_tables(&made)));
+    }
+    Some(reply.value)
+}
+
 /// The cases of one seed.
 fn part(seed: u64, rounds: usize) -> Tally {
     let mut random = Random::new(seed);
     let mut bench = Bench::new(!seed);
     let mut tally = Tally::default();
-    for _ in 0..rounds {
+    // the solver's cases have a generator of their own
+    let mut solving = Random::new(seed + (1 << 32));
+    for round in 0..rounds {
         for table in [Table::Blocks, Table::Loops] {
             let case = texts::case(&mut random, table);
             read(&mut bench, &mut tally, &case);
@@ -169,14 +260,26 @@ fn part(seed: u64, rounds: usize) -> Tally {
         }
         // most walks on tables that are good for walks
         let walks = if checked.as_ref().is_ok_and(|reply| (201..208).contains(&reply.number)) { 1 } else { 4 };
-        tally.count(2, checked, || show_tables(&tables));
+        tally.count(CHECK, checked, || show_tables(&tables));
+        // the solver's bound is no greater
+        let bound = solve(&mut bench, &mut tally, &mut solving, &tables, bound).or(bound);
         for _ in 0..walks {
             let list = graphs::walk(&mut random, &tables);
             let outcome = bench.walk(&tables, &list).and_then(|reply| match bound {
                 Some(bound) if reply.number == 0 && reply.value > bound => Err(format!("cost {} over the bound {bound}", reply.value)),
                 _ => Ok(reply),
             });
-            tally.count(3, outcome, || format!("{}\n  walk {list:?}", show_tables(&tables)));
+            tally.count(WALK, outcome, || format!("{}\n  walk {list:?}", show_tables(&tables)));
+        }
+        let small = solvable::small(&mut solving);
+        solve(&mut bench, &mut tally, &mut solving, &small, None);
+        if round % 20 == 0 {
+            let heavy = solvable::heavy(&mut solving);
+            solve(&mut bench, &mut tally, &mut solving, &heavy, None);
+        }
+        if round % 400 == 0 {
+            let large = graphs::large(&mut solving);
+            solve(&mut bench, &mut tally, &mut solving, &large, None);
         }
     }
     tally
@@ -204,18 +307,22 @@ fn cases(parts: u64) -> Vec<Tally> {
 
 /// Prints how often the cases reached each reply and each kind of table, and tests that this is often enough.
 fn report(tally: &mut Tally) {
-    println!("reply  {:>12} {:>12} {:>12} {:>12}", FUNCTIONS[0], FUNCTIONS[1], FUNCTIONS[2], FUNCTIONS[3]);
+    let cells = |counts: &[u64]| counts.iter().map(|count| format!(" {count:>12}")).collect::<String>();
+    println!("reply {}", FUNCTIONS.map(|name| format!(" {name:>12}")).concat());
     for number in NUMBERS {
-        let counts: Vec<u64> = (0..4).map(|function| tally.replies.get(&(number, function)).copied().unwrap_or(0)).collect();
-        println!("{number:>5}  {:>12} {:>12} {:>12} {:>12}", counts[0], counts[1], counts[2], counts[3]);
-        let sum: u64 = counts.iter().sum();
-        tally.often(&format!("reply {number}"), sum);
+        let counts: Vec<u64> = (0..FUNCTIONS.len()).map(|function| tally.replies.get(&(number, function)).copied().unwrap_or(0)).collect();
+        println!("{number:>5} {}", cells(&counts));
+        tally.often(&format!("reply {number}"), counts.iter().sum());
+        // the solver gives these
+        if matches!(number, 0 | 201..=207 | 209 | 401..=403) {
+            tally.often(&format!("reply {number} of solve"), counts[SOLVE]);
+        }
     }
     println!("the readers by line end, each without and with a header row");
     for (name, number, more) in LINE_ENDS {
         let kinds = [(0, false), (0, true), (1, false), (1, true)];
         let counts = kinds.map(|(function, header_row)| tally.reads.get(&(number, more, function, header_row)).copied().unwrap_or(0));
-        println!("{name:>5}  {:>12} {:>12} {:>12} {:>12}", counts[0], counts[1], counts[2], counts[3]);
+        println!("{name:>5} {}", cells(&counts));
         for ((function, header_row), count) in kinds.into_iter().zip(counts) {
             tally.often(&format!("{}, header row {header_row}, {name}", FUNCTIONS[function]), count);
         }
@@ -224,6 +331,12 @@ fn report(tally: &mut Tally) {
     for ((number, name, _), count) in cycles::KINDS.into_iter().zip(tally.graphs) {
         println!("{number:>5}  {count:>12} {name}");
         tally.often(&format!("reply {number} {name}"), count);
+    }
+    println!("the solved tables by what they have, and by what was tried");
+    let names = solvable::KINDS.into_iter().map(|(name, _)| name).chain(TRIED);
+    for (name, count) in names.zip(tally.solved.into_iter().chain(tally.tried)) {
+        println!("       {count:>12} {name}");
+        tally.often(&format!("solved: {name}"), count);
     }
 }
 

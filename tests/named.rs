@@ -1,10 +1,11 @@
 //! Named tests: the marked cases of document 01, each sentence of its "Plausible and wrong", the edges of its rules, and of document 02 the
-//! line ends of request 1 and the closed walks of request 2.
+//! line ends of request 1, the closed walks of request 2 and the solver of request 3.
 
 use crate::cycles::Graph;
 use crate::compare::Bench;
 use crate::graphs::Tables;
 use crate::reference::{self, MISSING};
+use crate::solving;
 use crate::texts::{mixtures, Case, Table};
 use crate::Tally;
 
@@ -52,6 +53,37 @@ impl Tester<'_> {
         let outcome = self.bench.walk(tables, list);
         self.expect(name, wanted, outcome);
     }
+
+    /// A table that the solver refuses, also with other figures and multipliers where the given ones are not the reason.
+    fn unsolved(&mut self, name: &str, tables: &Tables, number: u32, place: u32) {
+        let outcome = self.bench.solve(tables).map(|(reply, _)| reply);
+        self.expect(name, Refused(number, place), outcome);
+        if number >= 204 {
+            let mut other = tables.clone();
+            other.blocks.figure.iter_mut().zip(1..).for_each(|(figure, new)| *figure = new);
+            other.loops.multiplier.iter_mut().skip(1).zip(1..).for_each(|(multiplier, new)| *multiplier = new);
+            let outcome = self.bench.solve(&other).map(|(reply, _)| reply);
+            self.expect(&format!("{name}, with other figures and multipliers"), Refused(number, place), outcome);
+        }
+    }
+
+    /// A table with the bound, the figures and the multipliers that the solver makes. What it made is accepted, and unless it is too long for a
+    /// walk some run costs the bound.
+    fn solve(&mut self, name: &str, tables: &Tables, bound: i64, figures: &[i64], multipliers: &[u64]) {
+        let outcome = self.bench.solve(tables);
+        let made = outcome.as_ref().map_or_else(|_| tables.clone(), |(_, made)| made.clone());
+        self.expect(name, Accepted(bound, 0), outcome.map(|(reply, _)| reply));
+        let columns = if made.blocks.figure == figures && made.loops.multiplier == multipliers {
+            Ok(())
+        } else {
+            Err(format!("figures {:?}, multipliers {:?}", made.blocks.figure, made.loops.multiplier))
+        };
+        self.tally.test(&format!("{name}, its columns"), columns);
+        self.check(&format!("{name}, checked"), &made, Accepted(bound, 0));
+        if let Some(run) = solving::costly_run(&made.blocks, &made.loops, 1_048_576) {
+            self.walk(&format!("{name}, a run that costs the bound"), &made, &run, Accepted(bound, run.len() as u64 - 1));
+        }
+    }
 }
 
 pub fn all(tally: &mut Tally) {
@@ -67,6 +99,11 @@ pub fn all(tally: &mut Tally) {
     small_graphs(&mut tester);
     walks(&mut tester);
     cycle_walks(&mut tester);
+    solver(&mut tester);
+    solver_limits(&mut tester);
+    solver_order(&mut tester);
+    solver_columns(&mut tester);
+    solver_small_graphs(&mut tester);
 }
 
 /// Records written with '|' for CR LF.
@@ -559,6 +596,19 @@ fn headed(m: usize, nested: bool) -> Tables {
     tables
 }
 
+/// Each column of routine A made longer or shorter by one.
+const COLUMNS: [(&str, fn(&mut Tables, bool)); 9] = [
+    ("cost", |x, more| if more { x.blocks.cost.push(0) } else { x.blocks.cost.truncate(3) }),
+    ("loop", |x, more| if more { x.blocks.inner.push(0) } else { x.blocks.inner.truncate(3) }),
+    ("first", |x, more| if more { x.blocks.first.push(0) } else { x.blocks.first.truncate(3) }),
+    ("second", |x, more| if more { x.blocks.second.push(0) } else { x.blocks.second.truncate(3) }),
+    ("figure", |x, more| if more { x.blocks.figure.push(0) } else { x.blocks.figure.truncate(3) }),
+    ("parent", |x, more| if more { x.loops.parent.push(0) } else { x.loops.parent.truncate(1) }),
+    ("header", |x, more| if more { x.loops.header.push(0) } else { x.loops.header.truncate(1) }),
+    ("limit", |x, more| if more { x.loops.limit.push(0) } else { x.loops.limit.truncate(1) }),
+    ("multiplier", |x, more| if more { x.loops.multiplier.push(0) } else { x.loops.multiplier.truncate(1) }),
+];
+
 fn tables(t: &mut Tester) {
     t.check("n 2", &straight(2), Accepted(2, 0));
     t.check("n 1024", &straight(1024), Accepted(1024, 0));
@@ -572,18 +622,7 @@ fn tables(t: &mut Tester) {
     t.check("depth 16", &headed(16, true), Accepted(17, 0));
     t.check("depth 17", &headed(17, true), Refused(205, 16));
     t.check("depth 64", &headed(64, true), Refused(205, 16));
-    let columns: [(&str, fn(&mut Tables, bool)); 9] = [
-        ("cost", |x, more| if more { x.blocks.cost.push(0) } else { x.blocks.cost.truncate(3) }),
-        ("loop", |x, more| if more { x.blocks.inner.push(0) } else { x.blocks.inner.truncate(3) }),
-        ("first", |x, more| if more { x.blocks.first.push(0) } else { x.blocks.first.truncate(3) }),
-        ("second", |x, more| if more { x.blocks.second.push(0) } else { x.blocks.second.truncate(3) }),
-        ("figure", |x, more| if more { x.blocks.figure.push(0) } else { x.blocks.figure.truncate(3) }),
-        ("parent", |x, more| if more { x.loops.parent.push(0) } else { x.loops.parent.truncate(1) }),
-        ("header", |x, more| if more { x.loops.header.push(0) } else { x.loops.header.truncate(1) }),
-        ("limit", |x, more| if more { x.loops.limit.push(0) } else { x.loops.limit.truncate(1) }),
-        ("multiplier", |x, more| if more { x.loops.multiplier.push(0) } else { x.loops.multiplier.truncate(1) }),
-    ];
-    for (name, change) in columns {
+    for (name, change) in COLUMNS {
         for more in [false, true] {
             let tables = a(|x| change(x, more));
             t.check(&format!("column {name} {} by one", if more { "longer" } else { "shorter" }), &tables, Refused(201, 0));
@@ -953,4 +992,320 @@ fn cycle_walks(t: &mut Tester) {
     t.walk("cycle: a walk of 1,048,576 blocks round it", &cycle, &long, Accepted(2, most as u64 - 1));
     long[most - 1] = 1;
     t.walk("cycle: a walk of 1,048,576 blocks that ends on it", &cycle, &long, Refused(314, most as u32));
+}
+
+/// A loop as above, with its limit.
+type Limited<'a> = (Loop<'a>, u32);
+
+/// A routine by the costs of its blocks, its edges and its loops. Figures and multipliers are 0.
+fn routine(cost: &[u32], rows: &str, loops: &[Limited]) -> Tables {
+    let declared: Vec<Loop> = loops.iter().map(|(declared, _)| *declared).collect();
+    let mut tables = free(cost.len(), ways(rows), &declared);
+    tables.blocks.cost = cost.to_vec();
+    for (l, (_, limit)) in loops.iter().enumerate() {
+        tables.loops.limit[l + 1] = *limit;
+    }
+    tables
+}
+
+/// Request 3 of document 02, worked out by hand: costs, edges and loops, then the bound, the figures and the multipliers.
+const SOLVED: &[(&str, &[u32], &str, &[Limited], i64, &[i64], &[u64])] = &[
+    ("A", &[2, 3, 5, 1], "0121 13", &[((0, 1, &[2]), 4)], 30, &[28, 1, -4, 0], &[0, 8]),
+    // from block 2 there is a path to the exit, though no run can follow it
+    ("A, limit 1", &[2, 3, 5, 1], "0121 13", &[((0, 1, &[2]), 1)], 6, &[4, 1, -4, 0], &[0, 8]),
+    ("A, limit 65,535", &[2, 3, 5, 1], "0121 13", &[((0, 1, &[2]), 65_535)], 524_278, &[524_276, 1, -4, 0], &[0, 8]),
+    ("A, doubled edges", &[2, 3, 5, 1], "0121 01 21 13", &[((0, 1, &[2]), 4)], 30, &[28, 1, -4, 0], &[0, 8]),
+    ("A, blocks that cost nothing", &[0, 0, 0, 0], "0121 13", &[((0, 1, &[2]), 4)], 0, &[0, 0, 0, 0], &[0, 0]),
+    ("two blocks", &[7, 9], "01", &[], 16, &[9, 0], &[0]),
+    ("a branch", &[1, 2, 5, 3], "013 023", &[], 9, &[8, 3, 3, 0], &[0]),
+    ("a branch, the way of fewer blocks costs more", &[1, 9, 1, 1, 1], "014 0234", &[], 11, &[10, 1, 2, 1, 0], &[0]),
+    // rounds
+    ("no round", &[1, 2, 3, 4], "0123", &[((0, 1, &[2]), 9)], 10, &[9, 7, 4, 0], &[0, 0]),
+    ("a header that names itself", &[1, 2, 3], "0112", &[((0, 1, &[]), 5)], 14, &[13, 3, 0], &[0, 2]),
+    ("a header that names itself, limit 1", &[1, 2, 3], "0112", &[((0, 1, &[]), 1)], 6, &[5, 3, 0], &[0, 2]),
+    ("a header that names itself, and a longer round", &[1, 2, 5, 1], "0112 21 23", &[((0, 1, &[2]), 3)], 23, &[22, 6, 1, 0], &[0, 7]),
+    ("two rounds of equal cost", &[1, 2, 5, 5, 1], "0121 131 24", &[((0, 1, &[2, 3]), 3)], 23, &[22, 6, 1, 1, 0], &[0, 7]),
+    (
+        "two rounds, the one of fewer blocks costs more",
+        &[1, 1, 9, 1, 1, 1],
+        "0121 1341 45",
+        &[((0, 1, &[2, 3, 4]), 3)],
+        25,
+        &[24, 3, -6, 2, 1, 0],
+        &[0, 10],
+    ),
+    ("a block that cannot return", &[1, 1, 2, 50, 1], "0121 134", &[((0, 1, &[2, 3]), 4)], 62, &[61, 51, 49, 1, 0], &[0, 3]),
+    ("a block that the header does not lead to", &[1, 1, 9, 1], "013 21", &[((0, 1, &[2]), 4)], 3, &[2, 1, 2, 0], &[0, 0]),
+    // loops in loops
+    ("through an inner loop, limit 1", &[1; 5], "01223 31 34", &[((0, 1, &[3]), 3), ((1, 2, &[]), 1)], 11, &[10, 3, 2, 1, 0], &[0, 3, 1]),
+    ("through an inner loop, limit 2", &[1; 5], "01223 31 34", &[((0, 1, &[3]), 3), ((1, 2, &[]), 2)], 14, &[13, 4, 2, 1, 0], &[0, 4, 1]),
+    (
+        "through an inner loop, limit 65,535",
+        &[1; 5],
+        "01223 31 34",
+        &[((0, 1, &[3]), 3), ((1, 2, &[]), 65_535)],
+        196_613,
+        &[196_612, 65_537, 2, 1, 0],
+        &[0, 65_537, 1],
+    ),
+    ("back to the outer header from the inner one", &[1; 4], "0121 23", &[((0, 1, &[]), 2), ((1, 2, &[]), 7)], 6, &[5, 2, 1, 0], &[0, 2, 0]),
+    (
+        "back to the outer header from the inner one, which names itself",
+        &[0, 1, 1, 0],
+        "01221 13",
+        &[((0, 1, &[]), 3), ((1, 2, &[]), 4)],
+        11,
+        &[11, 0, -4, 0],
+        &[0, 5, 1],
+    ),
+    (
+        "two inner loops in one round",
+        &[0, 1, 2, 3, 0],
+        "012233 31 14",
+        &[((0, 1, &[]), 2), ((1, 2, &[]), 3), ((1, 3, &[]), 4)],
+        20,
+        &[20, 0, -6, -18, 0],
+        &[0, 19, 2, 3],
+    ),
+    ("out by both headers only", &[0, 1, 1, 1, 0], "0123 21 32 14", &[((0, 1, &[]), 2), ((1, 2, &[3]), 3)], 7, &[7, 0, -5, -6, 0], &[0, 6, 2]),
+    ("out of both loops at once", &[1, 2, 3, 4], "01223", &[((0, 1, &[]), 5), ((1, 2, &[]), 2)], 13, &[12, 10, 4, 0], &[0, 0, 3]),
+    ("out of one loop into the next", &[1, 2, 3, 4], "011223", &[((0, 1, &[]), 3), ((0, 2, &[]), 2)], 17, &[16, 10, 4, 0], &[0, 2, 3]),
+    // unreachable loops
+    ("an unreachable loop", &[1, 2, 3, 4], "03 121 23", &[((0, 1, &[2]), 4)], 5, &[4, 7, 4, 0], &[0, 5]),
+    ("an unreachable loop that a block leads to", &[1, 1, 2, 3, 4], "04 1232 34", &[((0, 2, &[3]), 4)], 5, &[4, 24, 7, 4, 0], &[0, 5]),
+    // the exit
+    ("the exit inside a loop", &[2, 3, 5, 1], "0121 13", &[((0, 1, &[2, 3]), 4)], 30, &[28, 1, -4, 0], &[0, 8]),
+    ("the exit as a header", &[1, 2, 3], "012", &[((0, 2, &[]), 7)], 6, &[5, 3, 0], &[0, 0]),
+    ("the exit as a header, with another block", &[1, 2, 3, 4], "013 23", &[((0, 3, &[2]), 7)], 7, &[6, 4, 4, 0], &[0, 0]),
+    ("the exit as an inner header", &[1, 2, 3, 4], "0121 13", &[((0, 1, &[2]), 3), ((1, 3, &[]), 7)], 17, &[16, 4, 1, 0], &[0, 5, 0]),
+];
+
+/// Routines that the solver refuses with 401, and the block.
+const STUCK: &[(&str, usize, &str, &[Loop], u32)] = &[
+    ("no edges", 2, "", &[], 0),
+    ("a block that leads nowhere", 4, "013 02", &[], 2),
+    ("an unreachable block that leads nowhere", 3, "02", &[], 1),
+    ("a loop that is never left", 4, "0121 03", &[(0, 1, &[2])], 1),
+    ("an unreachable loop that is never left", 4, "121 03", &[(0, 1, &[2])], 1),
+    ("a header that names itself twice", 3, "011 11 02", &[(0, 1, &[])], 1),
+    ("the lowest of three", 6, "015 34", &[], 2),
+    ("the lowest of three, the entry among them", 5, "012 34", &[], 0),
+    ("the last block but one", 5, "0124 03", &[], 3),
+];
+
+fn solver(t: &mut Tester) {
+    for (name, cost, rows, loops, bound, figures, multipliers) in SOLVED {
+        let mut tables = routine(cost, rows, loops);
+        t.solve(&format!("solver: {name}"), &tables, *bound, figures, multipliers);
+        // whatever is given
+        tables.blocks.figure.fill(1 << 60);
+        tables.loops.multiplier[1..].fill(1 << 40);
+        t.solve(&format!("solver: {name}, by the greatest figures and multipliers"), &tables, *bound, figures, multipliers);
+        tables.blocks.figure.fill(-(1 << 60));
+        tables.loops.multiplier.fill(0);
+        t.solve(&format!("solver: {name}, by the least figures and multipliers"), &tables, *bound, figures, multipliers);
+    }
+    for (name, n, rows, loops, place) in STUCK {
+        t.unsolved(&format!("solver: {name}"), &free(*n, ways(rows), loops), 401, *place);
+    }
+    let row: Vec<i64> = (0..1024).rev().collect();
+    t.solve("solver: 1,024 blocks", &straight(1024), 1024, &row, &[0]);
+    t.solve("solver: 64 loops", &headed(64, false), 65, &row[1024 - 65..], &[0; 64]);
+    t.solve("solver: depth 16", &headed(16, true), 17, &row[1024 - 17..], &[0; 16]);
+}
+
+/// Blocks 0 and 1 and then one tower after another, three loops deep: its first header leads to the next tower and to its second header, the
+/// second to the third and back, the third names itself and leads back. A round of the first loop costs 2^40. The limits are of these loops.
+fn towers(limits: &[u32]) -> Tables {
+    let exit = 3 * limits.len() + 2;
+    let mut edges = vec![(0, 1), (1, 2)];
+    let mut loops: Vec<Loop> = Vec::new();
+    for i in 0..limits.len() {
+        let h = 3 * i + 2;
+        edges.extend([(h, h + 1), (h, h + 3), (h + 1, h + 2), (h + 1, h), (h + 2, h + 2), (h + 2, h + 1)]);
+        loops.extend([(0, h as u16, &[][..]), (h as u16 - 1, h as u16 + 1, &[]), (h as u16, h as u16 + 2, &[])]);
+    }
+    let mut tables = free(exit + 1, edges, &loops);
+    for (i, limit) in limits.iter().enumerate() {
+        // 2^19 x 2^15 x 2^6
+        tables.blocks.cost[3 * i + 4] = 1 << 19;
+        tables.loops.limit[3 * i + 1] = *limit;
+        tables.loops.limit[3 * i + 2] = 65;
+        tables.loops.limit[3 * i + 3] = 1 << 15;
+    }
+    tables
+}
+
+/// The figures and the multipliers of towers. To enter one costs 2^40 x (limit - 1), from its first header on nothing.
+fn tower_columns(limits: &[u32]) -> (Vec<i64>, Vec<u64>) {
+    let (mut figures, mut multipliers) = (Vec::new(), vec![0]);
+    let mut left: i64 = limits.iter().map(|limit| i64::from(limit - 1) << 40).sum();
+    figures.extend([left, left]);
+    for limit in limits {
+        left -= i64::from(limit - 1) << 40;
+        figures.extend([left, left - (1 << 40), left - (1 << 40) - (1 << 34)]);
+        multipliers.extend([1 << 40, 1 << 34, 1 << 19]);
+    }
+    figures.push(0);
+    (figures, multipliers)
+}
+
+/// The towers whose first figure is 2^60: 16 x 65,534 + 32 is 2^20.
+fn highest() -> Vec<u32> {
+    [vec![65_535; 16], vec![33]].concat()
+}
+
+/// Towers with a change, `first` their first header and `last` the exit.
+fn changed(limits: &[u32], change: impl FnOnce(&mut Tables, usize, usize)) -> Tables {
+    let mut tables = towers(limits);
+    let last = tables.blocks.cost.len() - 1;
+    change(&mut tables, 2, last);
+    tables
+}
+
+/// 15 loops in one another. Each header leads to the next and back, the first one to the exit too, the last one to itself.
+fn deepest(cost: u32, limit: u32) -> Tables {
+    let edges = (1..15).flat_map(|l| [(l, l + 1), (l, if l == 1 { 16 } else { l - 1 })]).chain([(0, 1), (15, 15), (15, 14)]);
+    let numbers: Vec<u16> = (1..16).collect();
+    let loops: Vec<Loop> = numbers.iter().map(|l| (*l - 1, *l, &[][..])).collect();
+    let mut tables = free(17, edges, &loops);
+    tables.blocks.cost.fill(cost);
+    tables.loops.limit[1..].fill(limit);
+    tables
+}
+
+/// The limits of 402 and 403.
+fn solver_limits(t: &mut Tester) {
+    for limits in [&[1][..], &[2], &[65_535], &[65_535, 1, 2], &highest()] {
+        let (figures, multipliers) = tower_columns(limits);
+        t.solve(&format!("solver: towers of 2^40, {limits:?}"), &towers(limits), figures[0], &figures, &multipliers);
+    }
+    let (figures, multipliers) = tower_columns(&highest());
+    assert!(figures[0] == 1 << 60);
+    let entry = changed(&highest(), |x, _, _| x.blocks.cost[0] = 1_000_000);
+    t.solve("solver: a figure of 2^60, and the entry costs as well", &entry, (1 << 60) + 1_000_000, &figures, &multipliers);
+    t.unsolved("solver: a figure of 2^60 + 1", &changed(&highest(), |x, _, last| x.blocks.cost[last] = 1), 403, 0);
+    t.unsolved("solver: a figure of 2^60 + 1, by a block before the first tower", &changed(&highest(), |x, _, _| x.blocks.cost[1] = 1), 403, 0);
+    t.unsolved("solver: a figure of 2^60 + 2^40", &towers(&[highest(), vec![2]].concat()), 403, 0);
+    t.unsolved("solver: 21 towers", &towers(&[65_535; 21]), 403, 0);
+    // block 0 leads to the exit, block 1 to the towers
+    let past = |x: &mut Tables, last: usize| x.blocks.first[0] = last as u16;
+    let figures = [&[0][..], &figures[1..]].concat();
+    t.solve("solver: a figure of 2^60 in an unreachable block", &changed(&highest(), |x, _, last| past(x, last)), 0, &figures, &multipliers);
+    let over = changed(&highest(), |x, _, last| {
+        past(x, last);
+        x.blocks.cost[last] = 1;
+    });
+    t.unsolved("solver: a figure of 2^60 + 1 in an unreachable block", &over, 403, 0);
+
+    t.unsolved("solver: a multiplier of 2^40 + 1", &changed(&[1], |x, first, _| x.blocks.cost[first] = 1), 402, 0);
+    t.unsolved("solver: a multiplier of 2^40 + 65", &changed(&[1], |x, first, _| x.blocks.cost[first + 1] = 1), 402, 0);
+    t.unsolved("solver: a multiplier of 2^40 + 1 in the last loop", &changed(&[1, 1], |x, first, _| x.blocks.cost[first + 3] = 1), 402, 0);
+    let unreachable = changed(&[1], |x, first, last| {
+        past(x, last);
+        x.blocks.cost[first] = 1;
+    });
+    t.unsolved("solver: a multiplier of 2^40 + 1 in an unreachable loop", &unreachable, 402, 0);
+    let apart = changed(&[1], |x, first, last| {
+        past(x, last);
+        x.blocks.first[1] = last as u16;
+        x.blocks.cost[first] = 1;
+    });
+    t.unsolved("solver: a multiplier of 2^40 + 1 in a loop that no edge enters", &apart, 402, 0);
+    t.unsolved("solver: a multiplier over 2^240", &deepest(1_000_000, 65_535), 402, 0);
+    t.unsolved("solver: a multiplier over 2^128", &deepest(1, 1000), 402, 0);
+    t.unsolved("solver: a multiplier over 2^64", &deepest(1 << 18, 16), 402, 0);
+    t.solve("solver: depth 16, blocks that cost nothing", &deepest(0, 65_535), 0, &[0; 17], &[0; 16]);
+}
+
+/// Which refusal comes first.
+fn solver_order(t: &mut Tester) {
+    // block 1 leads nowhere, and nothing leads to it
+    let stuck = |x: &mut Tables| (x.blocks.first[0], x.blocks.first[1]) = (2, MISSING);
+    let cases: &[(&str, Tables, u32, u32)] = &[
+        ("401 before 402", changed(&[1], |x, first, _| { stuck(x); x.blocks.cost[first] = 1 }), 401, 1),
+        ("401 before 403", changed(&highest(), |x, _, last| { stuck(x); x.blocks.cost[last] = 1 }), 401, 1),
+        ("401 before 402 and 403", changed(&highest(), |x, first, last| { stuck(x); (x.blocks.cost[first], x.blocks.cost[last]) = (1, 1) }), 401, 1),
+        ("402 before 403", changed(&highest(), |x, first, last| (x.blocks.cost[first], x.blocks.cost[last]) = (1, 1)), 402, 0),
+        ("209 before 401", free(3, ways("11 02"), &[]), 209, 0),
+        ("209 before 401, in a loop", free(4, ways("01221 03"), &[(0, 1, &[2])]), 209, 0),
+        ("209 before 402", changed(&[1], |x, first, _| (x.blocks.second[1], x.blocks.cost[first]) = (1, 1)), 209, 0),
+        ("209 before 403", changed(&highest(), |x, _, last| (x.blocks.second[1], x.blocks.cost[last]) = (1, 1)), 209, 0),
+        ("209, an undeclared loop that costs", tables_of("0,1,0,1,,3|1,1,0,2,,2|2,1,0,1,3,1|3,1,0,,,0", "0,0,0,1,0"), 209, 0),
+        ("209, an undeclared loop that costs nothing", tables_of(CYCLE_BLOCKS, "0,0,0,1,0"), 209, 0),
+        ("207 before 209", free(4, ways("01221 02 13"), &[(0, 1, &[2])]), 207, 0),
+        ("206 before 401", free(3, ways("01 22"), &[]), 206, 2),
+        ("205 before 401", headed(17, true), 205, 16),
+        ("202 before 401", { let mut x = free(3, ways("02"), &[(0, 1, &[])]); x.loops.limit[1] = 0; x }, 202, 1),
+        ("two blocks, no edges", tables_of("0,7,0,,,-10|1,9,0,,,0", "0,0,0,1,0"), 401, 0),
+        ("A, block 2 in loop 0", a(|x| x.blocks.inner[2] = 0), 209, 0),
+        ("A, edge from 0 to 2", a(|x| x.blocks.second[0] = 2), 207, 0),
+        ("A, limit 0", a(|x| x.loops.limit[1] = 0), 202, 1),
+        ("A, limit 65,536", a(|x| x.loops.limit[1] = 65_536), 202, 1),
+        ("A, cost 1,000,001", a(|x| x.blocks.cost[3] = 1_000_001), 203, 3),
+        ("A, the header names itself and leads nowhere else", a(|x| (x.blocks.first[1], x.blocks.second[1]) = (1, 1)), 401, 0),
+        // what is given is held to 202 and 203
+        ("a given multiplier of 2^40 + 1", a(|x| x.loops.multiplier[1] = (1 << 40) + 1), 202, 1),
+        ("a given multiplier of 2^64 - 1", a(|x| x.loops.multiplier[1] = u64::MAX), 202, 1),
+        ("a given multiplier of loop 0", a(|x| x.loops.multiplier[0] = 1), 202, 0),
+        ("a given figure of 2^60 + 1", a(|x| x.blocks.figure[2] = (1 << 60) + 1), 203, 2),
+        ("a given figure of -2^60 - 1", a(|x| x.blocks.figure[3] = -(1 << 60) - 1), 203, 3),
+        ("a given figure of -2^63", a(|x| x.blocks.figure[0] = i64::MIN), 203, 0),
+        ("a given multiplier and a given figure", a(|x| (x.loops.multiplier[1], x.blocks.figure[0]) = (1 << 41, 1 << 61)), 202, 1),
+    ];
+    for (name, tables, number, place) in cases {
+        t.unsolved(&format!("solver: {name}"), tables, *number, *place);
+    }
+    let cases: &[(&str, Tables)] = &[
+        ("208 is not asked for, figure 27", a(|x| x.blocks.figure[0] = 27)),
+        ("208 is not asked for, multiplier 7", a(|x| x.loops.multiplier[1] = 7)),
+        ("given multiplier 2^40", a(|x| x.loops.multiplier[1] = 1 << 40)),
+        ("given figures 2^60 and -2^60", a(|x| (x.blocks.figure[0], x.blocks.figure[3]) = (1 << 60, -(1 << 60)))),
+    ];
+    for (name, tables) in cases {
+        t.solve(&format!("solver: {name}"), tables, 30, &[28, 1, -4, 0], &[0, 8]);
+    }
+}
+
+/// Columns that are longer or shorter than the others of their table.
+fn solver_columns(t: &mut Tester) {
+    for (name, change) in COLUMNS {
+        for more in [false, true] {
+            let tables = a(|x| change(x, more));
+            t.unsolved(&format!("solver: column {name} {} by one", if more { "longer" } else { "shorter" }), &tables, 201, 0);
+        }
+    }
+    for (name, tables) in [
+        ("n 1", straight(1)),
+        ("n 1025", straight(1025)),
+        ("m 65", headed(65, false)),
+        ("no blocks", Tables { blocks: Default::default(), ..straight(2) }),
+        ("no loops", Tables { loops: Default::default(), ..straight(2) }),
+        ("all empty", Tables::default()),
+    ] {
+        t.unsolved(&format!("solver: {name}"), &tables, 201, 0);
+    }
+}
+
+/// Every graph of four blocks with some ways to declare loops in it: the bound and the multipliers beside a search through all runs and rounds.
+fn solver_small_graphs(t: &mut Tester) {
+    let declared: [&[Loop]; 5] = [&[], &[(0, 1, &[])], &[(0, 1, &[2])], &[(0, 1, &[]), (0, 2, &[])], &[(0, 1, &[]), (1, 2, &[])]];
+    for loops in declared {
+        for code in 0..1 << 12 {
+            let mut tables = free(4, [], loops);
+            tables.blocks.cost = vec![1, 2, 4, 8];
+            tables.loops.limit[1..].fill(3);
+            for u in 0..3 {
+                let end = |bits: usize| if bits == 0 { MISSING } else { bits as u16 };
+                tables.blocks.first[u] = end(code >> (4 * u) & 3);
+                tables.blocks.second[u] = end(code >> (4 * u + 2) & 3);
+            }
+            let outcome = t.bench.solve(&tables).and_then(|(reply, made)| match reply.number {
+                0 => crate::promised(t.tally, &made, reply.value, None),
+                207 | 209 | 401 => Ok(()),
+                _ => Err(format!("{reply:?}")),
+            });
+            t.tally.test(&format!("solver: small graph {code:#x}, loops {loops:?}"), outcome);
+        }
+    }
 }

@@ -37,7 +37,7 @@ pub enum LineEnd {
     Text = 2,
 }
 
-fn refuse<T>(number: u32, place: usize) -> Result<T, Refusal> {
+pub fn refuse<T>(number: u32, place: usize) -> Result<T, Refusal> {
     Err(Refusal { number, place: place as u32 })
 }
 
@@ -232,7 +232,7 @@ pub fn read_loops(text: &[u8], header_row: bool, places: usize) -> Answer<Loops>
 // Tables
 
 /// The successors that block `u` names.
-fn successors(blocks: &Blocks, u: usize) -> Vec<usize> {
+pub fn successors(blocks: &Blocks, u: usize) -> Vec<usize> {
     [blocks.first[u], blocks.second[u]].into_iter().filter(|v| *v != MISSING).map(usize::from).collect()
 }
 
@@ -245,7 +245,7 @@ fn lowest(number: u32, count: usize, broken: impl Fn(usize) -> bool) -> Result<(
 }
 
 /// Rules 201 to 207; gives back, for each block, the loops around it from the innermost to loop 0.
-fn shape(blocks: &Blocks, loops: &Loops) -> Result<Vec<Vec<usize>>, Refusal> {
+pub fn shape(blocks: &Blocks, loops: &Loops) -> Result<Vec<Vec<usize>>, Refusal> {
     let n = blocks.cost.len();
     let m = loops.parent.len();
     let block_lengths = [blocks.inner.len(), blocks.first.len(), blocks.second.len(), blocks.figure.len()];
@@ -324,7 +324,7 @@ enum Search {
 
 /// Whether there is a closed walk of one edge or more, none of which returns. A depth-first search from every block, reachable or not: there
 /// is one if an edge ends on the way that led to it.
-fn undeclared(blocks: &Blocks, loops: &Loops, around: &[Vec<usize>]) -> bool {
+pub fn undeclared(blocks: &Blocks, loops: &Loops, around: &[Vec<usize>]) -> bool {
     let mut search = vec![Search::Before; blocks.cost.len()];
     for start in 0..blocks.cost.len() {
         if search[start] == Search::Done {

@@ -75,6 +75,11 @@ static void walk(void)
     reply = rolkeyda_walk(cost, n, loops, n, first, n, second, n, figure, n, parent, m, header, m, limit, m, multiplier, m, list, list_length);
 }
 
+static void solve(void)
+{
+    reply = rolkeyda_solve(cost, n, loops, n, first, n, second, n, figure, n, parent, m, header, m, limit, m, multiplier, m);
+}
+
 struct function {
     const char *name;
     void (*call)(void);
@@ -88,8 +93,9 @@ static struct function functions[] = {
     {"rolkeyda_read_loops", read_loops, ROLKEYDA_STACK_READ_LOOPS, 0, 0},
     {"rolkeyda_check", check, ROLKEYDA_STACK_CHECK, 0, 0},
     {"rolkeyda_walk", walk, ROLKEYDA_STACK_WALK, 0, 0},
+    {"rolkeyda_solve", solve, ROLKEYDA_STACK_SOLVE, 0, 0},
 };
-enum { READ_BLOCKS, READ_LOOPS, CHECK, WALK };
+enum { READ_BLOCKS, READ_LOOPS, CHECK, WALK, SOLVE };
 
 /* What a process of a call hands back: the reply, and the stack of a first call and of the next. */
 static struct outcome {
@@ -412,31 +418,37 @@ static void largest_tables(void)
     }
 }
 
-static void checks(void)
+/* The largest tables, and with each of 201 to 207 broken at the last place where it can be. */
+static void structures(int which)
 {
     largest_tables();
-    accepted(CHECK, "the largest tables", BLOCKS, 0);
+    accepted(which, "the largest tables", BLOCKS, 0);
     n = BLOCKS + 1;
-    refused(CHECK, "one block more", 201, 0);
+    refused(which, "one block more", 201, 0);
     largest_tables();
     limit[LOOPS - 1] = 0;
-    refused(CHECK, "a limit of 0 in the last loop", 202, LOOPS - 1);
+    refused(which, "a limit of 0 in the last loop", 202, LOOPS - 1);
     largest_tables();
     cost[BLOCKS - 1] = 1000001;
-    refused(CHECK, "too large a cost in the last block", 203, BLOCKS - 1);
+    refused(which, "too large a cost in the last block", 203, BLOCKS - 1);
     largest_tables();
     header[LOOPS - 1] = BLOCKS - 1;
-    refused(CHECK, "the last header outside its loop", 204, LOOPS - 1);
+    refused(which, "the last header outside its loop", 204, LOOPS - 1);
     largest_tables();
     for (uint16_t l = LOOPS - 16; l < LOOPS; l++)
         parent[l] = l == LOOPS - 16 ? 0 : l - 1;
-    refused(CHECK, "17 deep in the last loop", 205, LOOPS - 1);
+    refused(which, "17 deep in the last loop", 205, LOOPS - 1);
     largest_tables();
     second[BLOCKS - 1] = 1;
-    refused(CHECK, "an edge from the exit", 206, BLOCKS - 1);
+    refused(which, "an edge from the exit", 206, BLOCKS - 1);
     largest_tables();
     second[BLOCKS - 2] = 15;
-    refused(CHECK, "an edge past 14 headers", 207, BLOCKS - 2);
+    refused(which, "an edge past 14 headers", 207, BLOCKS - 2);
+}
+
+static void checks(void)
+{
+    structures(CHECK);
     largest_tables();
     figure[BLOCKS - 2] = 0;
     refused(CHECK, "too small a figure in the last block but one", 208, BLOCKS - 2);
@@ -465,35 +477,38 @@ static void free_tables_downwards(void)
 }
 
 /* Tables for rule 209: blocks that follow from each other and blocks that follow from none, with and without a closed walk. */
-static void closed_walks(void)
+static void closed_walks(int which)
 {
     free_tables(false);
     for (uint16_t l = 1; l < LOOPS; l++)
         second[l] = l;
-    accepted(CHECK, "every header names itself", 0, 0);
+    accepted(which, "every header names itself", 0, 0);
     second[BLOCKS - 2] = BLOCKS - 2;
-    refused(CHECK, "and so does the last block but one", 209, 0);
+    refused(which, "and so does the last block but one", 209, 0);
     free_tables(false);
     second[BLOCKS - 2] = 1;
-    refused(CHECK, "1,022 blocks in a cycle", 209, 0);
+    refused(which, "1,022 blocks in a cycle", 209, 0);
     free_tables(true);
-    accepted(CHECK, "doubled edges", 0, 0);
+    accepted(which, "doubled edges", 0, 0);
     first[BLOCKS - 2] = second[BLOCKS - 2] = 1;
-    refused(CHECK, "1,022 blocks with doubled edges in a cycle", 209, 0);
+    refused(which, "1,022 blocks with doubled edges in a cycle", 209, 0);
     free_tables_downwards();
-    accepted(CHECK, "a row downwards", 0, 0);
+    accepted(which, "a row downwards", 0, 0);
     second[LOOPS] = BLOCKS - 2;
-    refused(CHECK, "a row downwards in a cycle", 209, 0);
+    refused(which, "a row downwards in a cycle", 209, 0);
     free_tables(false);
     for (size_t u = 0; u < BLOCKS - 1; u++)
         first[u] = second[u] = BLOCKS - 1;
-    accepted(CHECK, "2,046 edges to the exit", 0, 0);
+    accepted(which, "2,046 edges to the exit", 0, 0);
     for (size_t u = 0; u < BLOCKS - 1; u++)
         first[u] = second[u] = ROLKEYDA_MISSING;
-    accepted(CHECK, "no edges", 0, 0);
+    if (which == SOLVE)
+        refused(which, "no edges", 401, 0);
+    else
+        accepted(which, "no edges", 0, 0);
     for (uint16_t u = 1; u < BLOCKS - 1; u++)
         first[u] = u;
-    refused(CHECK, "1,022 blocks that name themselves", 209, 0);
+    refused(which, "1,022 blocks that name themselves", 209, 0);
 }
 
 /*
@@ -563,6 +578,65 @@ static void walks(void)
     accepted(WALK, "a cycle of 1,022 blocks, round and round", 0, list_length - 1);
 }
 
+/* The largest tables where each header that is not the first of its nest leads back to the one before. */
+static void rounds(uint32_t most)
+{
+    largest_tables();
+    for (uint16_t l = 1; l < LOOPS; l++) {
+        limit[l] = most;
+        if (parent[l] != 0)
+            second[l] = l - 1;
+    }
+}
+
+/*
+ * 21 towers of three loops, in a row of blocks that cost nothing. The innermost header costs 2^19 and names itself, and each header leads back to
+ * the one around it: a round of the outermost loop costs 2^40. To enter the towers with these limits costs 2^60.
+ */
+static void towers(void)
+{
+    free_tables(false);
+    for (uint16_t l = 1; l < LOOPS; l += 3) {
+        parent[l] = 0;
+        parent[l + 1] = l;
+        parent[l + 2] = l + 1;
+        limit[l] = l < 48 ? 65535 : l == 49 ? 33 : 1;
+        limit[l + 1] = 65;
+        limit[l + 2] = 32768;
+        cost[l + 2] = 524288;
+        second[l] = l + 3;
+        second[l + 1] = l;
+        first[l + 2] = l + 2;
+        second[l + 2] = l + 1;
+    }
+}
+
+static void solutions(void)
+{
+    const int64_t most = (int64_t)1 << 60;
+    structures(SOLVE);
+    closed_walks(SOLVE);
+    largest_tables();
+    for (uint16_t l = 1; l < LOOPS; l++)
+        second[l] = l;
+    accepted(SOLVE, "every header names itself, 65,535 times", BLOCKS + 63 * 65534, 0);
+    /* from the innermost loop outwards the rounds of a nest cost 0, 2, 4 and so on */
+    rounds(2);
+    accepted(SOLVE, "rounds 16 deep", BLOCKS + 4 * 210 + 6, 0);
+    rounds(65535);
+    refused(SOLVE, "rounds 16 deep, 65,535 times", 402, 0);
+    first[BLOCKS - 2] = ROLKEYDA_MISSING;
+    refused(SOLVE, "no path to the exit", 401, 0);
+    first[BLOCKS - 3] = BLOCKS - 1;
+    refused(SOLVE, "no path to the exit from the last block but one", 401, BLOCKS - 2);
+    towers();
+    accepted(SOLVE, "figures up to 2^60", most, 0);
+    cost[BLOCKS - 1] = 1;
+    refused(SOLVE, "a figure over 2^60", 403, 0);
+    cost[61] = 1;
+    refused(SOLVE, "a multiplier over 2^40 in the last tower", 402, 0);
+}
+
 int main(void)
 {
     outcome = mmap(NULL, sizeof *outcome, PROT_READ | PROT_WRITE, MAP_SHARED | MAP_ANONYMOUS, -1, 0);
@@ -570,8 +644,9 @@ int main(void)
         stop("an outcome");
     readers();
     checks();
-    closed_walks();
+    closed_walks(CHECK);
     walks();
+    solutions();
     for (size_t i = 0; i < sizeof functions / sizeof functions[0]; i++) {
         const struct function *function = &functions[i];
         printf("%-20s %6zu bytes of stack measured, %6zu at the first call, %6zu stated\n", function->name, function->again, function->first,
