@@ -183,12 +183,14 @@ fn solving_line(routine: &Routine) {
     println!("  {loops:>5} {depth:>6} {edges:>6} {:>10.1} us {one:>12.2} ns {:>14.1} us {:>7.2}", ours * 1e6, theirs * 1e6, theirs / ours);
 }
 
-// The optimum of the path-counting program: glpsol as a user would run it, who wants the dual values too.
-fn glpsol(folder: &Path) -> f64 {
-    let output = folder.join("solution.txt");
-    let status = Command::new("glpsol").arg("--freemps").arg(folder.join("program.mps")).arg("--write").arg(&output).stdout(Stdio::null()).status().unwrap();
-    assert!(status.success());
-    program::optimum(&fs::read_to_string(&output).unwrap()).unwrap()
+fn glpsol(folder: &Path, arguments: &[&str]) {
+    assert!(Command::new("glpsol").args(arguments).current_dir(folder).stdout(Stdio::null()).status().unwrap().success());
+}
+
+// The optimum of the path-counting program. What glpsol writes has the dual values too, which are figures and multipliers.
+fn optimum_by_glpsol(folder: &Path) -> f64 {
+    glpsol(folder, &["--freemps", "program.mps", "--write", "solution.txt"]);
+    program::optimum(&fs::read_to_string(folder.join("solution.txt")).unwrap()).unwrap()
 }
 
 // Ours beside a linear solver on the same routine. Its process is started anew for each call; a round has many calls of ours.
@@ -199,16 +201,19 @@ fn solving_beside_glpsol(routine: &Routine, name: &str) {
     let (mut ours, _) = solved(routine);
     // the program leaves out the entry's own cost; glpsol's numbers are doubles, and its optimum is a whole number but for their rounding
     let optimum = Library::check(&ours).value - i64::from(routine.blocks.cost[0]);
-    assert_eq!(-glpsol(&folder).round() as i64, optimum);
+    assert_eq!(-optimum_by_glpsol(&folder).round() as i64, optimum);
     let mut solve = Measure::new("rolkeyda_solve", || keep(Library::solve(black_box(&mut ours))));
-    let mut beside = Measure::new("glpsol", || keep(glpsol(&folder)));
+    let mut beside = Measure::new("glpsol", || keep(optimum_by_glpsol(&folder)));
+    let mut start = Measure::new("glpsol, its start alone", || glpsol(&folder, &["--version"]));
     for _ in 0..60 {
         solve.round(20);
         beside.round(1);
+        start.round(1);
     }
     println!("the same, beside glpsol on the path-counting program, its process included; both have the optimum {optimum}");
     println!("  {:<24} {:>10.1} us", solve.name, solve.best * 1e6);
     println!("  {:<24} {:>10.1} us   ratio {:.0} (goal 400)", beside.name, beside.best * 1e6, beside.best / solve.best);
+    println!("  {:<24} {:>10.1} us", start.name, start.best * 1e6);
 }
 
 fn solving(name: &str) {
