@@ -29,6 +29,12 @@ extern "C" {
         parent: *const u16, parent_length: usize, header: *const u16, header_length: usize,
         limit: *const u32, limit_length: usize, multiplier: *const u64, multiplier_length: usize,
     ) -> Reply;
+    fn rolkeyda_solve(
+        cost: *const u32, cost_length: usize, loops: *const u16, loops_length: usize, first: *const u16, first_length: usize,
+        second: *const u16, second_length: usize, figure: *mut i64, figure_length: usize,
+        parent: *const u16, parent_length: usize, header: *const u16, header_length: usize,
+        limit: *const u32, limit_length: usize, multiplier: *mut u64, multiplier_length: usize,
+    ) -> Reply;
     fn rolkeyda_walk(
         cost: *const u32, cost_length: usize, loops: *const u16, loops_length: usize, first: *const u16, first_length: usize,
         second: *const u16, second_length: usize, figure: *const i64, figure_length: usize,
@@ -76,6 +82,18 @@ impl Library {
             rolkeyda_check(
                 b.cost.as_ptr(), n, b.loops.as_ptr(), n, b.first.as_ptr(), n, b.second.as_ptr(), n, b.figure.as_ptr(), n,
                 l.parent.as_ptr(), m, l.header.as_ptr(), m, l.limit.as_ptr(), m, l.multiplier.as_ptr(), m,
+            )
+        }
+    }
+
+    pub fn solve(t: &mut Routine) -> Reply {
+        let (b, l) = (&mut t.blocks, &mut t.loops);
+        let (n, m) = (b.cost.len(), l.parent.len());
+        // SAFETY: each pointer comes with the length of its own column, and no two columns overlap.
+        unsafe {
+            rolkeyda_solve(
+                b.cost.as_ptr(), n, b.loops.as_ptr(), n, b.first.as_ptr(), n, b.second.as_ptr(), n, b.figure.as_mut_ptr(), n,
+                l.parent.as_ptr(), m, l.header.as_ptr(), m, l.limit.as_ptr(), m, l.multiplier.as_mut_ptr(), m,
             )
         }
     }

@@ -1,6 +1,7 @@
 // Ratios of the proved library to other ways of doing the same, in one run. The measures alternate, and each counts by its fastest round,
 // so that what else the machine does weighs on both alike.
 mod library;
+mod program;
 mod reading;
 mod routine;
 mod straight;
@@ -156,6 +157,90 @@ fn checking() {
     checking_beside(&routine, "refused with 209");
 }
 
+// Solves a routine by the library and by the straight solver, compares the columns and the bound, and gives both results.
+fn solved(routine: &Routine) -> (Routine, Routine) {
+    let (mut ours, mut theirs) = (routine.clone(), routine.clone());
+    let reply = Library::solve(&mut ours);
+    assert_eq!((reply.number, reply.place), (0, 0));
+    assert_eq!(straight::solve(&mut theirs), Ok(reply.value));
+    assert!(ours == theirs);
+    let checked = Library::check(&ours);
+    assert_eq!((checked.number, checked.value), (0, reply.value));
+    (ours, theirs)
+}
+
+// One line for a routine: the time of a call, and of one edge at one depth.
+fn solving_line(routine: &Routine) {
+    let (mut ours, mut theirs) = solved(routine);
+    let mut measures = [
+        Measure::new("rolkeyda_solve", || keep(Library::solve(black_box(&mut ours)))),
+        Measure::new("straight Rust", || keep(straight::solve(black_box(&mut theirs)))),
+    ];
+    measure(200, 5, &mut measures);
+    let [ours, theirs] = measures.map(|m| m.best);
+    let (loops, depth, edges) = (routine.loops.parent.len() - 1, routine.deepest(), routine.edges());
+    let one = ours * 1e9 / (depth * edges) as f64;
+    println!("  {loops:>5} {depth:>6} {edges:>6} {:>10.1} us {one:>12.2} ns {:>14.1} us {:>7.2}", ours * 1e6, theirs * 1e6, theirs / ours);
+}
+
+fn glpsol(folder: &Path, arguments: &[&str]) {
+    assert!(Command::new("glpsol").args(arguments).current_dir(folder).stdout(Stdio::null()).status().unwrap().success());
+}
+
+// The optimum of the path-counting program. What glpsol writes has the dual values too, which are figures and multipliers.
+fn optimum_by_glpsol(folder: &Path) -> f64 {
+    glpsol(folder, &["--freemps", "program.mps", "--write", "solution.txt"]);
+    program::optimum(&fs::read_to_string(folder.join("solution.txt")).unwrap()).unwrap()
+}
+
+// Ours beside a linear solver on the same routine. Its process is started anew for each call; a round has many calls of ours.
+fn solving_beside_glpsol(routine: &Routine, name: &str) {
+    let folder = Path::new(name).join("solve");
+    fs::create_dir_all(&folder).unwrap();
+    fs::write(folder.join("program.mps"), program::free_mps(routine)).unwrap();
+    let (mut ours, _) = solved(routine);
+    // the program leaves out the entry's own cost; glpsol's numbers are doubles, and its optimum is a whole number but for their rounding
+    let optimum = Library::check(&ours).value - i64::from(routine.blocks.cost[0]);
+    assert_eq!(-optimum_by_glpsol(&folder).round() as i64, optimum);
+    let mut solve = Measure::new("rolkeyda_solve", || keep(Library::solve(black_box(&mut ours))));
+    let mut beside = Measure::new("glpsol", || keep(optimum_by_glpsol(&folder)));
+    let mut start = Measure::new("glpsol, its start alone", || glpsol(&folder, &["--version"]));
+    for _ in 0..60 {
+        solve.round(20);
+        beside.round(1);
+        start.round(1);
+    }
+    println!("the same, beside glpsol on the path-counting program, its process included; both have the optimum {optimum}");
+    println!("  {:<24} {:>10.1} us", solve.name, solve.best * 1e6);
+    println!("  {:<24} {:>10.1} us   ratio {:.0} (goal 400)", beside.name, beside.best * 1e6, beside.best / solve.best);
+    println!("  {:<24} {:>10.1} us", start.name, start.best * 1e6);
+}
+
+fn solving(name: &str) {
+    let routine = Routine::nested_six();
+    let (mut ours, mut theirs) = solved(&routine);
+    let (n, loops, edges) = (routine.blocks.cost.len(), routine.loops.parent.len() - 1, routine.edges());
+    compare(
+        &format!("solving {n} blocks, {loops} loops at most {} deep, {edges} edges, bound {}", routine.deepest(), Library::check(&ours).value),
+        (n as f64, "blocks"),
+        (400, 5),
+        &[1.0],
+        &mut [
+            Measure::new("rolkeyda_solve", || keep(Library::solve(black_box(&mut ours)))),
+            Measure::new("straight Rust", || keep(straight::solve(black_box(&mut theirs)))),
+        ],
+    );
+    solving_beside_glpsol(&routine, name);
+    println!("solving {n} blocks, by the number of loops and by their depth (loop 0 is depth 1 and not counted as a loop)");
+    println!("  loops  depth  edges  rolkeyda_solve  per depth, edge    straight Rust   ratio");
+    for loops in [8, 16, 32, 63] {
+        solving_line(&Routine::nested(&vec![2; loops]));
+    }
+    for deepest in [2, 4, 8, 16] {
+        solving_line(&Routine::nested(&(2..=deepest).collect::<Vec<_>>().repeat(4)));
+    }
+}
+
 fn walking(routine: &Routine) {
     let walk = routine.walk(1 << 20);
     let ours = Library::walk(routine, &walk);
@@ -207,6 +292,9 @@ fn main() {
     }
     if wanted("check") {
         checking();
+    }
+    if wanted("solve") {
+        solving("target/bench");
     }
     if wanted("walk") {
         walking(&routine);

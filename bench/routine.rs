@@ -1,4 +1,5 @@
 // Routines with loops three deep and with figures and multipliers that are accepted; the largest has 1,024 blocks and 64 loops. A walk through one.
+// Routines with loops of any nesting and without figures, for the solver.
 use std::fmt::Write;
 
 pub const MISSING: u16 = 65535;
@@ -13,7 +14,7 @@ pub struct Blocks {
     pub figure: Vec<i64>,
 }
 
-#[derive(Default)]
+#[derive(Default, Clone, PartialEq)]
 pub struct Loops {
     pub parent: Vec<u16>,
     pub header: Vec<u16>,
@@ -21,7 +22,7 @@ pub struct Loops {
     pub multiplier: Vec<u64>,
 }
 
-#[derive(Default)]
+#[derive(Default, Clone, PartialEq)]
 pub struct Routine {
     pub blocks: Blocks,
     pub loops: Loops,
@@ -46,8 +47,15 @@ impl Routine {
 
     // A block after block `last`.
     fn block_after(&mut self, last: usize, inner: u16) -> usize {
+        self.join(&[last], inner)
+    }
+
+    // A block after each of these.
+    fn join(&mut self, ends: &[usize], inner: u16) -> usize {
         let k = self.block(inner);
-        self.leads(last, k);
+        for &end in ends {
+            self.leads(end, k);
+        }
         k
     }
 
@@ -82,10 +90,14 @@ impl Routine {
         (header, u64::from(self.blocks.cost[header]) + round * u64::from(limits[0] - 1))
     }
 
+    // Loop 0 and no block.
+    fn empty() -> Routine {
+        Routine { blocks: Blocks::default(), loops: Loops { parent: vec![0], header: vec![0], limit: vec![1], multiplier: vec![0] } }
+    }
+
     // n blocks with loops in proportion; no figures yet.
     fn unsolved(n: usize) -> Routine {
-        let mut t = Routine::default();
-        t.loops = Loops { parent: vec![0], header: vec![0], limit: vec![1], multiplier: vec![0] };
+        let mut t = Routine::empty();
         let mut last = t.block(0);
         for _ in 0..21 * n / 1024 {
             last = t.nest(last, 0, &[17, 12, 20]).0;
@@ -121,11 +133,76 @@ impl Routine {
         t
     }
 
+    // `count` blocks after the blocks `ends`, one branch after another: if-then and if-then-else in turn. Gives the blocks that what follows
+    // comes after.
+    fn branches(&mut self, mut ends: Vec<usize>, count: usize, inner: u16) -> Vec<usize> {
+        let last = self.blocks.cost.len() + count;
+        let mut otherwise = false;
+        while self.blocks.cost.len() < last {
+            let test = self.join(&ends, inner);
+            ends = vec![test];
+            let arms = (last - self.blocks.cost.len()).min(1 + usize::from(otherwise));
+            let then: Vec<usize> = (0..arms).map(|_| self.block_after(test, inner)).collect();
+            if arms < 2 { ends.extend(then) } else { ends = then }
+            otherwise = !otherwise;
+        }
+        ends
+    }
+
+    // The next loop of a list of depths, with those inside it: half of its own blocks, the inner loops, the other half, and a last block that
+    // goes back to the header. It is left from the header, and every second loop from its last block too.
+    fn loop_of(&mut self, ends: &[usize], parent: u16, depths: &[usize], own: usize) -> Vec<usize> {
+        let k = self.loops.parent.len();
+        let l = k as u16;
+        let header = self.join(ends, l);
+        self.loops.parent.push(parent);
+        self.loops.header.push(header as u16);
+        self.loops.limit.push(*[8, 6, 10, 4, 5].get(depths[k] - 2).unwrap_or(&2));
+        self.loops.multiplier.push(0);
+        let half = (own - 2) / 2;
+        let mut ends = self.branches(vec![header], half, l);
+        while depths.get(self.loops.parent.len()) == Some(&(depths[k] + 1)) {
+            ends = self.loop_of(&ends, l, depths, own);
+        }
+        ends = self.branches(ends, own - 2 - half, l);
+        let back = self.join(&ends, l);
+        self.leads(back, header);
+        if k % 2 == 0 { vec![header, back] } else { vec![header] }
+    }
+
+    // 1,024 blocks and, behind loop 0, a loop for each depth (that of loop 0 is 1), each inside the last one before it that is less deep. The
+    // loops have equally many blocks of their own. No figures and no multipliers.
+    pub fn nested(depths: &[usize]) -> Routine {
+        const N: usize = 1024;
+        let own = (N - 16) / depths.len();
+        let depths = [&[1], depths].concat();
+        let mut t = Routine::empty();
+        let mut ends = vec![t.block(0)];
+        while t.loops.parent.len() < depths.len() {
+            ends = t.loop_of(&ends, 0, &depths, own);
+        }
+        ends = t.branches(ends, N - 1 - t.blocks.cost.len(), 0);
+        t.join(&ends, 0);
+        t
+    }
+
+    // 63 loops, at most 6 deep: three nests of 21.
+    pub fn nested_six() -> Routine {
+        let half = [3, 4, 5, 6, 6, 5, 6, 4, 5, 6];
+        Routine::nested(&[&[2], &half[..], &half[..]].concat().repeat(3))
+    }
+
+    pub fn deepest(&self) -> usize {
+        let parent = &self.loops.parent;
+        let depth = |l: usize| 1 + std::iter::successors(Some(l), |&k| (k > 0).then(|| parent[k] as usize)).skip(1).count();
+        (0..parent.len()).map(depth).max().unwrap()
+    }
+
     pub fn edges(&self) -> usize {
         self.blocks.first.iter().chain(&self.blocks.second).filter(|&&v| v != MISSING).count()
     }
 
-    fn inside(&self, u: usize, l: u16) -> bool {
+    pub fn inside(&self, u: usize, l: u16) -> bool {
         let mut k = self.blocks.loops[u];
         while k > l {
             k = self.loops.parent[k as usize];

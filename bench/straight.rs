@@ -1,5 +1,5 @@
-// The table check and the walk in plain Rust, with nothing proved: safe code with slices, loop sets as words, one pass per rule, one for 208
-// and the counts of 209 together.
+// The table check, the solver and the walk in plain Rust, with nothing proved: safe code with slices, loop sets as words, one pass per rule, one
+// for 208 and the counts of 209 together.
 use crate::routine::{Blocks, Loops, Routine, MISSING};
 
 type Refusal = (u32, usize);
@@ -107,8 +107,9 @@ fn inequalities(t: &Routine, around: &[u64; 64], onward: &mut Onward) -> Result<
     Ok(())
 }
 
-// 209: a block is taken when all edges to it come from blocks taken before. One that is never taken lies on a closed walk or behind one.
-fn no_closed_walk(n: usize, onward: &mut Onward) -> bool {
+// 209: a block is taken when all edges to it come from blocks taken before. One that is never taken lies on a closed walk or behind one. The
+// blocks in the order in which they are taken, unless one is left.
+fn order(n: usize, onward: &mut Onward) -> Result<[u16; 1024], Refusal> {
     let Onward { ends, incoming } = onward;
     let mut taken = [0u16; 1024];
     let mut count = 0;
@@ -131,7 +132,7 @@ fn no_closed_walk(n: usize, onward: &mut Onward) -> bool {
         }
         next += 1;
     }
-    count == n
+    if count == n { Ok(taken) } else { Err((209, 0)) }
 }
 
 pub fn check(t: &Routine) -> Result<i64, Refusal> {
@@ -140,10 +141,170 @@ pub fn check(t: &Routine) -> Result<i64, Refusal> {
     let n = b.cost.len();
     let mut onward = Onward { ends: [[MISSING; 2]; 1024], incoming: [0; 1024] };
     inequalities(t, &around, &mut onward)?;
-    if !no_closed_walk(n, &mut onward) {
-        return Err((209, 0));
-    }
+    order(n, &mut onward)?;
     Ok(i64::from(b.cost[0]) + b.figure[0] - b.figure[n - 1])
+}
+
+// An edge as the solver's passes see it: its target, the number of loops around both ends, and whether it returns to a header from inside the
+// header's loop.
+#[derive(Clone, Copy)]
+struct Edge {
+    to: u16,
+    shared: u32,
+    returns: bool,
+}
+
+const NONE: i64 = i64::MIN;
+const CAP: i64 = 1 << 62;
+
+// What the passes read, and the multipliers made so far. A weight is what a forward edge to the block costs.
+struct Solver<'a> {
+    t: &'a Routine,
+    around: &'a [u64; 64],
+    order: &'a [u16],
+    edges: [[Option<Edge>; 2]; 1024],
+    weight: [i64; 1024],
+    multiplier: [i64; 64],
+}
+
+impl Solver<'_> {
+    fn depth(&self, l: usize) -> u32 {
+        self.around[l].count_ones()
+    }
+
+    // words[x]: the greatest weight of a way from x on to the header of the loop of depth d around x, staying inside it, with one return at its
+    // end; at depth 1 to the exit. NONE where there is no way, and no more than CAP.
+    fn tails(&self, d: u32, words: &mut [i64; 1024]) {
+        let exit = self.t.blocks.cost.len() - 1;
+        for &x in self.order.iter().rev() {
+            let along = |edge: &Option<Edge>| match *edge {
+                Some(Edge { to, shared, returns: true }) if shared == d => i64::from(self.t.blocks.cost[to as usize]),
+                Some(Edge { to, shared, returns: false }) if shared >= d => {
+                    let tail = words[to as usize];
+                    if tail == NONE { NONE } else { (tail + self.weight[to as usize]).min(CAP) }
+                }
+                _ => NONE,
+            };
+            let [first, second] = &self.edges[x as usize];
+            words[x as usize] = if d == 1 && x as usize == exit { 0 } else { along(first).max(along(second)) };
+        }
+    }
+
+    // Depths from the innermost loops outwards; 402 for one over 2^40.
+    fn multipliers(&mut self, deepest: u32, words: &mut [i64; 1024]) -> Result<(), Refusal> {
+        for d in (2..=deepest).rev() {
+            self.tails(d, words);
+            for l in 1..self.t.loops.parent.len() {
+                if self.depth(l) == d {
+                    let header = self.t.loops.header[l] as usize;
+                    let round = words[header].max(0);
+                    if round > 1 << 40 {
+                        return Err((402, 0));
+                    }
+                    self.multiplier[l] = round;
+                    self.weight[header] += round * (i64::from(self.t.loops.limit[l]) - 1);
+                }
+            }
+        }
+        Ok(())
+    }
+
+    // The loop of depth d around each loop, if there is one.
+    fn loops_at(&self, d: u32) -> [Option<u8>; 64] {
+        let mut at = [None; 64];
+        for l in 0..self.t.loops.parent.len() {
+            at[l] = if self.depth(l) == d { Some(l as u8) } else { at[self.t.loops.parent[l] as usize] };
+        }
+        at
+    }
+
+    // Depths from loop 0 inwards: a way to the exit may go by the header of any loop around the block. 403 for one over 2^60.
+    fn figures(&self, deepest: u32, words: &mut [i64; 1024]) -> Result<[i64; 1024], Refusal> {
+        let n = self.t.blocks.cost.len();
+        let mut figure = [NONE; 1024];
+        for d in 1..=deepest {
+            self.tails(d, words);
+            let at = self.loops_at(d);
+            for x in 0..n {
+                let Some(l) = at[self.t.blocks.loops[x] as usize] else { continue };
+                let header = self.t.loops.header[l as usize] as usize;
+                let way = match words[x] {
+                    NONE => continue,
+                    tail if l == 0 => tail,
+                    _ if x == header => continue,
+                    tail => tail - self.multiplier[l as usize] + figure[header],
+                };
+                figure[x] = figure[x].max(way);
+                if figure[x] > 1 << 60 {
+                    return Err((403, 0));
+                }
+            }
+        }
+        Ok(figure)
+    }
+}
+
+// 401: passes over the blocks until none gets a mark; the lowest without one is refused.
+fn all_lead_out(b: &Blocks, order: &[u16]) -> Result<(), Refusal> {
+    let n = b.cost.len();
+    let mut marked = [false; 1024];
+    marked[n - 1] = true;
+    let mut grows = true;
+    while grows {
+        grows = false;
+        for &x in order.iter().rev() {
+            if !marked[x as usize] && some_edge(b, x as usize, |v| marked[v]) {
+                marked[x as usize] = true;
+                grows = true;
+            }
+        }
+    }
+    lowest(401, n, |u| !marked[u])
+}
+
+// The edges as the passes see them; the forward ones are collected for the order as well.
+fn edges(t: &Routine, around: &[u64; 64], onward: &mut Onward) -> [[Option<Edge>; 2]; 1024] {
+    let b = &t.blocks;
+    let mut edges = [[None; 2]; 1024];
+    for u in 0..b.cost.len() {
+        let from = around[b.loops[u] as usize];
+        for (i, v) in [b.first[u], b.second[u]].into_iter().enumerate().filter(|&(_, v)| v != MISSING) {
+            let l = b.loops[v as usize] as usize;
+            let returns = t.loops.header[l] == v && from >> l & 1 == 1;
+            edges[u][i] = Some(Edge { to: v, shared: (from & around[l]).count_ones(), returns });
+            if !returns {
+                onward.incoming[v as usize] += 1;
+                onward.ends[u][i] = v;
+            }
+        }
+    }
+    edges
+}
+
+// Remakes the figures and the multipliers by passes, one for all loops of a depth.
+pub fn solve(t: &mut Routine) -> Result<i64, Refusal> {
+    let around = structure(t)?;
+    let n = t.blocks.cost.len();
+    let mut onward = Onward { ends: [[MISSING; 2]; 1024], incoming: [0; 1024] };
+    let edges = edges(t, &around, &mut onward);
+    let order = order(n, &mut onward)?;
+    let order = &order[..n];
+    all_lead_out(&t.blocks, order)?;
+    let mut weight = [0; 1024];
+    for (weight, &cost) in weight.iter_mut().zip(&t.blocks.cost) {
+        *weight = i64::from(cost);
+    }
+    let mut solver = Solver { t, around: &around, order, edges, weight, multiplier: [0; 64] };
+    let deepest = around.iter().map(|set| set.count_ones()).max().unwrap_or(0);
+    let mut words = [NONE; 1024];
+    solver.multipliers(deepest, &mut words)?;
+    let figure = solver.figures(deepest, &mut words)?;
+    let multiplier = solver.multiplier;
+    t.blocks.figure.copy_from_slice(&figure[..n]);
+    for (to, from) in t.loops.multiplier.iter_mut().zip(multiplier) {
+        *to = from as u64;
+    }
+    Ok(i64::from(t.blocks.cost[0]) + t.blocks.figure[0])
 }
 
 // The length of a walk and its first block.
