@@ -47,10 +47,9 @@ extern "C" {
  */
 #define ROLKEYDA_STACK_READ_BLOCKS 32768u
 #define ROLKEYDA_STACK_READ_LOOPS 12288u
-#define ROLKEYDA_STACK_CHECK 12288u
-#define ROLKEYDA_STACK_SOLVE 32768u
+#define ROLKEYDA_STACK_CHECK 16384u
 #define ROLKEYDA_STACK_WALK 8192u
-#define ROLKEYDA_STACK_SOLVE 32768u
+#define ROLKEYDA_STACK_SOLVE 36864u
 
 /*
  * The reply of every function (`Reply` in the crate).
@@ -121,23 +120,6 @@ rolkeyda_reply rolkeyda_check(
     const uint64_t *multiplier, size_t multiplier_length);
 
 /*
- * Remakes the figures and the multipliers of tables that keep rules 201 to 207 and 209; the old ones must be in range. Accepted: both columns
- * are made, rolkeyda_check accepts them, `value` is their bound, and no figures and multipliers give a lower one. Refused: no column is changed.
- * 401 where a block has no path to the last block, 402 where a multiplier is over 2^40, 403 where a figure is outside -2^60 to 2^60. Stack:
- * ROLKEYDA_STACK_SOLVE.
- */
-rolkeyda_reply rolkeyda_solve(
-    const uint32_t *cost, size_t cost_length,
-    const uint16_t *loops, size_t loops_length,
-    const uint16_t *first, size_t first_length,
-    const uint16_t *second, size_t second_length,
-    int64_t *figure, size_t figure_length,
-    const uint16_t *parent, size_t parent_length,
-    const uint16_t *header, size_t header_length,
-    const uint32_t *limit, size_t limit_length,
-    uint64_t *multiplier, size_t multiplier_length);
-
-/*
  * Checks a walk, a list of block numbers, over tables that keep rules 201 to 207 (208 and 209 are not checked). Accepted: the walk is a finished
  * counted run, `value` is its cost and `more` its steps. Stack: ROLKEYDA_STACK_WALK.
  */
@@ -154,10 +136,11 @@ rolkeyda_reply rolkeyda_walk(
     const uint16_t *blocks, size_t blocks_length);
 
 /*
- * Makes the figures and the multipliers of a pair of tables that keep rules 201 to 207 and 209; the given ones must keep 202 and 203 and do
- * not count otherwise (208 is not checked). Accepted: the two columns hold a certificate that rolkeyda_check accepts, and `value` is its bound,
- * which some counted run from block 0 to the last block costs. Refused: neither column is changed. 401 where a block has no path to the
- * last block, 402 where a multiplier passes 2^40, 403 where a figure passes 2^60. Stack: ROLKEYDA_STACK_SOLVE.
+ * Remakes the figures and the multipliers of a pair of tables that keep rules 201 to 207 and 209. The given ones must be in the ranges of 202 and
+ * 203; apart from that they are not read, and 208 is not checked. Accepted: both columns hold the remade certificate, rolkeyda_check accepts it
+ * with the bound `value`, some counted run from block 0 to the last block costs exactly that, and so no certificate gives less. Refused: neither
+ * column is changed. 401 at the lowest block that has no path to the last block, 402 where a multiplier would be over 2^40, 403 where a figure
+ * would be outside -2^60 to 2^60. Stack: ROLKEYDA_STACK_SOLVE.
  */
 rolkeyda_reply rolkeyda_solve(
     const uint32_t *cost, size_t cost_length,
