@@ -1,11 +1,13 @@
 // Bytes and columns that the cases are made of.
 use crate::cells::ZERO;
+use crate::cells::from_u64;
 use crate::cells::plus;
 use crate::cells::put_u8;
 use crate::cells::put_u16;
 use crate::cells::raised;
 use crate::cells::to_u16;
 use crate::reading::Digits;
+use crate::reading::wide;
 use crate::reading::with_digit;
 
 // Puts a piece at an index of the text, and says where the next one goes.
@@ -31,13 +33,77 @@ pub fn push_signed(text: &mut [u8], at: usize, z: i64) -> usize {
     push_number(text, end, ZERO - r)
 }
 
+fn push_comma(text: &mut [u8], at: usize, i: usize) -> usize {
+    if i == 0 {
+        return at;
+    }
+    push(text, at, b",")
+}
+
+fn push_figures(text: &mut [u8], from: usize, figure: &[i64]) -> usize {
+    let mut at = from;
+    for u in 0..figure.len() {
+        let start = push_comma(text, at, u);
+        at = push_signed(text, start, figure[u]);
+    }
+    at
+}
+
+fn push_multipliers(text: &mut [u8], from: usize, multiplier: &[u64]) -> usize {
+    let mut at = from;
+    for k in 0..multiplier.len() {
+        let start = push_comma(text, at, k);
+        at = push_number(text, start, from_u64(multiplier[k]));
+    }
+    at
+}
+
+// The two columns that the solver remakes, as a case has them, and the length of that.
+pub fn push_columns(text: &mut [u8], figure: &[i64], multiplier: &[u64]) -> usize {
+    let figures = push_figures(text, 0, figure);
+    let bar = push(text, figures, b"|");
+    push_multipliers(text, bar, multiplier)
+}
+
 // Whether a letter stands for rows: R for rows that say nothing but their number, W for wide ones, which have about as many bytes as a row can
-// have, both with CR LF; r and w with LF.
+// have, both with CR LF; r and w with LF; T for three rows each, a tower.
 fn is_rows(what: u8) -> bool {
-    (what == b'R') | (what == b'W') | (what == b'r') | (what == b'w')
+    (what == b'R') | (what == b'W') | (what == b'r') | (what == b'w') | (what == b'T')
+}
+
+// A byte of a row in which a, b, c and d stand for the block numbers from a on.
+fn push_lettered(text: &mut [u8], at: usize, a: usize, b: u8) -> usize {
+    if b == b';' {
+        return push(text, at, b"\r\n");
+    }
+    if b < b'a' {
+        put_u8(text, at, b);
+        return plus(at, 1);
+    }
+    push_number(text, at, plus(a, wide(b - b'a')))
+}
+
+fn push_letters(text: &mut [u8], from: usize, a: usize, rows: &[u8]) -> usize {
+    let mut at = from;
+    for i in 0..rows.len() {
+        at = push_lettered(text, at, a, rows[i]);
+    }
+    at
+}
+
+// Tower i: loop a around loop b around loop c, which is a block that names itself, and then on to block d. A round of loop a costs 2^40.
+fn push_tower(text: &mut [u8], at: usize, i: usize, of_blocks: bool) -> usize {
+    let a = plus(plus(plus(i, i), i), 1);
+    if of_blocks {
+        return push_letters(text, at, a, b"a,0,a,b,d,0;b,0,b,c,a,0;c,1024,c,c,b,0;");
+    }
+    push_letters(text, at, a, b"a,0,a,65535,0;b,a,b,32769,0;c,b,c,32768,0;")
 }
 
 fn push_row(text: &mut [u8], at: usize, i: usize, what: u8, of_blocks: bool) -> usize {
+    if what == b'T' {
+        return push_tower(text, at, i, of_blocks);
+    }
     let number = push_number(text, at, i);
     let end = push_cells(text, number, what, of_blocks);
     if (what == b'R') | (what == b'W') {
@@ -197,7 +263,7 @@ fn escaped(b: u8) -> u8 {
 }
 
 // The text that is written in a case, and its length: `;` is CR LF, `%1024R` is 1,024 rows, `%1024W` rows of more bytes, `%1024r` and `%1024w` the
-// same with LF, and `%64*x` a byte 64 times.
+// same with LF, `%16T` 16 towers from row 1 on, and `%64*x` a byte 64 times.
 pub fn make_text(written: &[u8], of_blocks: bool, text: &mut [u8]) -> usize {
     let mut s = Maker {
         state: OUTSIDE,

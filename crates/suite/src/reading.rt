@@ -55,7 +55,7 @@ pub struct Digits {
     pub bad: bool,
 }
 
-fn wide(b: u8) -> usize {
+pub fn wide(b: u8) -> usize {
     b as usize
 }
 

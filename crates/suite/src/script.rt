@@ -12,6 +12,7 @@ use crate::reading::with_digit;
 use crate::running::blocks_into;
 use crate::running::columns;
 use crate::running::loops_into;
+use crate::running::solved_texts;
 use crate::running::texts;
 use crate::tally::Answers;
 use crate::tally::Tally;
@@ -50,8 +51,7 @@ fn with_byte(s: Span, k: usize, i: usize, b: u8) -> Span {
     s
 }
 
-// Field k of a line, empty where there is none.
-fn field(line: &[u8], k: usize) -> &[u8] {
+fn span_of(line: &[u8], k: usize) -> Span {
     let mut s = Span {
         bars: 0,
         from: 0,
@@ -60,7 +60,22 @@ fn field(line: &[u8], k: usize) -> &[u8] {
     for i in 0..line.len() {
         s = with_byte(s, k, i, line[i]);
     }
+    s
+}
+
+// Field k of a line, empty where there is none.
+fn field(line: &[u8], k: usize) -> &[u8] {
+    let s = span_of(line, k);
     part(line, s.from, s.to)
+}
+
+// Field k of a line and those after it, empty where there is none.
+fn rest(line: &[u8], k: usize) -> &[u8] {
+    let s = span_of(line, k);
+    if s.bars < k {
+        return part(line, 0, 0);
+    }
+    part(line, s.from, line.len())
 }
 
 fn first_byte(s: &[u8]) -> u8 {
@@ -114,6 +129,19 @@ fn routine_case(line: &[u8], walked: bool, steps: &[u16]) -> Answers {
         part(&loop_text, 0, m),
         walked,
         steps,
+    )
+}
+
+// block text | loop text | figures | multipliers
+fn solve_case(line: &[u8]) -> Answers {
+    let mut block_text = [0u8; 1024];
+    let mut loop_text = [0u8; 1024];
+    let n = make_text(field(line, 3), true, &mut block_text);
+    let m = make_text(field(line, 4), false, &mut loop_text);
+    solved_texts(
+        part(&block_text, 0, n),
+        part(&loop_text, 0, m),
+        rest(line, 5),
     )
 }
 
@@ -179,7 +207,7 @@ fn long_steps(line: &[u8], length: usize, steps: &[u16; 1048577]) -> Answers {
     routine_case(line, true, first_u16(steps, length, NONE, 0))
 }
 
-// By its first letter; what is none of the others is a run.
+// By its first letter, for `sized` and `solve` by the second one too; what is none of the others is sized.
 fn replies_to(line: &[u8]) -> Answers {
     let kind = first_byte(line);
     if (kind == b'b') | (kind == b'l') {
@@ -188,10 +216,13 @@ fn replies_to(line: &[u8]) -> Answers {
     if (kind == b't') | (kind == b'w') {
         return walk_case(line, kind == b'w');
     }
-    if kind == b's' {
-        return sized_case(line);
+    if kind == b'r' {
+        return long_case(line);
     }
-    long_case(line)
+    if first_byte(part(line, 1, 2)) == b'o' {
+        return solve_case(line);
+    }
+    sized_case(line)
 }
 
 // A line that starts with # is a heading.

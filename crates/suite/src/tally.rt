@@ -63,7 +63,7 @@ fn more(count: u64) -> u64 {
     if count < 1000000 { count + 1 } else { count }
 }
 
-fn same(a: Reply, b: Reply) -> bool {
+pub fn same(a: Reply, b: Reply) -> bool {
     (a.number == b.number) & (a.place == b.place) & (a.value == b.value) & (a.more == b.more)
 }
 
