@@ -145,100 +145,97 @@ pub fn check(t: &Routine) -> Result<i64, Refusal> {
     Ok(i64::from(b.cost[0]) + b.figure[0] - b.figure[n - 1])
 }
 
-// An edge as the solver's passes see it: its target, the number of loops around both ends, and whether it returns to a header from inside the
-// header's loop.
-#[derive(Clone, Copy)]
-struct Edge {
-    to: u16,
-    shared: u32,
-    returns: bool,
-}
-
-const NONE: i64 = i64::MIN;
+const NONE: i64 = -1;
 const CAP: i64 = 1 << 62;
+const LOWEST: i64 = -(1 << 62);
 
-// What the passes read, and the multipliers made so far. A weight is what a forward edge to the block costs.
+// The values that edges lead to: a place for each block, then one for the returns to each loop's header, then one for a missing successor.
+const RETURNS: usize = 1024;
+const NOWHERE: usize = RETURNS + 64;
+
+// A pass fills values from the last block to the first; `values[x]` is the weight of x and of the best way on from it. A weight is what a
+// forward edge to the block costs, NONE at a header whose multiplier is not made: no way passes there.
 struct Solver<'a> {
     t: &'a Routine,
-    around: &'a [u64; 64],
+    depth: [usize; 64],
     order: &'a [u16],
-    edges: [[Option<Edge>; 2]; 1024],
+    places: [[u16; 2]; 1024],
     weight: [i64; 1024],
+    values: [i64; NOWHERE + 1],
     multiplier: [i64; 64],
 }
 
 impl Solver<'_> {
-    fn depth(&self, l: usize) -> u32 {
-        self.around[l].count_ones()
+    // The best way on from block x.
+    fn tail(&self, x: usize) -> i64 {
+        let [first, second] = self.places[x];
+        self.values[first as usize].max(self.values[second as usize])
     }
 
-    // words[x]: the greatest weight of a way from x on to the header of the loop of depth d around x, staying inside it, with one return at its
-    // end; at depth 1 to the exit. NONE where there is no way, and no more than CAP.
-    fn tails(&self, d: u32, words: &mut [i64; 1024]) {
-        let exit = self.t.blocks.cost.len() - 1;
+    // All loops of depth d at once: the ways stay inside the loop and return to its header at their end; at depth 1 they end at the exit.
+    fn tails(&mut self, d: usize) {
+        for (l, &h) in self.t.loops.header.iter().enumerate() {
+            let cost = if l == 0 { 0 } else { i64::from(self.t.blocks.cost[h as usize]) };
+            self.values[RETURNS + l] = if self.depth[l] == d { cost } else { NONE };
+        }
         for &x in self.order.iter().rev() {
-            let along = |edge: &Option<Edge>| match *edge {
-                Some(Edge { to, shared, returns: true }) if shared == d => i64::from(self.t.blocks.cost[to as usize]),
-                Some(Edge { to, shared, returns: false }) if shared >= d => {
-                    let tail = words[to as usize];
-                    if tail == NONE { NONE } else { (tail + self.weight[to as usize]).min(CAP) }
-                }
-                _ => NONE,
-            };
-            let [first, second] = &self.edges[x as usize];
-            words[x as usize] = if d == 1 && x as usize == exit { 0 } else { along(first).max(along(second)) };
+            let (tail, weight) = (self.tail(x as usize), self.weight[x as usize]);
+            self.values[x as usize] = if tail < 0 || weight < 0 { NONE } else { (tail + weight).min(CAP) };
         }
     }
 
-    // Depths from the innermost loops outwards; 402 for one over 2^40.
-    fn multipliers(&mut self, deepest: u32, words: &mut [i64; 1024]) -> Result<(), Refusal> {
-        for d in (2..=deepest).rev() {
-            self.tails(d, words);
-            for l in 1..self.t.loops.parent.len() {
-                if self.depth(l) == d {
-                    let header = self.t.loops.header[l] as usize;
-                    let round = words[header].max(0);
+    // The multipliers, 402 for one over 2^40, and the figures of the headers. Depths from the innermost loops outwards; the tails at a header
+    // by depth are kept for its figure.
+    fn multipliers(&mut self) -> Result<[i64; 64], Refusal> {
+        let m = self.t.loops.parent.len();
+        let mut kept = [[NONE; 17]; 64];
+        for d in (1..=self.depth[..m].iter().copied().max().unwrap_or(0)).rev() {
+            self.tails(d);
+            for l in 0..m {
+                if self.depth[l] < d {
+                    continue;
+                }
+                let header = self.t.loops.header[l] as usize;
+                kept[l][d] = self.tail(header);
+                if self.depth[l] == d && l > 0 {
+                    let round = kept[l][d].max(0);
                     if round > 1 << 40 {
                         return Err((402, 0));
                     }
                     self.multiplier[l] = round;
-                    self.weight[header] += round * (i64::from(self.t.loops.limit[l]) - 1);
+                    self.weight[header] = i64::from(self.t.blocks.cost[header]) + round * (i64::from(self.t.loops.limit[l]) - 1);
                 }
             }
         }
-        Ok(())
-    }
-
-    // The loop of depth d around each loop, if there is one.
-    fn loops_at(&self, d: u32) -> [Option<u8>; 64] {
-        let mut at = [None; 64];
-        for l in 0..self.t.loops.parent.len() {
-            at[l] = if self.depth(l) == d { Some(l as u8) } else { at[self.t.loops.parent[l] as usize] };
-        }
-        at
-    }
-
-    // Depths from loop 0 inwards: a way to the exit may go by the header of any loop around the block. 403 for one over 2^60.
-    fn figures(&self, deepest: u32, words: &mut [i64; 1024]) -> Result<[i64; 1024], Refusal> {
-        let n = self.t.blocks.cost.len();
-        let mut figure = [NONE; 1024];
-        for d in 1..=deepest {
-            self.tails(d, words);
-            let at = self.loops_at(d);
-            for x in 0..n {
-                let Some(l) = at[self.t.blocks.loops[x] as usize] else { continue };
-                let header = self.t.loops.header[l as usize] as usize;
-                let way = match words[x] {
-                    NONE => continue,
-                    tail if l == 0 => tail,
-                    _ if x == header => continue,
-                    tail => tail - self.multiplier[l as usize] + figure[header],
-                };
-                figure[x] = figure[x].max(way);
-                if figure[x] > 1 << 60 {
-                    return Err((403, 0));
+        let mut figure = [LOWEST; 64];
+        for l in 0..m {
+            let mut around = self.t.loops.parent[l] as usize;
+            figure[l] = if kept[l][1] < 0 { LOWEST } else { kept[l][1] };
+            while l > 0 && around > 0 {
+                let tail = kept[l][self.depth[around]];
+                if tail >= 0 {
+                    figure[l] = figure[l].max(tail - self.multiplier[around] + figure[around]);
                 }
+                around = self.t.loops.parent[around] as usize;
             }
+        }
+        Ok(figure)
+    }
+
+    // The figures of all blocks by those of the headers: one more pass. 403 for one over 2^60.
+    fn figures(&mut self, headers: &[i64; 64]) -> Result<[i64; 1024], Refusal> {
+        for (l, &h) in self.t.loops.header.iter().enumerate().skip(1) {
+            self.values[RETURNS + l] = i64::from(self.t.blocks.cost[h as usize]) - self.multiplier[l] + headers[l];
+        }
+        self.values[NOWHERE] = LOWEST;
+        let mut figure = [0; 1024];
+        for &x in self.order.iter().rev() {
+            let way = self.tail(x as usize);
+            if way > 1 << 60 {
+                return Err((403, 0));
+            }
+            figure[x as usize] = way;
+            self.values[x as usize] = way + self.weight[x as usize];
         }
         Ok(figure)
     }
@@ -262,23 +259,26 @@ fn all_lead_out(b: &Blocks, order: &[u16]) -> Result<(), Refusal> {
     lowest(401, n, |u| !marked[u])
 }
 
-// The edges as the passes see them; the forward ones are collected for the order as well.
-fn edges(t: &Routine, around: &[u64; 64], onward: &mut Onward) -> [[Option<Edge>; 2]; 1024] {
+// Where the value of each edge stands; the forward edges are collected for the order as well.
+fn places(t: &Routine, around: &[u64; 64], onward: &mut Onward) -> [[u16; 2]; 1024] {
     let b = &t.blocks;
-    let mut edges = [[None; 2]; 1024];
-    for u in 0..b.cost.len() {
-        let from = around[b.loops[u] as usize];
+    let n = b.cost.len();
+    let mut places = [[NOWHERE as u16; 2]; 1024];
+    for u in 0..n {
         for (i, v) in [b.first[u], b.second[u]].into_iter().enumerate().filter(|&(_, v)| v != MISSING) {
-            let l = b.loops[v as usize] as usize;
-            let returns = t.loops.header[l] == v && from >> l & 1 == 1;
-            edges[u][i] = Some(Edge { to: v, shared: (from & around[l]).count_ones(), returns });
-            if !returns {
+            let l = b.loops[v as usize];
+            if t.loops.header[l as usize] == v && around[b.loops[u] as usize] >> l & 1 == 1 {
+                places[u][i] = RETURNS as u16 + l;
+            } else {
+                places[u][i] = v;
                 onward.incoming[v as usize] += 1;
                 onward.ends[u][i] = v;
             }
         }
     }
-    edges
+    // no edge returns to loop 0's header: that place is the end of a way at the exit
+    places[n - 1] = [RETURNS as u16; 2];
+    places
 }
 
 // Remakes the figures and the multipliers by passes, one for all loops of a depth.
@@ -286,7 +286,7 @@ pub fn solve(t: &mut Routine) -> Result<i64, Refusal> {
     let around = structure(t)?;
     let n = t.blocks.cost.len();
     let mut onward = Onward { ends: [[MISSING; 2]; 1024], incoming: [0; 1024] };
-    let edges = edges(t, &around, &mut onward);
+    let places = places(t, &around, &mut onward);
     let order = order(n, &mut onward)?;
     let order = &order[..n];
     all_lead_out(&t.blocks, order)?;
@@ -294,11 +294,13 @@ pub fn solve(t: &mut Routine) -> Result<i64, Refusal> {
     for (weight, &cost) in weight.iter_mut().zip(&t.blocks.cost) {
         *weight = i64::from(cost);
     }
-    let mut solver = Solver { t, around: &around, order, edges, weight, multiplier: [0; 64] };
-    let deepest = around.iter().map(|set| set.count_ones()).max().unwrap_or(0);
-    let mut words = [NONE; 1024];
-    solver.multipliers(deepest, &mut words)?;
-    let figure = solver.figures(deepest, &mut words)?;
+    for &h in &t.loops.header[1..] {
+        weight[h as usize] = NONE;
+    }
+    let depth = around.map(|set| set.count_ones() as usize);
+    let mut solver = Solver { t, depth, order, places, weight, values: [NONE; NOWHERE + 1], multiplier: [0; 64] };
+    let headers = solver.multipliers()?;
+    let figure = solver.figures(&headers)?;
     let multiplier = solver.multiplier;
     t.blocks.figure.copy_from_slice(&figure[..n]);
     for (to, from) in t.loops.multiplier.iter_mut().zip(multiplier) {

@@ -1,3 +1,5 @@
 pub mod Signs
 pub mod Turns
-pub mod Filling
+pub mod Heads
+pub mod Pass
+pub mod Equations

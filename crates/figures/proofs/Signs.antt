@@ -1,18 +1,42 @@
--- Numbers that are figures, and numbers that are none. Assumes nothing.
+-- Numbers that are figures or tails, and numbers that are none. Assumes nothing.
 use mathlib.Core.Path.{_≡_, refl}
 use mathlib.Core.Bool.{Bool, true, false}
 use mathlib.Core.Option.{none, some}
-use Prim.Native.Nat.{ℕ, _^_, _≤_}
+use Prim.Native.Nat.{ℕ, zero, suc, _-_, _^_, _≤_, _<_}
+use native.Mathlib.Omega.{arith}
+use borrow.Author.Tests.{eq-eqb, ne-eqb}
 use lib.IntN.{ℤ, pos, negℤ, _+ℤ_, _-ℤ_}
 use lib.Signed.{ltZ, _≤ℤ_, _<ℤ_}
 use mir.Syntax.{w64}
 use mir.Val.{SFits}
+use Rattle.integers.specs.Parts.{up, dn}
 use Rattle.integers.proofs.Laws.{ints, sum, diff, size}
 use Rattle.lists.specs.Search.{if_then_else_}
 use Rattle.optimum.specs.Tails.{best}
 use Rattle.optimum.proofs.Tails.{none-some}
-use Rattle.tails.specs.Words.{mostTail}
+use Rattle.tails.specs.Words.{mostTail, mostWord, wordOf}
 use Rattle.figures.specs.Figures.{figureOf, Known}
+
+-- the negative of a number
+pub record Minus (k : ℕ) (z : ℤ) : Type 0 where
+  pub up-part : up z ≡ 0
+  pub dn-part : dn z ≡ k
+
+pub minus : (k : ℕ) → Minus k (negℤ (pos k))
+minus zero = record { up-part = refl; dn-part = refl }
+minus (suc k) = record { up-part = refl; dn-part = refl }
+
+pub no-word : (w : ℕ) → w ≡ 0 → wordOf w ≡ none
+unfolding wordOf
+no-word w e = rw (eq-eqb w 0 e)
+
+pub is-word : (w : ℕ) → (w ≡ 0 → ⊥) → wordOf w ≡ some (w - 1)
+unfolding wordOf
+is-word w ne = rw (ne-eqb w 0 ne)
+
+-- the tail of a word, in signed numbers
+pub tail-signed : (w : ℕ) → (w ≡ 0 → ⊥) → (pos w -ℤ pos 1) ≡ pos (w - 1)
+tail-signed w ne = omega (ints, diff (pos w) (pos 1))
 
 pub is-figure : (z : ℤ) → negℤ (pos (2 ^ 61)) ≤ℤ z → figureOf z ≡ some z
 unfolding figureOf
@@ -31,6 +55,14 @@ figure-same z f e = go (ltZ z (negℤ (pos (2 ^ 61)))) e
     go true e = none-some e
     go false e = cc
 
+pub figure-there : (z f : ℤ) → figureOf z ≡ some f → negℤ (pos (2 ^ 61)) ≤ℤ z
+unfolding figureOf
+figure-there z f e = go (ltZ z (negℤ (pos (2 ^ 61)))) refl e
+  where
+    go : (b : Bool) → ltZ z (negℤ (pos (2 ^ 61))) ≡ b → (if b then none else some z) ≡ some f → negℤ (pos (2 ^ 61)) ≤ℤ z
+    go true b e = none-some e
+    go false b e = omega ints
+
 pub higher-is : (a b : ℤ) → (if ltZ a b then figureOf b else figureOf a) ≡ best ltZ (figureOf a) (figureOf b)
 unfolding figureOf best
 higher-is a b = go (ltZ a b) (ltZ a (negℤ (pos (2 ^ 61)))) (ltZ b (negℤ (pos (2 ^ 61)))) refl refl refl
@@ -44,6 +76,9 @@ higher-is a b = go (ltZ a b) (ltZ a (negℤ (pos (2 ^ 61)))) (ltZ b (negℤ (pos
     go false true false e f g = absurd (omega ints)
     go false false true e f g = refl
     go false false false e f g = rw e
+
+pub one-fits : (w : ℕ) → w ≤ mostWord → SFits w64 (pos w -ℤ pos 1)
+one-fits w h = omega (ints, size (pos w -ℤ pos 1), diff (pos w) (pos 1))
 
 pub less-fits : (w k : ℕ) → w ≤ mostTail → k ≤ 2 ^ 40 → SFits w64 (pos w -ℤ pos k)
 less-fits w k h l = omega (ints, size (pos w -ℤ pos k), diff (pos w) (pos k))
@@ -64,3 +99,9 @@ higher-second a b e = rw e at (higher-is a b)
 
 pub higher-first : (a b : ℤ) → ltZ a b ≡ false → figureOf a ≡ best ltZ (figureOf a) (figureOf b)
 higher-first a b e = rw e at (higher-is a b)
+
+pub higher-over : (a b : ℤ) → ltZ a b ≡ true → a ≤ℤ b
+higher-over a b e = omega ints
+
+pub higher-same : (a : ℤ) → a ≤ℤ a
+higher-same a = omega ints

@@ -1,54 +1,133 @@
--- The figures after the loops of one level, and of all: for functions that are no public entry.
-use Prim.Native.Nat.{ℕ, _^_, _≤_, _<_}
+-- The figures of the headers after the loops of one level and of all, and the figures of all blocks: for functions that are no public entry.
+use Prim.Native.Nat.{ℕ, _+_, _*_, _-_, _^_, _≤_, _<_}
 use mathlib.Core.Path.{_≡_}
 use mathlib.Core.Bool.{Bool, true, false}
 use mathlib.Core.List.{List}
 use mathlib.Core.Option.{Option, none, some}
-use lib.Dec.{eqb}
-use lib.IntN.{ℤ, pos}
+use lib.Dec.{eqb, ltb}
+use lib.IntN.{ℤ, pos, negℤ, _+ℤ_, _-ℤ_}
 use lib.ListN.{length, getD}
 use lib.Signed.{ltZ, _≤ℤ_, _<ℤ_}
-use Rattle.limits.specs.Limits.{mostBlocks, mostLoops}
+use Rattle.limits.specs.Limits.{mostBlocks, mostLoops, mostDepth}
 use Rattle.lists.specs.Search.{if_then_else_}
-use Rattle.wcet.specs.Table.{Routine, blockCount, loopCount}
-use Rattle.levels.specs.Levels.{noLoop}
+use Rattle.wcet.specs.Table.{Routine, blockCount, loopCount, header}
+use Rattle.wcet.specs.Cycles.{undeclaredLoop}
+use Rattle.wcet.specs.Rules.{structureRules}
+use Rattle.wcet.specs.Claim.{AllHold}
+use Rattle.loopsets.specs.Sets.{setsAround, Parents}
+use Rattle.order.specs.Ordering.{Topological}
+use Rattle.levels.specs.Levels.{noLoop, Deep}
+use Rattle.optimum.specs.Remade.{PathToExit}
 use Rattle.optimum.specs.Tails.{best}
-use Rattle.optimum.specs.Columns.{tails, figureBy}
-use Rattle.tails.specs.Words.{wordOf}
-use Rattle.figures.specs.Figures.{figureOf, Known, turnOf}
+use Rattle.optimum.specs.Columns.{tails, figureBy, remultiplied, remadeFigures}
+use Rattle.tails.specs.Words.{wordOf, Low}
+use Rattle.tails.specs.Slots.{SlotsOf, Slotted}
+use Rattle.multipliers.specs.Columns.{keptAt, MultipliedOf}
+use Rattle.figures.specs.Figures.{noFigure, figureOf, Known, turnOf, WeightFits, greaterOf}
 
--- what a level gives to the figure of block x, by the words and the figures of the headers, none where x is inside no loop of it; and the
--- figure of x then
-abbrev pub turnBy : (words loops headers multipliers level : List ℕ) (figures : List ℤ) → ℕ → Option ℤ
-turnBy words loops headers multipliers level figures x =
-    if eqb (getD level (getD loops x 0) 0) noLoop then none else
-    turnOf (eqb (getD level (getD loops x 0) 0) 0) (eqb x (getD headers (getD level (getD loops x 0) 0) 0)) (getD multipliers (getD level (getD loops x 0) 0) 0) (wordOf (getD words x 0)) (figureOf (getD figures (getD headers (getD level (getD loops x 0) 0) 0) (pos 0)))
+-- ---- the figures of the headers
 
-unfoldable pub filledBy : (words loops headers multipliers level : List ℕ) (figures : List ℤ) → ℕ → Option ℤ
-filledBy words loops headers multipliers level figures x = best ltZ (figureOf (getD figures x (pos 0))) (turnBy words loops headers multipliers level figures x)
+-- what a level of depth d gives to the figure of l's header, none where l is inside no loop of it; and the figure then
+abbrev pub turnBy : (kept made level : List ℕ) (d : ℕ) (heads : List ℤ) → ℕ → Option ℤ
+turnBy kept made level d heads l =
+    if eqb (getD level l 0) noLoop then none else
+    turnOf (eqb (getD level l 0) 0) (eqb l (getD level l 0)) (getD made (getD level l 0) 0) (wordOf (getD kept (keptAt l d) 0)) (figureOf (getD heads (getD level l 0) (pos 0)))
 
--- what the turn of a level requires: its loops are loops, and the header of each is a block whose loop of the level it is
-pub record Turnable (loops headers multipliers level : List ℕ) (figures : List ℤ) : Type 0 where
-  pub few-blocks : length loops ≤ mostBlocks
-  pub few-loops : length headers ≤ mostLoops
-  pub size : length figures ≡ mostBlocks
-  pub innermost : (x : ℕ) → x < length loops → getD loops x 0 < length headers
-  pub chosen : (k : ℕ) → k < length headers → (getD level k 0 ≡ noLoop → ⊥) → getD level k 0 < length headers
-  pub header-block : (l : ℕ) → l < length headers → getD headers l 0 < length loops
-  pub header-own : (l : ℕ) → l < length headers → getD loops (getD headers l 0) 0 ≡ l
-  pub own : (k : ℕ) → k < length headers → (getD level k 0 ≡ noLoop → ⊥) → getD level (getD level k 0) 0 ≡ getD level k 0
-  pub multiplier-most : (l : ℕ) → l < length headers → getD multipliers l 0 ≤ 2 ^ 40
-  pub known : (x : ℕ) → x < length loops → Known (getD figures x (pos 0))
+unfoldable pub filledBy : (kept made level : List ℕ) (d : ℕ) (heads : List ℤ) → ℕ → Option ℤ
+filledBy kept made level d heads l = best ltZ (figureOf (getD heads l (pos 0))) (turnBy kept made level d heads l)
+
+-- a figure is not below −b, if it is one, and not over 2^60; a word that is none is not below −2^62
+pub record Bounded (b : ℕ) (z : ℤ) : Type 0 where
+  pub most : z ≤ℤ pos (2 ^ 60)
+  pub least : noFigure ≤ℤ z
+  pub figure-least : negℤ (pos (2 ^ 61)) ≤ℤ z → negℤ (pos b) ≤ℤ z
+
+-- what the turn of a level of depth d requires: its loops are loops of m, each in its own place; the figures so far are not below −2^40 for each
+-- depth before d
+pub record Turnable (made level : List ℕ) (d m : ℕ) (heads : List ℤ) : Type 0 where
+  pub few : m ≤ mostLoops
+  pub deep : (1 ≤ d) × (d ≤ mostDepth)
+  pub size : length heads ≡ mostLoops
+  pub chosen : (l : ℕ) → l < m → (getD level l 0 ≡ noLoop → ⊥) → getD level l 0 < m
+  pub own : (l : ℕ) → l < m → (getD level l 0 ≡ noLoop → ⊥) → getD level (getD level l 0) 0 ≡ getD level l 0
+  pub multiplier-most : (l : ℕ) → l < m → getD made l 0 ≤ 2 ^ 40
+  pub bounded : (l : ℕ) → l < m → Bounded (2 ^ 40 * (d - 1)) (getD heads l (pos 0))
 
 -- the figures when the loops of a level have had their turn, unless one of them is over 2^60
-pub record Turned (words loops headers multipliers level : List ℕ) (old : List ℤ) (over : Bool) (new : List ℤ) : Type 0 where
-  pub size : length new ≡ mostBlocks
-  pub same : over ≡ false → (x : ℕ) → x < length loops → figureOf (getD new x (pos 0)) ≡ filledBy words loops headers multipliers level old x
-  pub low : over ≡ false → (x : ℕ) → x < length loops → getD new x (pos 0) ≤ℤ pos (2 ^ 60)
-  pub high : over ≡ true → (x : ℕ) × (x < length loops) × ((f : ℤ) × (filledBy words loops headers multipliers level old x ≡ some f) × (pos (2 ^ 60) <ℤ f))
+pub record Turned (kept made level : List ℕ) (d m : ℕ) (old : List ℤ) (over : Bool) (new : List ℤ) : Type 0 where
+  pub size : length new ≡ mostLoops
+  pub same : over ≡ false → (l : ℕ) → l < m → figureOf (getD new l (pos 0)) ≡ filledBy kept made level d old l
+  pub bounded : over ≡ false → (l : ℕ) → l < m → Bounded (2 ^ 40 * d) (getD new l (pos 0))
+  pub high : over ≡ true → (l : ℕ) × (l < m) × ((f : ℤ) × (filledBy kept made level d old l ≡ some f) × (pos (2 ^ 60) <ℤ f))
 
--- the figures when all loops have had their turns, unless one of them is over 2^60
-pub record Figured (t : Routine) (over : Bool) (values : List ℤ) : Type 0 where
-  pub same : over ≡ false → (x : ℕ) → x < blockCount t → figureOf (getD values x (pos 0)) ≡ figureBy t (tails t) (loopCount t) x
-  pub low : over ≡ false → (x : ℕ) → x < blockCount t → getD values x (pos 0) ≤ℤ pos (2 ^ 60)
-  pub high : over ≡ true → (x : ℕ) × (x < blockCount t) × ((f : ℤ) × (figureBy t (tails t) (loopCount t) x ≡ some f) × (pos (2 ^ 60) <ℤ f))
+pub record HeadsReadied (parents kept made depths : List ℕ) (deepest : ℕ) : Type 0 where
+  pub some-loop : 0 < length parents
+  pub few-loops : length parents ≤ mostLoops
+  pub parents-below : Parents parents
+  pub deep : Deep parents depths deepest
+  pub few-depths : deepest ≤ mostDepth
+  pub kept-low : Low kept
+  pub multiplier-most : (l : ℕ) → l < length parents → getD made l 0 ≤ 2 ^ 40
+
+-- the figures of the headers of t, by its remade multipliers, unless one of them is over 2^60
+pub record HeadsFigured (t : Routine) (over : Bool) (heads : List ℤ) : Type 0 where
+  pub same : over ≡ false → (l : ℕ) → l < loopCount t → figureOf (getD heads l (pos 0)) ≡ figureBy (remultiplied t) (tails (remultiplied t)) (loopCount t) (header t l)
+  pub high : over ≡ true → (l : ℕ) × (l < loopCount t) × ((f : ℤ) × (figureBy (remultiplied t) (tails (remultiplied t)) (loopCount t) (header t l) ≡ some f) × (pos (2 ^ 60) <ℤ f))
+
+-- of every routine with these parents that passes 201 to 207 and has these tails and multipliers
+pub record HeadsOf (parents kept made : List ℕ) (over : Bool) (heads : List ℤ) : Type 0 where
+  pub size : length heads ≡ mostLoops
+  pub bounded : over ≡ false → (l : ℕ) → l < length parents → Bounded (2 ^ 40 * mostDepth) (getD heads l (pos 0))
+  pub says : (t : Routine) (weights : List ℕ) → t .parents ≡ parents → AllHold (structureRules t) → MultipliedOf t false made weights kept → HeadsFigured t over heads
+
+-- ---- the figures of all blocks
+
+-- the gates, and the places before and after them
+pub record GatesSet (costs headers made : List ℕ) (heads old new : List ℤ) : Type 0 where
+  pub size : length new ≡ length old
+  pub exit-gate : getD new mostBlocks (pos 0) ≡ pos 0
+  pub gate : (l : ℕ) → 0 < l → l < length headers
+      → getD new (mostBlocks + l) (pos 0) ≡ pos (getD costs (getD headers l 0) 0) -ℤ pos (getD made l 0) +ℤ getD heads l (pos 0)
+  pub rest : (i : ℕ) → i < mostBlocks → getD new i (pos 0) ≡ getD old i (pos 0)
+  pub after : (i : ℕ) → mostBlocks + length headers ≤ i → mostBlocks < i → getD new i (pos 0) ≡ getD old i (pos 0)
+
+-- the value in slot s by the figures F: a block's figure and weight, or a gate
+abbrev pub slotValue : (F : ℕ → ℤ) (n : ℕ) (weights : List ℕ) (gates : List ℤ) → ℕ → ℤ
+slotValue F n weights gates s = if ltb s n then F s +ℤ pos (getD weights s 0 - 1) else getD gates s (pos 0)
+
+-- F are figures of n blocks by these slots, and the slots of a block that are blocks stand after it in the order
+pub record Equations (F : ℕ → ℤ) (n : ℕ) (weights firstSlots secondSlots order : List ℕ) (gates : List ℤ) : Type 0 where
+  pub each : (x : ℕ) → x < n → F x ≡ greaterOf (slotValue F n weights gates (getD firstSlots x 0)) (slotValue F n weights gates (getD secondSlots x 0))
+  pub position : ℕ → ℕ
+  pub within : (u : ℕ) → u < n → position u < n
+  pub there : (u : ℕ) → u < n → getD order (position u) 0 ≡ u
+  pub index : (i : ℕ) → i < n → position (getD order i 0) ≡ i
+  pub first-later : (x : ℕ) → x < n → getD firstSlots x 0 < n → position x < position (getD firstSlots x 0)
+  pub second-later : (x : ℕ) → x < n → getD secondSlots x 0 < n → position x < position (getD secondSlots x 0)
+
+-- a pass makes them, unless one of them is over 2^60
+pub record FiguresFilled (weights firstSlots secondSlots order : List ℕ) (n : ℕ) (gates : List ℤ) (over : Bool) (figures : List ℤ) : Type 0 where
+  pub size : length figures ≡ mostBlocks
+  pub says : (F : ℕ → ℤ) → Equations F n weights firstSlots secondSlots order gates
+      → (over ≡ false → (x : ℕ) → x < n → (getD figures x (pos 0) ≡ F x) × (F x ≤ℤ pos (2 ^ 60))) × (over ≡ true → (x : ℕ) × (x < n) × (pos (2 ^ 60) <ℤ F x))
+
+pub record Readied (costs parents headers made weights kept depths : List ℕ) (deepest : ℕ) (firstSlots secondSlots order : List ℕ) : Type 0 where
+  pub heads-readied : HeadsReadied parents kept made depths deepest
+  pub headers-size : length headers ≡ length parents
+  pub header-block : (l : ℕ) → l < length headers → getD headers l 0 < length costs
+  pub weight-range : (x : ℕ) → x < length costs → WeightFits (getD weights x 0)
+  pub slotted : Slotted (length costs) firstSlots secondSlots order
+
+-- the remade figures of t, unless one of them is over 2^60
+pub record FiguredOf (t : Routine) (over : Bool) (figures : List ℤ) : Type 0 where
+  pub same : over ≡ false → (x : ℕ) → x < blockCount t → getD figures x (pos 0) ≡ getD (remadeFigures t) x (pos 0)
+  pub low : over ≡ false → (x : ℕ) → x < blockCount t → getD (remadeFigures t) x (pos 0) ≤ℤ pos (2 ^ 60)
+  pub high : over ≡ true → (x : ℕ) × (x < blockCount t) × (pos (2 ^ 60) <ℤ getD (remadeFigures t) x (pos 0))
+
+-- of every routine with these three columns that passes 201 to 207, 209 and 401, if the multipliers, the tails, the slots and the order are its own
+pub record Figured (costs parents headers made weights kept firstSlots secondSlots order : List ℕ) (over : Bool) (figures : List ℤ) : Type 0 where
+  pub size : length figures ≡ mostBlocks
+  pub says : (t : Routine) (sets : List ℕ) → t .costs ≡ costs → t .parents ≡ parents → t .headers ≡ headers → AllHold (structureRules t) → undeclaredLoop t ≡ false
+      → ((u : ℕ) → u < blockCount t → PathToExit t u) → sets ≡ setsAround (t .parents) → Topological t order
+      → SlotsOf sets (t .loops) (t .headers) (t .firsts) firstSlots → SlotsOf sets (t .loops) (t .headers) (t .seconds) secondSlots
+      → MultipliedOf t false made weights kept → FiguredOf t over figures

@@ -1,71 +1,72 @@
-// The figures of a routine, remade: the smallest that meet all inequalities with its multipliers, by one pass over the blocks for each nesting
-// depth.
+// The figures of a routine, remade: the smallest that meet all inequalities with its multipliers. First those of the headers, by the tails at
+// them, depth by depth; then those of all blocks by one pass, since a block's figure is the greatest that one of its edges asks for.
 ghost use mathlib.Core.Path.{_≡_};
-ghost use mathlib.Core.List.{[]};
-ghost use Prim.Native.Nat.{ℕ, _^_, _≤_, _<_};
+ghost use Prim.Native.Nat.{ℕ, _+_, _^_, _≤_, _<_};
 ghost use lib.Dec.{eqb};
 ghost use lib.IntN.{pos};
 ghost use lib.ListN.{length, getD};
-ghost use lib.Signed.{ltZ};
+ghost use lib.Signed.{ltZ, _≤ℤ_};
 ghost use Rattle.limits.specs.Limits.{mostBlocks, mostLoops};
-ghost use Rattle.loopsets.specs.Sets.{setsAround};
-ghost use Rattle.nesting.specs.Columns.{routine};
-ghost use Rattle.order.specs.Ordering.{Topological};
-ghost use Rattle.levels.specs.Levels.{Deep};
 ghost use Rattle.optimum.specs.Tails.{best};
 ghost use Rattle.optimum.specs.Columns.{fromExit, fromHeader};
-ghost use Rattle.tails.specs.Words.{wordOf};
-ghost use Rattle.tails.specs.Columns.{Passed};
-ghost use Rattle.figures.specs.Figures.{noFigure, figureOf, Known, turnOf};
-ghost use Rattle.figures.specs.Columns.{Turnable, Turned, Figured};
+ghost use Rattle.tails.specs.Words.{mostWord, wordOf, Low};
+ghost use Rattle.tails.specs.Slots.{places, Slotted};
+ghost use Rattle.figures.specs.Figures.{noFigure, figureOf, Known, turnOf, HeadFits, ValuesFit, WeightFits, greaterOf};
+ghost use Rattle.figures.specs.Columns.{Turnable, Turned, HeadsReadied, HeadsOf, GatesSet, FiguresFilled, Readied, Figured};
 use limits::MOST_BLOCKS;
 use limits::MOST_LOOPS;
-use loopsets::Sets;
-use tails::MOST_TAIL;
-use tails::NO_TAIL;
+use tails::PLACES;
 
-// For each block a tail, or none.
+// For each block a weight, or 16 tails for each loop.
 type Words = [u64; MOST_BLOCKS];
 
-// For each loop its multiplier.
+type Slots = [u16; MOST_BLOCKS];
+
 type Multipliers = [u64; MOST_LOOPS];
 
-// For each block its figure, or none.
+type Depths = [u16; MOST_LOOPS];
+
+// For each loop the figure of its header, or none.
+type Heads = [i64; MOST_LOOPS];
+
 type Figures = [i64; MOST_BLOCKS];
 
-// For each loop the loop of one depth around it.
-type Level = [u16; MOST_LOOPS];
+// A place for each block and a gate for each loop, as in a pass of tails.
+type Values = [i64; PLACES];
 
 // No figure is a number below −2^61.
 pub const NO_FIGURE: i64 = -4611686018427387904;
 
+// ---- the figures of the headers
+
 // A figure by a tail to the exit.
 fn from_exit(w: u64) -> i64
+    requires { ⌜ w ≤ mostWord ⌝ }
     ensures { λ r. ⌜ figureOf r ≡ fromExit (wordOf w) ⌝ }
 {
-    if MOST_TAIL < w {
+    if w == 0 {
         return NO_FIGURE;
     }
-    w as i64
+    w as i64 - 1
 }
 
 // A figure by a tail of a loop with multiplier k, from the figure of the loop's header.
 fn from_header(k: u64, w: u64, head: i64) -> i64
-    requires { ⌜ (k ≤ 2 ^ 40) × Known head ⌝ }
+    requires { ⌜ (k ≤ 2 ^ 40) × (w ≤ mostWord) × Known head ⌝ }
     ensures { λ r. ⌜ figureOf r ≡ fromHeader k (wordOf w) (figureOf head) ⌝ }
 {
-    if MOST_TAIL < w {
+    if w == 0 {
         return NO_FIGURE;
     }
     if head < -2305843009213693952 {
         return NO_FIGURE;
     }
-    w as i64 - k as i64 + head
+    w as i64 - 1 - k as i64 + head
 }
 
 // The greater of two figures.
 fn higher(a: i64, b: i64) -> i64
-    ensures { λ r. ⌜ figureOf r ≡ best ltZ (figureOf a) (figureOf b) ⌝ }
+    ensures { λ r. ⌜ (figureOf r ≡ best ltZ (figureOf a) (figureOf b)) × (a ≤ℤ r) ⌝ }
 {
     if a < b {
         return b;
@@ -73,98 +74,161 @@ fn higher(a: i64, b: i64) -> i64
     a
 }
 
-// What loop l, which is around block x, gives to the figure of x.
-fn turn_at(
-    values: &Figures,
-    words: &Words,
-    header: &[u16],
-    multiplier: &Multipliers,
-    l: usize,
-    x: usize,
-) -> i64
-    requires { ⌜ (x < mostBlocks) × (l < length (now header)) × (length (now header) ≤ mostLoops) × (getD (now header) l 0 < mostBlocks) × (getD (now multiplier) l 0 ≤ 2 ^ 40) × Known (getD (now values) (getD (now header) l 0) (pos 0)) ⌝ }
-    ensures { λ r. ⌜ figureOf r ≡ turnOf (eqb l 0) (eqb x (getD (now (header .entry)) l 0)) (getD (now (multiplier .entry)) l 0) (wordOf (getD (now (words .entry)) x 0)) (figureOf (getD (now (values .entry)) (getD (now (header .entry)) l 0) (pos 0))) ⌝ }
+// What loop j, which is around loop l, gives to the figure of l's header, whose tail of j is w.
+fn turn_at(heads: &Heads, made: &Multipliers, j: usize, l: usize, w: u64) -> i64
+    requires { ⌜ (j < mostLoops) × (w ≤ mostWord) × (getD (now made) j 0 ≤ 2 ^ 40) × Known (getD (now heads) j (pos 0)) ⌝ }
+    ensures { λ r. ⌜ figureOf r ≡ turnOf (eqb j 0) (eqb l j) (getD (now (made .entry)) j 0) (wordOf w) (figureOf (getD (now (heads .entry)) j (pos 0))) ⌝ }
 {
-    if l == 0 {
-        return from_exit(words[x]);
+    if j == 0 {
+        return from_exit(w);
     }
-    let h = header[l] as usize;
-    if x == h {
+    if l == j {
         return NO_FIGURE;
     }
-    from_header(multiplier[l], words[x], values[h])
+    from_header(made[j], w, heads[j])
 }
 
-// The turn of the loops of a level: what each gives to the figures of the blocks inside it. Returns whether one is over 2^60.
+// The turn of the m loops of a level of depth d: what each gives to the figures of the headers inside it. Returns whether one is over 2^60.
 fn take_turns(
-    values: &mut Figures,
-    words: &Words,
-    loops: &[u16],
-    header: &[u16],
-    multiplier: &Multipliers,
-    level: &Level,
+    heads: &mut Heads,
+    kept: &Words,
+    made: &Multipliers,
+    level: &[u16; MOST_LOOPS],
+    d: u16,
+    m: usize,
 ) -> bool
-    requires { ⌜ Turnable (now loops) (now header) (now multiplier) (now level) (now values) ⌝ }
-    ensures { λ r. ⌜ Turned (now (words .entry)) (now (loops .entry)) (now (header .entry)) (now (multiplier .entry)) (now (level .entry)) (now (values .entry)) r (now (values .exit)) ⌝ }
+    requires { ⌜ Turnable (now made) (now level) d m (now heads) × Low (now kept) ⌝ }
+    ensures { λ r. ⌜ Turned (now (kept .entry)) (now (made .entry)) (now (level .entry)) d m (now (heads .entry)) r (now (heads .exit)) ⌝ }
 {
-    let mut x = 0;
-    while x < loops.len() {
-        let k = loops[x] as usize;
-        let l = level[k];
-        if l != 65535 {
-            let given = turn_at(values, words, header, multiplier, l as usize, x);
-            let f = higher(values[x], given);
+    let mut l = 0;
+    while l < m {
+        let j = level[l];
+        if j != 65535 {
+            let given = turn_at(heads, made, j as usize, l, kept[l * 16 + d as usize - 1]);
+            let f = higher(heads[l], given);
             if 1152921504606846976 < f {
                 return true;
             }
-            values[x] = f;
+            heads[l] = f;
         }
-        x += 1;
+        l += 1;
     }
     false
 }
 
-// The figures: depth by depth, loop 0 first, since a figure inside a loop can come from the figure of the loop's header. Returns whether one is
-// over 2^60; then the others are not made.
-pub fn remake_figures(
-    values: &mut Figures,
-    around: &Sets,
-    cost: &[u32],
-    loops: &[u16],
-    first: &[u16],
-    second: &[u16],
+// The figures of the headers: depth by depth, loop 0 first, since the figure of a header inside a loop can come from that of the loop's header.
+fn head_figures(
+    heads: &mut Heads,
     parent: &[u16],
-    header: &[u16],
-    limit: &[u32],
-    multiplier: &Multipliers,
-    depths: &[u16; MOST_LOOPS],
+    kept: &Words,
+    made: &Multipliers,
+    depths: &Depths,
     deepest: u16,
-    order: &[u16; MOST_BLOCKS],
 ) -> bool
-    requires { ⌜ Passed (routine (now cost) (now loops) (now first) (now second) [] (now parent) (now header) (now limit) (now multiplier)) × (now around ≡ setsAround (now parent)) × Topological (routine (now cost) (now loops) (now first) (now second) [] (now parent) (now header) (now limit) (now multiplier)) (now order) × Deep (now parent) (now depths) deepest × (length (now values) ≡ mostBlocks) × ((x : ℕ) → x < mostBlocks → getD (now values) x (pos 0) ≡ noFigure) ⌝ }
-    ensures { λ r. ⌜ Figured (routine (now (cost .entry)) (now (loops .entry)) (now (first .entry)) (now (second .entry)) [] (now (parent .entry)) (now (header .entry)) (now (limit .entry)) (now (multiplier .entry))) r (now (values .exit)) ⌝ }
+    requires { ⌜ HeadsReadied (now parent) (now kept) (now made) (now depths) deepest × (length (now heads) ≡ mostLoops) × ((l : ℕ) → l < mostLoops → getD (now heads) l (pos 0) ≡ noFigure) ⌝ }
+    ensures { λ r. ⌜ HeadsOf (now (parent .entry)) (now (kept .entry)) (now (made .entry)) r (now (heads .exit)) ⌝ }
 {
-    let mut words = [NO_TAIL; MOST_BLOCKS];
     let mut d = 0;
     while d < deepest {
         d += 1;
         let level = levels::level_of(parent, depths, d);
-        tails::fill_tails(
-            &mut words,
-            around,
-            cost,
-            loops,
-            first,
-            second,
-            header,
-            limit,
-            multiplier,
-            &level,
-            order,
-        );
-        if take_turns(values, &words, loops, header, multiplier, &level) {
+        if take_turns(heads, kept, made, &level, d, parent.len()) {
             return true;
         }
     }
     false
+}
+
+// ---- the figures of all blocks
+
+// The gates: what a back edge to the header of each loop asks for, and 0 at the gate of loop 0, the slot of the exit.
+fn set_gates(values: &mut Values, cost: &[u32], header: &[u16], made: &Multipliers, heads: &Heads)
+    requires { ⌜ (length (now values) ≡ places) × (length (now header) ≤ mostLoops) × ((l : ℕ) → l < length (now header) → (getD (now header) l 0 < length (now cost)) × (getD (now made) l 0 ≤ 2 ^ 40) × HeadFits (getD (now heads) l (pos 0))) ⌝ }
+    ensures { λ _. ⌜ GatesSet (now (cost .entry)) (now (header .entry)) (now (made .entry)) (now (heads .entry)) (now (values .entry)) (now (values .exit)) ⌝ }
+{
+    values[1024] = 0;
+    let mut l = 1;
+    while l < header.len() {
+        let h = header[l] as usize;
+        values[1024 + l] = cost[h] as i64 - made[l] as i64 + heads[l];
+        l += 1;
+    }
+}
+
+// The figure of block x: the greater of the values in its slots.
+fn figure_of(values: &Values, firsts: &Slots, seconds: &Slots, x: usize) -> i64
+    requires { ⌜ (x < mostBlocks) × (getD (now firsts) x 0 < places) × (getD (now seconds) x 0 < places) ⌝ }
+    ensures { λ r. ⌜ r ≡ greaterOf (getD (now (values .entry)) (getD (now (firsts .entry)) x 0) (pos 0)) (getD (now (values .entry)) (getD (now (seconds .entry)) x 0) (pos 0)) ⌝ }
+{
+    let s = firsts[x] as usize;
+    let a = values[s];
+    let s = seconds[x] as usize;
+    let b = values[s];
+    if a < b {
+        return b;
+    }
+    a
+}
+
+// The figures of n blocks: from the last in a topological order to the first. The value of a block is its figure and its weight. Returns whether a
+// figure is over 2^60; then the others are not made.
+fn fill_figures(
+    figures: &mut Figures,
+    values: &mut Values,
+    weights: &Words,
+    firsts: &Slots,
+    seconds: &Slots,
+    order: &[u16; MOST_BLOCKS],
+    n: usize,
+) -> bool
+    requires { ⌜ (length (now figures) ≡ mostBlocks) × (length (now values) ≡ places) × ValuesFit (now values) × ((x : ℕ) → x < n → WeightFits (getD (now weights) x 0)) × Slotted n (now firsts) (now seconds) (now order) ⌝ }
+    ensures { λ r. ⌜ FiguresFilled (now (weights .entry)) (now (firsts .entry)) (now (seconds .entry)) (now (order .entry)) n (now (values .entry)) r (now (figures .exit)) ⌝ }
+{
+    let mut i = n;
+    while 0 < i {
+        i -= 1;
+        let x = order[i] as usize;
+        let f = figure_of(values, firsts, seconds, x);
+        if 1152921504606846976 < f {
+            return true;
+        }
+        figures[x] = f;
+        values[x] = f + (weights[x] - 1) as i64;
+    }
+    false
+}
+
+// The figures of all blocks, after 401: each has one. Returns whether one is over 2^60; then the others are not made.
+pub fn remake_figures(
+    figures: &mut Figures,
+    cost: &[u32],
+    parent: &[u16],
+    header: &[u16],
+    made: &Multipliers,
+    weights: &Words,
+    kept: &Words,
+    depths: &Depths,
+    deepest: u16,
+    firsts: &Slots,
+    seconds: &Slots,
+    order: &[u16; MOST_BLOCKS],
+) -> bool
+    requires { ⌜ Readied (now cost) (now parent) (now header) (now made) (now weights) (now kept) (now depths) deepest (now firsts) (now seconds) (now order) × (length (now figures) ≡ mostBlocks) ⌝ }
+    ensures { λ r. ⌜ Figured (now (cost .entry)) (now (parent .entry)) (now (header .entry)) (now (made .entry)) (now (weights .entry)) (now (kept .entry)) (now (firsts .entry)) (now (seconds .entry)) (now (order .entry)) r (now (figures .exit)) ⌝ }
+{
+    let mut heads = [NO_FIGURE; MOST_LOOPS];
+    if head_figures(&mut heads, parent, kept, made, depths, deepest) {
+        return true;
+    }
+    let mut values = [NO_FIGURE; PLACES];
+    set_gates(&mut values, cost, header, made, &heads);
+    fill_figures(
+        figures,
+        &mut values,
+        weights,
+        firsts,
+        seconds,
+        order,
+        cost.len(),
+    )
 }

@@ -1,18 +1,23 @@
 -- The depth of a loop is one more than its parent's (`depth-parent`), and an enclosing loop is less deep (`depth-inner`). The loops around a
--- loop are a chain (`around-both`), so among them the deeper is the greater. Where the loops of one depth are chosen, a loop is inside a chosen
+-- loop are a chain (`around-both`), so among them the deeper is the greater; there are as many as its depth (`depth-count`), one of each
+-- depth up to its own (`at-depth`), and by 205 at most 16 (`depth-most16`). Where the loops of one depth are chosen, a loop is inside a chosen
 -- one exactly where the same is chosen for it (`level-same`). Assumes nothing.
 use mathlib.Core.Path.{_≡_, refl, sym, _∙_, ap}
-use mathlib.Core.Bool.{Bool, true, false, true≢false}
+use mathlib.Core.Bool.{Bool, true, false, not, _&&_, _||_, and-true, or-true, true≢false}
 use mathlib.Core.List.{List}
 use Prim.Native.Nat.{ℕ, zero, suc, _≤_, _<_}
-use native.Mathlib.Decide.{ℕ-discrete}
+use native.Mathlib.Decide.{ℕ-discrete, decLe}
 use native.Mathlib.Omega.{arith}
 use lib.Dec.{eqb, ltb}
 use borrow.Author.Tests.{ltb-true, ltb-false, eqb-true, eq-eqb, ne-eqb}
-use lib.ListN.{length, getD}
-use Rattle.limits.specs.Limits.{mostLoops}
-use Rattle.lists.specs.Search.{if_then_else_}
-use Rattle.wcet.specs.Table.{around}
+use lib.ListN.{length, getD, List·getD-eq-default}
+use Rattle.limits.specs.Limits.{mostLoops, mostDepth}
+use Rattle.lists.specs.Search.{if_then_else_, countBelow}
+use Rattle.lists.proofs.Search.{count-ext, count-none, count-remove}
+use Rattle.wcet.specs.Table.{Routine, loopCount, parent, around, inside}
+use Rattle.wcet.specs.Rules.{tooDeep, structureRules}
+use Rattle.wcet.specs.Claim.{AllHold}
+use Rattle.wcet.proofs.Nesting.{Nested, nested}
 use Rattle.wcet.proofs.Entry.{around-0}
 use Rattle.wcet.proofs.Around.{around-parent, around-above}
 use Rattle.loopsets.specs.Sets.{Parents}
@@ -95,6 +100,72 @@ module _ (parents : List ℕ) (P : Parents parents) where
       go (no ne) (yes z) = own (z ∙ eqb-true 0 l (sym (around-0 parents (P .root) (length parents) l) ∙ rw z at a))
       go (no ne) (no nz) = up (omega arith) (P .below j (omega arith)) (rw (ne-eqb j l ne) at (sym (around-parent parents (P .root) (P .below) j l (omega arith) h) ∙ a))
 
+  -- the loops around k have every depth up to k's
+  depth-around : (n k d : ℕ) → k < n → k < length parents → 1 ≤ d → d ≤ depth parents k
+      → (l : ℕ) × (l < length parents) × (around parents (length parents) k l ≡ true) × (depth parents l ≡ d)
+  depth-around zero k d b h least le = absurd (omega arith)
+  depth-around (suc n) k d b h least le = go (ℕ-discrete k 0) (ℕ-discrete (depth parents k) d) (λ z c. depth-around n (getD parents k 0) d z c least)
+    where
+      go : Dec (k ≡ 0) → Dec (depth parents k ≡ d)
+          → (getD parents k 0 < n → getD parents k 0 < length parents → d ≤ depth parents (getD parents k 0)
+          → (l : ℕ) × (l < length parents) × (around parents (length parents) (getD parents k 0) l ≡ true) × (depth parents l ≡ d))
+          → (l : ℕ) × (l < length parents) × (around parents (length parents) k l ≡ true) × (depth parents l ≡ d)
+      go z (yes e) rest = (k, h, around-own parents (length parents) k, e)
+      go (yes z) (no ne) rest = absurd (omega (arith, depth-root, ap (λ (x : ℕ). depth parents x) z))
+      go (no nz) (no ne) rest =
+          let c : getD parents k 0 < k = P .below k (omega arith) in
+          let r : (l : ℕ) × (l < length parents) × (around parents (length parents) (getD parents k 0) l ≡ true) × (depth parents l ≡ d)
+          = rest (omega arith) (omega arith) (omega (arith, depth-parent k (omega arith) h)) in
+          (r .0, r .1, rw (around-parent parents (P .root) (P .below) k (r .0) (omega arith) h, r .2) (or-true (eqb k (r .0))), r .3)
+
+  pub at-depth : (k d : ℕ) → k < length parents → 1 ≤ d → d ≤ depth parents k
+      → (l : ℕ) × (l < length parents) × (around parents (length parents) k l ≡ true) × (depth parents l ≡ d)
+  at-depth k d = depth-around (suc k) k d (omega arith)
+
+  -- the loops around l are l and those that p counts
+  count-own : (l : ℕ) (p : ℕ → Bool) → l < length parents
+      → ((k : ℕ) → k < length parents → (around parents (length parents) l k && not (eqb k l)) ≡ p k)
+      → countBelow (length parents) (around parents (length parents) l) ≡ suc (countBelow (length parents) p)
+  count-own l p h same =
+      count-remove (length parents) l (around parents (length parents) l) h (around-own parents (length parents) l)
+      ∙ ap suc (count-ext (length parents) (λ k. around parents (length parents) l k && not (eqb k l)) p same)
+
+  count-below : (n l : ℕ) → l < n → l < length parents → depth parents l ≡ countBelow (length parents) (around parents (length parents) l)
+  count-below zero l b h = absurd (omega arith)
+  count-below (suc n) l b h = go (ℕ-discrete l 0) (λ z c. count-below n (getD parents l 0) z c)
+    where
+      up : ℕ → Bool
+      up = around parents (length parents) (getD parents l 0)
+
+      -- loop 0 is around itself only, and another loop is not around its parent
+      root : (k : ℕ) → k < length parents → (around parents (length parents) 0 k && not (eqb k 0)) ≡ false
+      root k c = rw (around-0 parents (P .root) (length parents) k) (at (ℕ-discrete k 0))
+        where
+          at : Dec (k ≡ 0) → (eqb 0 k && not (eqb k 0)) ≡ false
+          at (yes z) = rw z
+          at (no ne) = rw (ne-eqb 0 k (λ e. ne (sym e)))
+
+      other : 0 < l → (k : ℕ) → k < length parents → (around parents (length parents) l k && not (eqb k l)) ≡ up k
+      other z k c = rw (around-parent parents (P .root) (P .below) l k z h) (at (ℕ-discrete k l))
+        where
+          at : Dec (k ≡ l) → ((eqb l k || up k) && not (eqb k l)) ≡ up k
+          at (yes e) =
+              rw (e, eq-eqb l l refl) (sym (around-above parents (P .root) (P .below) (length parents) (getD parents l 0) l (P .below l z)))
+          at (no ne) = rw (ne-eqb l k (λ e. ne (sym e)), ne-eqb k l ne) (and-true (up k))
+
+      go : Dec (l ≡ 0) → (getD parents l 0 < n → getD parents l 0 < length parents → depth parents (getD parents l 0) ≡ countBelow (length parents) up)
+          → depth parents l ≡ countBelow (length parents) (around parents (length parents) l)
+      go (yes z) rest =
+          let c : countBelow (length parents) (around parents (length parents) 0) ≡ suc (countBelow (length parents) (λ _. false)) = count-own 0 (λ _. false) (omega arith) root in
+          rw z (depth-root ∙ sym (c ∙ ap suc (count-none (length parents) (λ _. false) (λ k c. refl))))
+      go (no nz) rest =
+          let c : getD parents l 0 < l = P .below l (omega arith) in
+          depth-parent l (omega arith) h ∙ ap suc (rest (omega arith) (omega arith)) ∙ sym (count-own l up h (other (omega arith)))
+
+  -- a loop's depth is how many loops are around it
+  pub depth-count : (l : ℕ) → l < length parents → depth parents l ≡ countBelow (length parents) (λ k. around parents (length parents) l k)
+  depth-count l = count-below (suc l) l (omega arith)
+
   -- a loop around j is not above j
   pub around-low : (j l : ℕ) → around parents (length parents) j l ≡ true → l ≤ j
   around-low j l a = go (ltb j l) refl
@@ -173,3 +244,22 @@ module _ (parents : List ℕ) (P : Parents parents) {d : ℕ} {level : List ℕ}
   pub level-none : length parents ≤ mostLoops → (k : ℕ) → k < length parents → getD level k 0 ≡ noLoop → (l : ℕ) → l < length parents
       → around parents (length parents) k l ≡ true → (depth parents l ≡ d → ⊥)
   level-none few k hk none l hl a e = omega (arith, L .each k l hk hl a e)
+
+-- ---- the loops of a routine
+
+-- 202
+pub nested-parents : (t : Routine) → Nested t → Parents (t .parents)
+nested-parents t N = record { root = N .loop0-parent; below = λ l z. go l z (decLe (loopCount t) l) }
+  where
+    go : (l : ℕ) → 0 < l → Dec (loopCount t ≤ l) → parent t l < l
+    go l z (yes h) = rw (List·getD-eq-default (t .parents) 0 h) z
+    go l z (no h) = N .parent-below l z (omega arith)
+
+-- 205: no loop is deeper than that
+pub depth-most16 : (t : Routine) → AllHold (structureRules t) → (l : ℕ) → l < loopCount t → depth (t .parents) l ≤ mostDepth
+unfolding structureRules tooDeep inside
+depth-most16 t h l b =
+    let N : Nested t = nested t h in
+    let deep : ltb mostDepth (countBelow (loopCount t) (around (t .parents) (loopCount t) l)) ≡ false
+    = ap (λ (x : ℕ). ltb mostDepth (countBelow (loopCount t) (around (t .parents) (loopCount t) x))) (sym (N .own l b)) ∙ h .1 .1 .1 .1 .0 l b in
+    rw (depth-count (t .parents) (nested-parents t N) l b) (ltb-false mostDepth _ deep)

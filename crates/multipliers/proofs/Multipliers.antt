@@ -1,35 +1,43 @@
--- The multipliers, depth by depth from the deepest loops out: below the cap the words are exact, and at the cap they are over the limit, as the
--- tails are. Assumes nothing.
+-- The multipliers and the tails at the headers, depth by depth from the deepest loops out: below the cap the words are exact, and at the cap
+-- they are over the limit, as the tails are. Assumes nothing.
 use mathlib.Core.Path.{_≡_, refl, sym, _∙_, ap}
 use mathlib.Core.Bool.{Bool, true, false, true≢false}
 use mathlib.Core.List.{List, []}
 use mathlib.Core.Option.{Option, none, some}
-use Prim.Native.Nat.{ℕ, _-_, _^_, _≤_, _<_}
+use Prim.Native.Nat.{ℕ, _+_, _-_, _^_, _≤_, _<_}
 use native.Mathlib.Decide.{ℕ-discrete}
 use native.Mathlib.Omega.{arith}
-use lib.Dec.{ltb}
-use borrow.Author.Tests.{eq-eqb, ne-eqb, lt-ltb, le-ltb}
+use lib.Dec.{eqb, ltb}
+use borrow.Author.Tests.{lt-ltb, le-ltb}
 use lib.IntN.{ℤ}
 use lib.ListN.{length, getD}
-use Rattle.limits.specs.Limits.{mostLoops}
+use Rattle.limits.specs.Limits.{mostBlocks, mostDepth}
+use Rattle.lists.specs.Search.{if_then_else_}
 use Rattle.lists.proofs.Search.{any-none, any-at}
-use Rattle.wcet.specs.Table.{Routine, blockCount, loopCount, loopOf, header, someEdge, edge, inside}
+use Rattle.wcet.specs.Table.{Routine, blockCount, loopCount, cost, header, someEdge, edge, inside}
+use Rattle.wcet.specs.Rules.{structureRules}
+use Rattle.wcet.specs.Claim.{AllHold}
 use Rattle.wcet.specs.Cycles.{backEdge, forwardEdge}
-use Rattle.wcet.proofs.Nesting.{Nested}
+use Rattle.wcet.proofs.Nesting.{Nested, nested}
 use Rattle.wcet.proofs.Counts.{header-inside}
+use Rattle.loopsets.specs.Sets.{setsAround}
+use Rattle.nesting.specs.Columns.{Ranged}
+use Rattle.nesting.proofs.Stages.{headed}
 use Rattle.order.specs.Ordering.{Topological}
-use Rattle.levels.specs.Levels.{depth, noLoop, Level}
-use Rattle.levels.proofs.Laws.{depth-root, depth-least, depth-one, depth-inner, level-own, own-level}
+use Rattle.levels.specs.Levels.{depth, Deep}
+use Rattle.levels.proofs.Laws.{depth-root, depth-least, depth-one, depth-inner}
 use Rattle.optimum.specs.Remade.{withColumns}
 use Rattle.optimum.specs.Columns.{orDefault, tails, remadeMultipliers, remultiplied}
 use Rattle.optimum.specs.Replies.{multiplierOver}
 use Rattle.optimum.proofs.Columns.{nested-too}
 use Rattle.optimum.proofs.Steps.{tails-inner}
 use Rattle.optimum.proofs.Multipliers.{loop0-multiplier, made-multiplier}
-use Rattle.tails.specs.Words.{mostTail, cap}
-use Rattle.tails.specs.Columns.{Passed, TailsIn}
-use Rattle.tails.proofs.Passes.{passed-nested, passed-parents, passed-few-loops, passed-headers}
-use Rattle.multipliers.specs.Columns.{roundBy, RoundsTaken, Multiplied}
+use Rattle.tails.specs.Words.{mostTail, wordOf, cap}
+use Rattle.tails.specs.Slots.{nowhere, SlotsOf}
+use Rattle.tails.specs.Passes.{Passed, GatesSet, Gates, Weights, PassOf, tailIn, Filled}
+use Rattle.tails.proofs.Words.{no-word}
+use Rattle.multipliers.specs.Columns.{HeadersClosed, keptAt, TailsKept, roundBy, RoundsTaken, MultipliedOf}
+use Rattle.multipliers.proofs.Headers.{word-more, weights-first, weights-next, weights-one, weights-last}
 
 -- ---- at the limit
 
@@ -50,117 +58,182 @@ pub topological-with : (t : Routine) (fs : List ℤ) (ks order : List ℕ) → T
 unfolding forwardEdge edge someEdge backEdge inside
 topological-with t fs ks order O = record { position = O .position; within = O .within; there = O .there; block = O .block; index = O .index; rises = O .rises }
 
+-- ---- gates
+
+gate-word : (a b : Bool) (c : ℕ) → wordOf (if a then (if b then 1 else c + 1) else 0) ≡ (if a then (if b then some 0 else some c) else none)
+gate-word true true c = word-more 0
+gate-word true false c = word-more c
+gate-word false b c = no-word
+
 -- ---- down to depth d
 
 -- the loops deeper than d are done
-pub record Multiplying (t : Routine) (values : List ℕ) (d : ℕ) : Type 0 where
-  pub size : length values ≡ mostLoops
-  pub done : (k : ℕ) → k < loopCount t → d < depth (t .parents) k → getD values k 0 ≡ getD (remadeMultipliers t) k 0
-  pub loop0 : getD values 0 0 ≡ 0
-  pub low : (k : ℕ) → k < loopCount t → getD values k 0 ≤ 2 ^ 40
+pub record Multiplying (t : Routine) (made weights kept : List ℕ) (d : ℕ) : Type 0 where
+  pub done : (k : ℕ) → k < loopCount t → d < depth (t .parents) k → getD made k 0 ≡ getD (remadeMultipliers t) k 0
+  pub loop0 : getD made 0 0 ≡ 0
+  pub weights-say : Weights (withColumns t [] made) d weights
+  pub kept-tails : (l j : ℕ) → l < loopCount t → j < loopCount t → inside t (header t l) j ≡ true → d < depth (t .parents) j
+      → wordOf (getD kept (keptAt l (depth (t .parents) j)) 0) ≡ cap mostTail (tails (remultiplied t) j (header t l))
 
-module _ (t : Routine) (P : Passed t) where
+module _ (t : Routine) (rules : AllHold (structureRules t)) (depths : List ℕ) (deepest : ℕ) (D : Deep (t .parents) depths deepest) where
   abbrev N : Nested t
-  N = passed-nested t P
+  N = nested t rules
 
-  pub multiplying-first : (values : List ℕ) (d : ℕ) → length values ≡ mostLoops → ((l : ℕ) → getD values l 0 ≡ 0) → ((l : ℕ) → l < loopCount t → depth (t .parents) l ≤ d)
-      → Multiplying t values d
-  multiplying-first values d s zeros most = record {
-    size = s;
-    done = λ k b h. absurd (omega (arith, most k b));
+  abbrev R : Ranged t
+  R = headed t rules .ranged
+
+  abbrev deepOf : ℕ → ℕ
+  deepOf k = depth (t .parents) k
+
+  in-headers : (l : ℕ) → l < loopCount t → l < length (t .headers)
+  in-headers l b = omega (arith, R .sized .headers)
+
+  pub multiplying-first : (made weights kept : List ℕ) → ((l : ℕ) → getD made l 0 ≡ 0) → HeadersClosed (t .costs) (t .headers) weights → Multiplying t made weights kept deepest
+  multiplying-first made weights kept zeros C = record {
+    done = λ k b h. absurd (omega (arith, D .most k b));
     loop0 = zeros 0;
-    low = λ k b. omega (arith, zeros k);
+    weights-say = weights-first t rules made weights deepest zeros (D .most) C;
+    kept-tails = λ l j b c i h. absurd (omega (arith, D .most j c));
   }
 
-  module _ (values : List ℕ) (d : ℕ) (deep : 1 < d) (M : Multiplying t values d) (level words : List ℕ) (L : Level (t .parents) d level) (T : TailsIn (withColumns t [] values) level words) where
-    -- the round of a loop of this depth, by the words and exactly
-    module _ (l : ℕ) (b : l < loopCount t) (own : getD level l 0 ≡ l) where
-      exact : Option ℕ
-      exact = tails (remultiplied t) l (header t l)
+  -- ---- one pass
 
-      inner : (k : ℕ) → k < loopCount t → inside t (header t k) l ≡ true → (k ≡ l → ⊥) → getD values k 0 ≡ getD (remadeMultipliers t) k 0
+  module _ (few : deepest ≤ mostDepth) (sets firstSlots secondSlots order : List ℕ) (A : sets ≡ setsAround (t .parents)) (O : Topological t order)
+      (first-slots : SlotsOf sets (t .loops) (t .headers) (t .firsts) firstSlots) (second-slots : SlotsOf sets (t .loops) (t .headers) (t .seconds) secondSlots)
+      (made weights kept : List ℕ) (d : ℕ) (some-depth : 1 ≤ d) (at-most : d ≤ deepest) (M : Multiplying t made weights kept d)
+      (low : (l : ℕ) → l < length (t .headers) → getD made l 0 ≤ 2 ^ 40) (values gated filled kept′ : List ℕ) (empty : getD values nowhere 0 ≡ 0)
+      (G : GatesSet (t .costs) (t .headers) depths d values gated) (F : Filled weights firstSlots secondSlots order (blockCount t) gated filled)
+      (K : TailsKept filled firstSlots secondSlots (t .headers) depths d kept kept′) where
+    abbrev so-far : Routine
+    so-far = withColumns t [] made
+
+    passed : Passed so-far
+    passed = record { figures = t .figures; multipliers = t .multipliers; rules = rules; loop0-multiplier = M .loop0; multiplier-most = λ l b. low l (in-headers l b) }
+
+    gates : Gates so-far d gated
+    gates = record { gate = gate; empty = ap wordOf (G .after nowhere (omega (arith, R .sized .headers, R .sized .few-loops)) ∙ empty) ∙ no-word }
+      where
+        gate : (k : ℕ) → k < loopCount t → wordOf (getD gated (mostBlocks + k) 0) ≡ (if eqb (deepOf k) d then (if eqb k 0 then some 0 else some (cost t (header t k))) else none)
+        gate k b = rw (sym (D .same k b)) (ap wordOf (G .gate k (in-headers k b)) ∙ gate-word (eqb (getD depths k 0) d) (eqb k 0) (cost t (header t k)))
+
+    pass : PassOf so-far d sets weights firstSlots secondSlots order gated
+    pass = record { passed = passed; sets-around = A; ordered = topological-with t [] made order O; first-slots = first-slots; second-slots = second-slots; weights-say = M .weights-say; gates = gates }
+
+    -- the tails of a loop of this depth, by these multipliers and by all
+    module _ (j : ℕ) (c : j < loopCount t) (own : deepOf j ≡ d) where
+      inner : (k : ℕ) → k < loopCount t → inside t (header t k) j ≡ true → (k ≡ j → ⊥) → getD made k 0 ≡ getD (remadeMultipliers t) k 0
       unfolding inside
-      inner k c i ne =
-          M .done k c
-          (omega (arith, own-level (t .parents) (passed-parents t P) L (passed-few-loops t P) l b own, depth-inner (t .parents) (passed-parents t P) k l c b (rw (N .own k c) at i) ne))
+      inner k b i ne = M .done k b (omega (arith, own, depth-inner (t .parents) (R .parents) k j b c (rw (N .own k b) at i) ne))
 
-      same-tail : tails (withColumns t [] values) l (header t l) ≡ exact
-      unfolding exact inside
-      same-tail =
-          tails-inner (withColumns t [] values) (nested-too t [] values N (M .loop0)) l b [] (remadeMultipliers t) inner (blockCount t) (header t l) (N .header-block l b) (header-inside t N l b)
+      same-tail : (x : ℕ) → x < blockCount t → inside t x j ≡ true → tails so-far j x ≡ tails (remultiplied t) j x
+      unfolding inside
+      same-tail x b i = tails-inner so-far (nested-too t [] made N (M .loop0)) j c [] (remadeMultipliers t) inner (blockCount t) x b i
 
-      by-words : roundBy words (t .headers) l ≡ orDefault 0 (cap mostTail exact)
-      by-words =
-          let at : getD level (loopOf t (header t l)) 0 ≡ l = ap (λ (k : ℕ). getD level k 0) (N .own l b) ∙ own in
-          let w = T (header t l) (N .header-block l b) (λ z. let q : l ≡ noLoop = sym at ∙ z in omega (arith, passed-few-loops t P)) in
-          ap (orDefault 0) (w ∙ ap (cap mostTail) (ap (λ (k : ℕ). tails (withColumns t [] values) k (header t l)) at ∙ same-tail))
+      tail-word : (x : ℕ) → x < blockCount t → inside t x j ≡ true → wordOf (tailIn firstSlots secondSlots filled x) ≡ cap mostTail (tails (remultiplied t) j x)
+      unfolding inside
+      tail-word x b i = F .says so-far d sets refl pass x j b c i own ∙ ap (cap mostTail) (same-tail x b i)
 
-      positive : 0 < l
-      positive = go (ℕ-discrete l 0)
-        where
-          go : Dec (l ≡ 0) → 0 < l
-          go (yes z) = absurd (omega (arith, own-level (t .parents) (passed-parents t P) L (passed-few-loops t P) l b own, depth-root (t .parents) (passed-parents t P), ap (depth (t .parents)) z))
-          go (no ne) = omega arith
+    -- a loop around l is not deeper
+    not-deeper : (l j : ℕ) → l < loopCount t → j < loopCount t → inside t (header t l) j ≡ true → deepOf j ≤ deepOf l
+    unfolding inside
+    not-deeper l j b c i = go (ℕ-discrete l j)
+      where
+        go : Dec (l ≡ j) → deepOf j ≤ deepOf l
+        go (yes q) = omega (arith, ap deepOf q)
+        go (no ne) = omega (arith, depth-inner (t .parents) (R .parents) l j b c (rw (N .own l b) at i) ne)
 
-      made : getD (remadeMultipliers t) l 0 ≡ orDefault 0 exact
-      unfolding exact
-      made = made-multiplier t N l positive b
+    kept-next : (l j : ℕ) → l < loopCount t → j < loopCount t → inside t (header t l) j ≡ true → d - 1 < deepOf j
+        → wordOf (getD kept′ (keptAt l (deepOf j)) 0) ≡ cap mostTail (tails (remultiplied t) j (header t l))
+    kept-next l j b c i h = go (ℕ-discrete (deepOf j) d)
+      where
+        go : Dec (deepOf j ≡ d) → wordOf (getD kept′ (keptAt l (deepOf j)) 0) ≡ cap mostTail (tails (remultiplied t) j (header t l))
+        go (yes o) = rw o (ap wordOf (K .kept l (in-headers l b) (omega (arith, D .same l b, not-deeper l j b c i, o))) ∙ tail-word j c o (header t l) (N .header-block l b) i)
+        go (no ne) =
+            ap wordOf (K .rest (keptAt l (deepOf j)) (λ k a q. omega (arith, q, D .most j c, depth-least (t .parents) (R .parents) j, ne))) ∙ M .kept-tails l j b c i (omega (arith, ne))
 
-    module _ (over : Bool) (new : List ℕ) (R : RoundsTaken words level (t .headers) values over new) where
-      in-headers : (l : ℕ) → l < loopCount t → l < length (t .headers)
-      in-headers l b = omega (arith, passed-headers t P)
+    -- ---- at depth 1
 
-      pub multiplying-over : over ≡ true → multiplierOver (remultiplied t) ≡ true
+    pub multiplying-last : d ≤ 1 → Multiplying t made weights kept′ 0
+    multiplying-last one = record {
+      done = λ k b h. done k b (ℕ-discrete (deepOf k) 1);
+      loop0 = M .loop0;
+      weights-say = weights-one t rules made weights (rw is-one at (M .weights-say));
+      kept-tails = λ l j b c i h. kept-next l j b c i (omega arith);
+    }
+      where
+        is-one : d ≡ 1
+        is-one = omega arith
+
+        done : (k : ℕ) → k < loopCount t → Dec (deepOf k ≡ 1) → getD made k 0 ≡ getD (remadeMultipliers t) k 0
+        done k b (yes o) = rw (depth-one (t .parents) (R .parents) k b o) (M .loop0 ∙ sym (loop0-multiplier t N))
+        done k b (no ne) = M .done k b (omega (arith, depth-least (t .parents) (R .parents) k, ne))
+
+    -- ---- deeper
+
+    module _ (deep : 1 < d) where
+      -- the round of a loop of this depth, by the words and exactly
+      module _ (l : ℕ) (b : l < loopCount t) (own : deepOf l ≡ d) where
+        exact : Option ℕ
+        exact = tails (remultiplied t) l (header t l)
+
+        by-words : roundBy kept′ d l ≡ orDefault 0 (cap mostTail exact)
+        unfolding exact
+        by-words = ap (orDefault 0) (rw own at (kept-next l l b b (header-inside t N l b) (omega (arith, own))))
+
+        positive : 0 < l
+        positive = go (ℕ-discrete l 0)
+          where
+            go : Dec (l ≡ 0) → 0 < l
+            go (yes z) = absurd (omega (arith, own, depth-root (t .parents) (R .parents), ap deepOf z))
+            go (no ne) = omega arith
+
+        remade : getD (remadeMultipliers t) l 0 ≡ orDefault 0 exact
+        unfolding exact
+        remade = made-multiplier t N l positive b
+
+      pub multiplying-over : (made′ weights′ : List ℕ) → RoundsTaken kept′ (t .costs) (t .headers) (t .limits) depths d made weights true made′ weights′ → multiplierOver (remultiplied t) ≡ true
       unfolding multiplierOver
-      multiplying-over o =
-          let H = R .high o in
-          let b : H .0 < loopCount t = omega (arith, H .1, passed-headers t P) in
-          any-at (loopCount t) (λ l. ltb (2 ^ 40) (getD (remadeMultipliers t) l 0)) (H .0) b
-          (lt-ltb (2 ^ 40) (getD (remadeMultipliers t) (H .0) 0) (rw (made (H .0) b (H .2)) (over-cap (exact (H .0) b (H .2)) (rw (by-words (H .0) b (H .2)) at (H .3)))))
+      multiplying-over made′ weights′ T =
+          let H = T .high refl in
+          let l = H .0 in
+          let b : l < loopCount t = omega (arith, H .1, R .sized .headers) in
+          let own : deepOf l ≡ d = sym (D .same l b) ∙ H .2 in
+          any-at (loopCount t) (λ l. ltb (2 ^ 40) (getD (remadeMultipliers t) l 0)) l b
+          (lt-ltb (2 ^ 40) (getD (remadeMultipliers t) l 0) (rw (remade l b own) (over-cap (exact l b own) (rw (by-words l b own) at (H .3)))))
 
-      pub multiplying-next : over ≡ false → Multiplying t new (d - 1)
-      multiplying-next o = record {
-        size = R .size;
-        done = λ k b h. done k b h (ℕ-discrete (getD level k 0) k);
-        loop0 = rest 0 (N .some-loop) (λ q. absurd (let p : 0 < 0 = positive 0 (N .some-loop) q in omega arith)) ∙ M .loop0;
-        low = λ k b. low k b (ℕ-discrete (getD level k 0) k);
-      }
-        where
-          rest : (k : ℕ) → k < loopCount t → (getD level k 0 ≡ k → ⊥) → getD new k 0 ≡ getD values k 0
-          rest k b ne = R .same o k (in-headers k b) ∙ rw (ne-eqb (getD level k 0) k ne)
+      module _ (made′ weights′ : List ℕ) (T : RoundsTaken kept′ (t .costs) (t .headers) (t .limits) depths d made weights false made′ weights′) where
+        others : (k : ℕ) → k < loopCount t → (deepOf k ≡ d → ⊥) → getD made′ k 0 ≡ getD made k 0
+        others k b ne = T .others refl k (λ q. ne (sym (D .same k b) ∙ q))
 
-          taken : (k : ℕ) → k < loopCount t → getD level k 0 ≡ k → getD new k 0 ≡ roundBy words (t .headers) k
-          taken k b q = R .same o k (in-headers k b) ∙ rw (eq-eqb (getD level k 0) k q)
+        pub multiplying-next : Multiplying t made′ weights′ kept′ (d - 1)
+        multiplying-next = record {
+          done = λ k b h. done k b h (ℕ-discrete (deepOf k) d);
+          loop0 = others 0 (N .some-loop) (λ q. omega (arith, q, depth-root (t .parents) (R .parents))) ∙ M .loop0;
+          weights-say = weights-next t rules d deep kept′ depths made weights made′ weights′ (D .same) (M .weights-say) T;
+          kept-tails = kept-next;
+        }
+          where
+            done : (k : ℕ) → k < loopCount t → d - 1 < deepOf k → Dec (deepOf k ≡ d) → getD made′ k 0 ≡ getD (remadeMultipliers t) k 0
+            done k b h (yes o) =
+                let w = T .taken refl k (in-headers k b) (D .same k b ∙ o) in
+                let e : getD made′ k 0 ≡ orDefault 0 (cap mostTail (exact k b o)) = w .0 ∙ by-words k b o in
+                let u : orDefault 0 (cap mostTail (exact k b o)) ≤ 2 ^ 40 = omega (arith, w .1, e) in
+                e ∙ under-cap (exact k b o) u ∙ sym (remade k b o)
+            done k b h (no ne) = others k b ne ∙ M .done k b (omega (arith, ne))
 
-          done : (k : ℕ) → k < loopCount t → d - 1 < depth (t .parents) k → Dec (getD level k 0 ≡ k) → getD new k 0 ≡ getD (remadeMultipliers t) k 0
-          done k b h (yes q) =
-              let e : getD new k 0 ≡ orDefault 0 (cap mostTail (exact k b q)) = taken k b q ∙ by-words k b q in
-              let u : orDefault 0 (cap mostTail (exact k b q)) ≤ 2 ^ 40 = omega (arith, R .low o k (in-headers k b) q, e) in
-              e ∙ under-cap (exact k b q) u ∙ sym (made k b q)
-          done k b h (no ne) = rest k b ne ∙ M .done k b (go (ℕ-discrete (depth (t .parents) k) d))
-            where
-              go : Dec (depth (t .parents) k ≡ d) → d < depth (t .parents) k
-              go (yes z) = absurd (ne (level-own (t .parents) (passed-parents t P) L k b z))
-              go (no nd) = omega arith
+  -- ---- the end
 
-          low : (k : ℕ) → k < loopCount t → Dec (getD level k 0 ≡ k) → getD new k 0 ≤ 2 ^ 40
-          low k b (yes q) = R .low o k (in-headers k b) q
-          low k b (no ne) = omega (arith, rest k b ne, M .low k b)
+  pub multiplied-over : (made weights kept : List ℕ) → multiplierOver (remultiplied t) ≡ true → MultipliedOf t true made weights kept
+  multiplied-over made weights kept e = record { tested = sym e; same = λ q. absurd (true≢false q); weighed = λ q. absurd (true≢false q); kept-tails = λ q. absurd (true≢false q) }
 
-  pub multiplied-over : (values : List ℕ) → multiplierOver (remultiplied t) ≡ true → Multiplied t true values
-  multiplied-over values e = record { tested = sym e; same = λ q. absurd (true≢false q) }
-
-  pub multiplied-all : (values : List ℕ) (d : ℕ) → d ≤ 1 → Multiplying t values d → Multiplied t false values
+  pub multiplied-all : (made weights kept : List ℕ) → ((l : ℕ) → l < length (t .headers) → getD made l 0 ≤ 2 ^ 40) → Multiplying t made weights kept 0 → MultipliedOf t false made weights kept
   unfolding multiplierOver
-  multiplied-all values d h M = record {
-    tested = sym (any-none (loopCount t) (λ l. ltb (2 ^ 40) (getD (remadeMultipliers t) l 0)) (λ l b. le-ltb (2 ^ 40) (getD (remadeMultipliers t) l 0) (omega (arith, M .low l b, all l b (ℕ-discrete l 0)))));
-    same = λ q l b. all l b (ℕ-discrete l 0);
+  multiplied-all made weights kept low M = record {
+    tested = sym (any-none (loopCount t) (λ l. ltb (2 ^ 40) (getD (remadeMultipliers t) l 0)) (λ l b. le-ltb (2 ^ 40) (getD (remadeMultipliers t) l 0) (omega (arith, low l (in-headers l b), all l b))));
+    same = λ q. all;
+    weighed = λ q x b. weights-last t rules made (remadeMultipliers t) weights (M .weights-say) all x b;
+    kept-tails = λ q l j b c i. M .kept-tails l j b c i (depth-least (t .parents) (R .parents) j);
   }
     where
-      all : (l : ℕ) → l < loopCount t → Dec (l ≡ 0) → getD values l 0 ≡ getD (remadeMultipliers t) l 0
-      all l b (yes z) = rw z (M .loop0 ∙ sym (loop0-multiplier t N))
-      all l b (no ne) = M .done l b (go (ℕ-discrete (depth (t .parents) l) 1))
-        where
-          go : Dec (depth (t .parents) l ≡ 1) → d < depth (t .parents) l
-          go (yes z) = absurd (ne (depth-one (t .parents) (passed-parents t P) l b z))
-          go (no nd) = omega (arith, depth-least (t .parents) (passed-parents t P) l)
+      all : (l : ℕ) → l < loopCount t → getD made l 0 ≡ getD (remadeMultipliers t) l 0
+      all l b = M .done l b (depth-least (t .parents) (R .parents) l)

@@ -1,29 +1,87 @@
--- The multipliers after the loops of one level, and of all: for functions that are no public entry.
-use Prim.Native.Nat.{ℕ, _^_, _≤_, _<_}
+-- The weights, the tails at headers and the multipliers after the loops of one depth, and of all: for functions that are no public entry.
+use Prim.Native.Nat.{ℕ, _+_, _*_, _-_, _^_, _≤_, _<_}
 use mathlib.Core.Path.{_≡_}
 use mathlib.Core.Bool.{Bool, true, false}
 use mathlib.Core.List.{List}
-use lib.Dec.{eqb}
 use lib.ListN.{length, getD}
-use Rattle.limits.specs.Limits.{mostLoops}
-use Rattle.lists.specs.Search.{if_then_else_}
-use Rattle.wcet.specs.Table.{Routine, loopCount}
-use Rattle.optimum.specs.Columns.{orDefault, remadeMultipliers, remultiplied}
+use Rattle.limits.specs.Limits.{mostBlocks, mostLoops, mostDepth}
+use Rattle.wcet.specs.Table.{Routine, blockCount, loopCount, header, inside}
+use Rattle.wcet.specs.Rules.{structureRules}
+use Rattle.wcet.specs.Claim.{AllHold}
+use Rattle.loopsets.specs.Sets.{setsAround}
+use Rattle.order.specs.Ordering.{Topological}
+use Rattle.levels.specs.Levels.{depth, Deep}
+use Rattle.optimum.specs.Tails.{weight}
+use Rattle.optimum.specs.Columns.{orDefault, tails, remadeMultipliers, remultiplied}
 use Rattle.optimum.specs.Replies.{multiplierOver}
-use Rattle.tails.specs.Words.{wordOf}
+use Rattle.tails.specs.Words.{mostTail, wordOf, cap, Low}
+use Rattle.tails.specs.Slots.{SlotsOf, Slotted}
+use Rattle.tails.specs.Passes.{tailIn}
 
--- the round of loop l by the words: the tail at its header, 0 where there is none
-abbrev pub roundBy : (words headers : List ℕ) → ℕ → ℕ
-roundBy words headers l = orDefault 0 (wordOf (getD words (getD headers l 0) 0))
+-- the weight of each block is its cost
+pub record CostWeights (costs weights : List ℕ) : Type 0 where
+  pub size : length weights ≡ mostBlocks
+  pub low : Low weights
+  pub each : (x : ℕ) → x < length costs → getD weights x 0 ≡ getD costs x 0 + 1
 
--- the loops of a level have their multipliers, the others keep theirs; unless one is over 2^40
-pub record RoundsTaken (words level headers old : List ℕ) (over : Bool) (new : List ℕ) : Type 0 where
-  pub size : length new ≡ mostLoops
-  pub same : over ≡ false → (l : ℕ) → l < length headers → getD new l 0 ≡ (if eqb (getD level l 0) l then roundBy words headers l else getD old l 0)
-  pub low : over ≡ false → (l : ℕ) → l < length headers → getD level l 0 ≡ l → getD new l 0 ≤ 2 ^ 40
-  pub high : over ≡ true → (l : ℕ) × (l < length headers) × (getD level l 0 ≡ l) × (2 ^ 40 < roundBy words headers l)
+-- and none at the header of a loop, loop 0 apart
+pub record HeadersClosed (costs headers weights : List ℕ) : Type 0 where
+  pub size : length weights ≡ mostBlocks
+  pub low : Low weights
+  pub closed : (l : ℕ) → 0 < l → l < length headers → getD weights (getD headers l 0) 0 ≡ 0
+  pub plain : (x : ℕ) → x < length costs → ((l : ℕ) → 0 < l → l < length headers → getD headers l 0 ≡ x → ⊥) → getD weights x 0 ≡ getD costs x 0 + 1
 
--- the multipliers of all loops, unless one is over 2^40
-pub record Multiplied (t : Routine) (over : Bool) (values : List ℕ) : Type 0 where
+-- where the tail of a loop of depth d at the header of loop l is kept
+abbrev pub keptAt : ℕ → ℕ → ℕ
+keptAt l d = l * 16 + d - 1
+
+-- the tails at the headers of the loops that are not less deep than d
+pub record TailsKept (values firstSlots secondSlots headers depths : List ℕ) (d : ℕ) (old new : List ℕ) : Type 0 where
+  pub size : length new ≡ mostBlocks
+  pub low : Low old → Low values → Low new
+  pub kept : (l : ℕ) → l < length headers → d ≤ getD depths l 0 → getD new (keptAt l d) 0 ≡ tailIn firstSlots secondSlots values (getD headers l 0)
+  pub rest : (i : ℕ) → ((l : ℕ) → l < length headers → i ≡ keptAt l d → ⊥) → getD new i 0 ≡ getD old i 0
+
+-- the round of loop l of depth d: the tail at its header, 0 where there is none
+abbrev pub roundBy : (kept : List ℕ) → ℕ → ℕ → ℕ
+roundBy kept d l = orDefault 0 (wordOf (getD kept (keptAt l d) 0))
+
+-- the loops of depth d have their multipliers and their headers' weights, the others keep theirs; unless one is over 2^40. No two loops have
+-- one header (204).
+pub record RoundsTaken (kept costs headers limits depths : List ℕ) (d : ℕ) (made weights : List ℕ) (over : Bool) (made′ weights′ : List ℕ) : Type 0 where
+  pub made-size : length made′ ≡ mostLoops
+  pub weights-size : length weights′ ≡ mostBlocks
+  pub low : Low weights → Low weights′
+  pub taken : over ≡ false → (l : ℕ) → l < length headers → getD depths l 0 ≡ d → (getD made′ l 0 ≡ roundBy kept d l) × (getD made′ l 0 ≤ 2 ^ 40)
+  pub others : over ≡ false → (l : ℕ) → (getD depths l 0 ≡ d → ⊥) → getD made′ l 0 ≡ getD made l 0
+  pub weighed : over ≡ false → ((k l : ℕ) → k < length headers → l < length headers → getD headers k 0 ≡ getD headers l 0 → k ≡ l)
+      → (l : ℕ) → l < length headers → getD depths l 0 ≡ d → getD weights′ (getD headers l 0) 0 ≡ getD costs (getD headers l 0) 0 + getD made′ l 0 * (getD limits l 0 - 1) + 1
+  pub other-weights : over ≡ false → (x : ℕ) → ((l : ℕ) → l < length headers → getD depths l 0 ≡ d → getD headers l 0 ≡ x → ⊥) → getD weights′ x 0 ≡ getD weights x 0
+  pub high : over ≡ true → (l : ℕ) × (l < length headers) × (getD depths l 0 ≡ d) × (2 ^ 40 < roundBy kept d l)
+
+-- what 201 to 205 ensure of the columns that are read
+pub record Readied (costs headers limits : List ℕ) (deepest : ℕ) (firstSlots secondSlots order : List ℕ) : Type 0 where
+  pub few-loops : length headers ≤ mostLoops
+  pub limits-size : length limits ≡ length headers
+  pub deep : deepest ≤ mostDepth
+  pub slotted : Slotted (length costs) firstSlots secondSlots order
+  pub cost-most : (x : ℕ) → x < length costs → getD costs x 0 ≤ 1000000
+  pub header-block : (l : ℕ) → l < length headers → getD headers l 0 < length costs
+  pub limit-least : (l : ℕ) → l < length headers → 1 ≤ getD limits l 0
+  pub limit-most : (l : ℕ) → l < length headers → getD limits l 0 ≤ 65535
+
+-- the multipliers, the weights by them and the tails at the headers of t, unless a multiplier is over 2^40
+pub record MultipliedOf (t : Routine) (over : Bool) (made weights kept : List ℕ) : Type 0 where
   pub tested : over ≡ multiplierOver (remultiplied t)
-  pub same : over ≡ false → (l : ℕ) → l < loopCount t → getD values l 0 ≡ getD (remadeMultipliers t) l 0
+  pub same : over ≡ false → (l : ℕ) → l < loopCount t → getD made l 0 ≡ getD (remadeMultipliers t) l 0
+  pub weighed : over ≡ false → (x : ℕ) → x < blockCount t → getD weights x 0 ≡ weight (remultiplied t) x + 1
+  pub kept-tails : over ≡ false → (l j : ℕ) → l < loopCount t → j < loopCount t → inside t (header t l) j ≡ true
+      → wordOf (getD kept (keptAt l (depth (t .parents) j)) 0) ≡ cap mostTail (tails (remultiplied t) j (header t l))
+
+-- of every routine with these three columns that passes 201 to 207, if the depths, the slots and the order are its own
+pub record Multiplied (costs headers limits depths : List ℕ) (deepest : ℕ) (firstSlots secondSlots order : List ℕ) (over : Bool) (made weights kept : List ℕ) : Type 0 where
+  pub low : over ≡ false → (l : ℕ) → l < length headers → getD made l 0 ≤ 2 ^ 40
+  pub kept-low : Low kept
+  pub says : (t : Routine) (sets : List ℕ) → t .costs ≡ costs → t .headers ≡ headers → t .limits ≡ limits → AllHold (structureRules t) → sets ≡ setsAround (t .parents)
+      → Deep (t .parents) depths deepest → Topological t order → SlotsOf sets (t .loops) (t .headers) (t .firsts) firstSlots
+      → SlotsOf sets (t .loops) (t .headers) (t .seconds) secondSlots → MultipliedOf t over made weights kept

@@ -80,7 +80,7 @@ module _ (t : Routine) (N : Nested t) (L : LocallyMade t) where
           omega (ints, diff (figure t u) (figure t v), diff (pos (p .1)) m, diff (pos (a .0)) m, sum (pos (p .1) -ℤ m) h, sum (pos (a .0) -ℤ m) h)
 
   -- a back edge to the header of loop l makes up for its cost by l's multiplier
-  falls-back : (u l : ℕ) → 0 < l → l < loopCount t → u < blockCount t → edge t u (header t l) ≡ true → inside t u l ≡ true
+  pub falls-back : (u l : ℕ) → 0 < l → l < loopCount t → u < blockCount t → edge t u (header t l) ≡ true → inside t u l ≡ true
       → pos (cost t (header t l)) ≤ℤ (figure t u -ℤ figure t (header t l) +ℤ pos (multiplier t l))
   falls-back u l z m b e i =
       let a : AtLeast _≤_ (tail l u) (cost t (header t l)) = tail-back t N tail tails l u z m b i e in

@@ -22,6 +22,8 @@ pub mod Attained
 pub mod Optimal
 -- The remade columns: optimal, the only ones, accepted; and a finished counted run that costs their bound.
 pub mod Remade
+-- The remade figures as equations between neighbouring blocks.
+pub mod Edges
 -- The solver's reply, and its cases.
 pub mod Replies
 pub mod Cases

@@ -1,3 +1,4 @@
 pub mod Reply
 pub mod Written
 pub mod Columns
+pub mod Steps

@@ -9,17 +9,16 @@ ghost use Rattle.wcet.specs.Rules.{structureRules};
 ghost use Rattle.wcet.specs.Claim.{AllHold};
 ghost use Rattle.loopsets.specs.Sets.{setsAround};
 ghost use Rattle.nesting.specs.Columns.{routine};
-ghost use Rattle.levels.specs.Levels.{Deep};
 ghost use Rattle.optimum.specs.Replies.{Solved};
 ghost use Rattle.solver.specs.Answers.{solveMeaning};
-ghost use Rattle.solver.specs.Columns.{Written, Solvable, Multiplied};
-use figures::NO_FIGURE;
+ghost use Rattle.solver.specs.Columns.{Written, Solvable, Finishable, Finished};
 use limits::MOST_BLOCKS;
 use limits::MOST_LOOPS;
 use loopsets::Sets;
 use nesting::Place;
 use nesting::Structure;
 use nesting::StructureFault;
+use tails::NO_TAIL;
 
 // The bound, or the first broken rule: 201 to 207 as the structure check names them, 209, 401 at the lowest block without a path to the exit,
 // 402 or 403.
@@ -60,38 +59,36 @@ fn write_multipliers(to: &mut [u64], from: &[u64; MOST_LOOPS])
 
 // The figures by these multipliers, and the reply: 403 or the bound.
 fn finish(
-    around: &Sets,
     cost: &[u32],
-    loops: &[u16],
-    first: &[u16],
-    second: &[u16],
     figure: &mut [i64],
     parent: &[u16],
     header: &[u16],
-    limit: &[u32],
     multiplier: &mut [u64],
     made: &[u64; MOST_LOOPS],
+    weights: &[u64; MOST_BLOCKS],
+    kept: &[u64; MOST_BLOCKS],
     depths: &[u16; MOST_LOOPS],
     deepest: u16,
+    firsts: &[u16; MOST_BLOCKS],
+    seconds: &[u16; MOST_BLOCKS],
     order: &[u16; MOST_BLOCKS],
 ) -> SolveReply
-    requires { ⌜ Solvable (routine (now cost) (now loops) (now first) (now second) (now figure) (now parent) (now header) (now limit) (now multiplier)) (now around) (now order) × Deep (now parent) (now depths) deepest × Multiplied (routine (now cost) (now loops) (now first) (now second) (now figure) (now parent) (now header) (now limit) (now multiplier)) (now made) ⌝ }
-    ensures { λ r. ⌜ Solved (routine (now (cost .entry)) (now (loops .entry)) (now (first .entry)) (now (second .entry)) (now (figure .entry)) (now (parent .entry)) (now (header .entry)) (now (limit .entry)) (now (multiplier .entry))) (solveMeaning r) (now (figure .exit)) (now (multiplier .exit)) ⌝ }
+    requires { ⌜ Finishable (now cost) (now figure) (now parent) (now header) (now multiplier) (now made) (now weights) (now kept) (now depths) deepest (now firsts) (now seconds) (now order) ⌝ }
+    ensures { λ r. ⌜ Finished (now (cost .entry)) (now (figure .entry)) (now (parent .entry)) (now (header .entry)) (now (multiplier .entry)) (now (made .entry)) (now (weights .entry)) (now (kept .entry)) (now (depths .entry)) deepest (now (firsts .entry)) (now (seconds .entry)) (now (order .entry)) (solveMeaning r) (now (figure .exit)) (now (multiplier .exit)) ⌝ }
 {
-    let mut figures = [NO_FIGURE; MOST_BLOCKS];
+    let mut figures = [0i64; MOST_BLOCKS];
     if figures::remake_figures(
         &mut figures,
-        around,
         cost,
-        loops,
-        first,
-        second,
         parent,
         header,
-        limit,
         made,
+        weights,
+        kept,
         depths,
         deepest,
+        firsts,
+        seconds,
         order,
     ) {
         return SolveReply::Figure;
@@ -118,40 +115,42 @@ fn remake(
     requires { ⌜ Solvable (routine (now cost) (now loops) (now first) (now second) (now figure) (now parent) (now header) (now limit) (now multiplier)) (now around) (now order) ⌝ }
     ensures { λ r. ⌜ Solved (routine (now (cost .entry)) (now (loops .entry)) (now (first .entry)) (now (second .entry)) (now (figure .entry)) (now (parent .entry)) (now (header .entry)) (now (limit .entry)) (now (multiplier .entry))) (solveMeaning r) (now (figure .exit)) (now (multiplier .exit)) ⌝ }
 {
+    let firsts = tails::slots_of(around, loops, header, first);
+    let seconds = tails::slots_of(around, loops, header, second);
     let depths = levels::depths_of(parent);
     let each = depths.each;
     let most = depths.most;
     let mut made = [0u64; MOST_LOOPS];
+    let mut weights = multipliers::first_weights(cost, header);
+    let mut kept = [NO_TAIL; MOST_BLOCKS];
     if multipliers::remake_multipliers(
         &mut made,
-        around,
+        &mut weights,
+        &mut kept,
         cost,
-        loops,
-        first,
-        second,
-        parent,
         header,
         limit,
         &each,
         most,
+        &firsts,
+        &seconds,
         order,
     ) {
         return SolveReply::Multiplier;
     }
     finish(
-        around,
         cost,
-        loops,
-        first,
-        second,
         figure,
         parent,
         header,
-        limit,
         multiplier,
         &made,
+        &weights,
+        &kept,
         &each,
         most,
+        &firsts,
+        &seconds,
         order,
     )
 }

@@ -1,3 +1,4 @@
 -- The definitions that the contracts cite.
 pub mod Words
-pub mod Columns
+pub mod Slots
+pub mod Passes

@@ -1,202 +1,169 @@
 // The tails of all loops of one nesting depth, in words that stop at a cap, by one pass over the blocks. The tail of a loop at a block inside it
 // is the greatest weight of a way from there to the loop's header; of loop 0, to the exit.
+//
+// Each edge has a slot, the place where its value stands: that of its target, or for a back edge the gate of the loop that it returns to. A pass
+// opens the gates of the loops of its depth only, and nothing passes the header of a loop whose multiplier is not made yet: its weight is none.
+// So a pass needs no test of which loop a block is in. Mispredicted branches would cost more than all else.
 ghost use mathlib.Core.Path.{_≡_};
-ghost use Prim.Native.Nat.{_+_, _*_, _-_, _^_, _≤_, _<_};
-ghost use lib.Dec.{ltb};
-ghost use lib.ListN.{length};
-ghost use Rattle.limits.specs.Limits.{mostBlocks};
-ghost use Rattle.nesting.specs.Columns.{Names, Linked};
-ghost use Rattle.optimum.specs.Tails.{best};
-ghost use Rattle.tails.specs.Words.{mostTail, wordOf, moreCapped, WeightIs};
-ghost use Rattle.tails.specs.Columns.{weightColumns, tailColumns, Weighed, Steps, viaByLevel, tailByLevel, Filled};
+ghost use Prim.Native.Nat.{ℕ, _+_, _*_, _-_, _^_, _≤_, _<_, max};
+ghost use lib.Dec.{eqb};
+ghost use lib.ListN.{length, getD};
+ghost use Rattle.limits.specs.Limits.{mostBlocks, mostLoops};
+ghost use Rattle.lists.specs.Search.{if_then_else_};
+ghost use Rattle.nesting.specs.Columns.{Names, Innermost};
+ghost use Rattle.tails.specs.Words.{mostTail, mostWord, wordOf, moreCapped, Low};
+ghost use Rattle.tails.specs.Slots.{places, slotBySets, SlotsOf, Slotted};
+ghost use Rattle.tails.specs.Passes.{GatesSet, Filled};
 use limits::MOST_BLOCKS;
 use limits::MOST_LOOPS;
 use loopsets::Sets;
 
-// A word above this is no tail. A tail over it is this.
-pub const MOST_TAIL: u64 = 4611686018427387904;
+// No tail. A tail k is the word k + 1, so that the greater of two tails is the greater word.
+pub const NO_TAIL: u64 = 0;
 
-pub const NO_TAIL: u64 = 18446744073709551615;
+// The greatest word: a tail of 2^62 or more.
+pub const MOST_WORD: u64 = 4611686018427387905;
 
-// For each block a tail, or none.
+// A place for each block, a gate for each loop, and one that is always empty.
+pub const PLACES: usize = 1089;
+
+const NOWHERE: u16 = 1088;
+
+// The gate of loop 0: the slot of the exit, from which no edge leads on.
+const EXIT_GATE: u16 = 1024;
+
+type Values = [u64; PLACES];
+
+type Slots = [u16; MOST_BLOCKS];
+
 type Words = [u64; MOST_BLOCKS];
 
 // ---- words
 
-// A tail and c more.
+// A tail and c more; none where either is none.
 fn more(c: u64, w: u64) -> u64
-    requires { ⌜ c ≤ 2 ^ 57 ⌝ }
-    ensures { λ r. ⌜ wordOf r ≡ moreCapped mostTail c (wordOf w) ⌝ }
+    requires { ⌜ (c ≤ mostWord) × (w ≤ mostWord) ⌝ }
+    ensures { λ r. ⌜ (wordOf r ≡ moreCapped mostTail (wordOf c) (wordOf w)) × (r ≤ mostWord) ⌝ }
 {
-    if MOST_TAIL < w {
+    if c == 0 {
         return NO_TAIL;
     }
-    let s = c + w;
-    if MOST_TAIL < s {
-        return MOST_TAIL;
+    if w == 0 {
+        return NO_TAIL;
+    }
+    let s = c - 1 + w;
+    if MOST_WORD < s {
+        return MOST_WORD;
     }
     s
 }
 
 // The greater of two tails.
-fn greater(a: u64, b: u64) -> u64
-    ensures { λ r. ⌜ wordOf r ≡ best ltb (wordOf a) (wordOf b) ⌝ }
+pub fn greater(a: u64, b: u64) -> u64
+    ensures { λ r. ⌜ r ≡ max a b ⌝ }
 {
-    if MOST_TAIL < a {
-        return b;
-    }
-    if MOST_TAIL < b {
-        return a;
-    }
     if a < b {
         return b;
     }
     a
 }
 
-// ---- the weight of a forward edge
+// ---- slots
 
-fn wide(x: u32) -> u64
-    ensures { λ r. ⌜ r ≡ x ⌝ }
-{
-    x as u64
-}
-
-// To the header of a loop: all rounds that the limit allows after the first visit are charged where the loop is entered.
-fn entry_weight(cost: u32, multiplier: u64, limit: u32) -> u64
-    requires { ⌜ (cost ≤ 1000000) × (multiplier ≤ 2 ^ 40) × (1 ≤ limit) × (limit ≤ 65535) ⌝ }
-    ensures { λ r. ⌜ (r ≡ cost + multiplier * (limit - 1)) × (r ≤ 2 ^ 57) ⌝ }
-{
-    cost as u64 + multiplier * (limit as u64 - 1)
-}
-
-// To block v.
-fn weight_of(
-    cost: &[u32],
-    loops: &[u16],
-    header: &[u16],
-    limit: &[u32],
-    multiplier: &[u64; MOST_LOOPS],
-    v: usize,
-) -> u64
-    requires { ⌜ Weighed (weightColumns (now cost) (now loops) (now header) (now limit) (now multiplier)) × (v < length (now cost)) ⌝ }
-    ensures { λ r. ⌜ WeightIs (weightColumns (now (cost .entry)) (now (loops .entry)) (now (header .entry)) (now (limit .entry)) (now (multiplier .entry))) v r ⌝ }
-{
-    let l = loops[v] as usize;
-    if header[l] as usize != v {
-        return wide(cost[v]);
-    }
-    entry_weight(cost[v], multiplier[l], limit[l])
-}
-
-// ---- tails
-
-// What the edge from block x to its successor v gives to the tail of loop l at x, where l is the loop of the level around x.
-fn along(
-    around: &Sets,
-    cost: &[u32],
-    loops: &[u16],
-    header: &[u16],
-    limit: &[u32],
-    multiplier: &[u64; MOST_LOOPS],
-    level: &[u16; MOST_LOOPS],
-    words: &Words,
-    l: u16,
-    x: usize,
-    v: u16,
-) -> u64
-    requires { ⌜ Weighed (weightColumns (now cost) (now loops) (now header) (now limit) (now multiplier)) × (l < length (now header)) × (x < length (now cost)) × Names (length (now cost)) v ⌝ }
-    ensures { λ r. ⌜ wordOf r ≡ viaByLevel (now (around .entry)) (weightColumns (now (cost .entry)) (now (loops .entry)) (now (header .entry)) (now (limit .entry)) (now (multiplier .entry))) (now (level .entry)) (now (words .entry)) l x v ⌝ }
+// The slot of the edge from block x to its successor v.
+fn slot_of(around: &Sets, loops: &[u16], header: &[u16], x: usize, v: u16) -> u16
+    requires { ⌜ Innermost (now loops) (now header) × (x < length (now loops)) × Names (length (now loops)) v ⌝ }
+    ensures { λ r. ⌜ r ≡ slotBySets (now (around .entry)) (now (loops .entry)) (now (header .entry)) x v ⌝ }
 {
     if v == 65535 {
-        return NO_TAIL;
+        return NOWHERE;
     }
-    let to = v as usize;
-    let k = loops[to] as usize;
-    if level[k] != l {
-        return NO_TAIL;
+    if order::back_edge(around, loops, header, x, v) {
+        return EXIT_GATE + loops[v as usize];
     }
-    if !order::back_edge(around, loops, header, x, v) {
-        let weight = weight_of(cost, loops, header, limit, multiplier, to);
-        return more(weight, words[to]);
-    }
-    if l == 0 {
-        return NO_TAIL;
-    }
-    if header[l as usize] != v {
-        return NO_TAIL;
-    }
-    wide(cost[to])
+    v
 }
 
-// The tail of loop l at block x, by those of the blocks that x leads to.
-fn tail_at(
-    sets: &Sets,
-    cost: &[u32],
-    loops: &[u16],
-    first: &[u16],
-    second: &[u16],
-    head: &[u16],
-    limit: &[u32],
-    made: &[u64; MOST_LOOPS],
-    level: &[u16; MOST_LOOPS],
-    words: &Words,
-    l: u16,
-    x: usize,
-) -> u64
-    requires { ⌜ Weighed (weightColumns (now cost) (now loops) (now head) (now limit) (now made)) × Linked (length (now cost)) (now first) (now second) × (l < length (now head)) × (x < length (now cost)) ⌝ }
-    ensures { λ r. ⌜ wordOf r ≡ tailByLevel (now (sets .entry)) (tailColumns (now (cost .entry)) (now (loops .entry)) (now (first .entry)) (now (second .entry)) (now (head .entry)) (now (limit .entry)) (now (made .entry))) (now (level .entry)) (now (words .entry)) l x ⌝ }
+// The slots of the edges to the first or to the second successors.
+pub fn slots_of(around: &Sets, loops: &[u16], header: &[u16], next: &[u16]) -> Slots
+    requires { ⌜ Innermost (now loops) (now header) × (length (now loops) ≤ mostBlocks) × (0 < length (now loops)) × (length (now next) ≡ length (now loops)) × ((x : ℕ) → x < length (now loops) → Names (length (now loops)) (getD (now next) x 0)) ⌝ }
+    ensures { λ r. ⌜ SlotsOf (now (around .entry)) (now (loops .entry)) (now (header .entry)) (now (next .entry)) r ⌝ }
 {
-    if l == 0 {
-        if x == cost.len() - 1 {
-            return 0;
-        }
+    let mut slots = [NOWHERE; MOST_BLOCKS];
+    let n = loops.len();
+    let mut x = 0;
+    while x < n {
+        slots[x] = slot_of(around, loops, header, x, next[x]);
+        x += 1;
     }
-    let v = first[x];
-    let a = along(sets, cost, loops, head, limit, made, level, words, l, x, v);
-    let v = second[x];
-    let b = along(sets, cost, loops, head, limit, made, level, words, l, x, v);
+    slots[n - 1] = EXIT_GATE;
+    slots
+}
+
+// ---- a pass
+
+// The value of a gate: the cost of the loop's header where the loop is of depth d, for loop 0 no cost.
+fn gate(l: usize, depth: u16, d: u16, cost: u32) -> u64
+    ensures { λ r. ⌜ r ≡ (if eqb depth d then (if eqb l 0 then 1 else cost + 1) else 0) ⌝ }
+{
+    if depth != d {
+        return NO_TAIL;
+    }
+    if l == 0 {
+        return 1;
+    }
+    cost as u64 + 1
+}
+
+// Opens the gates of the loops of depth d, and closes the others.
+pub fn set_gates(
+    values: &mut Values,
+    cost: &[u32],
+    header: &[u16],
+    depths: &[u16; MOST_LOOPS],
+    d: u16,
+)
+    requires { ⌜ (length (now values) ≡ places) × (length (now header) ≤ mostLoops) × ((l : ℕ) → l < length (now header) → getD (now header) l 0 < length (now cost)) ⌝ }
+    ensures { λ _. ⌜ GatesSet (now (cost .entry)) (now (header .entry)) (now (depths .entry)) d (now (values .entry)) (now (values .exit)) ⌝ }
+{
+    let mut l = 0;
+    while l < header.len() {
+        let h = header[l] as usize;
+        values[1024 + l] = gate(l, depths[l], d, cost[h]);
+        l += 1;
+    }
+}
+
+// The tail at block x after a pass: the greater of the values in its slots.
+pub fn tail_of(values: &Values, firsts: &Slots, seconds: &Slots, x: usize) -> u64
+    requires { ⌜ (x < mostBlocks) × (getD (now firsts) x 0 < places) × (getD (now seconds) x 0 < places) ⌝ }
+    ensures { λ r. ⌜ r ≡ max (getD (now (values .entry)) (getD (now (firsts .entry)) x 0) 0) (getD (now (values .entry)) (getD (now (seconds .entry)) x 0) 0) ⌝ }
+{
+    let s = firsts[x] as usize;
+    let a = values[s];
+    let s = seconds[x] as usize;
+    let b = values[s];
     greater(a, b)
 }
 
-// Fills in the tails of the loops of one level: from the last block in a topological order to the first, so that each block comes after those
-// that its forward edges lead to. Words of blocks outside these loops stay as they are.
-pub fn fill_tails(
-    words: &mut Words,
-    around: &Sets,
-    cost: &[u32],
-    loops: &[u16],
-    first: &[u16],
-    second: &[u16],
-    header: &[u16],
-    limit: &[u32],
-    made: &[u64; MOST_LOOPS],
-    level: &[u16; MOST_LOOPS],
+// The values of n blocks: from the last in a topological order to the first, so that each block comes after those that its forward edges lead to.
+// The value of a block is its tail and its weight.
+pub fn fill_values(
+    values: &mut Values,
+    weights: &Words,
+    firsts: &Slots,
+    seconds: &Slots,
     order: &[u16; MOST_BLOCKS],
+    n: usize,
 )
-    requires { ⌜ (length (now words) ≡ mostBlocks) × Weighed (weightColumns (now cost) (now loops) (now header) (now limit) (now made)) × Linked (length (now cost)) (now first) (now second) × Steps (length (now cost)) (length (now header)) (now level) (now order) ⌝ }
-    ensures { λ _. ⌜ Filled (now (around .entry)) (now (cost .entry)) (now (loops .entry)) (now (first .entry)) (now (second .entry)) (now (header .entry)) (now (limit .entry)) (now (made .entry)) (now (level .entry)) (now (order .entry)) (now (words .exit)) ⌝ }
+    requires { ⌜ (length (now values) ≡ places) × Low (now values) × Low (now weights) × Slotted n (now firsts) (now seconds) (now order) ⌝ }
+    ensures { λ _. ⌜ Filled (now (weights .entry)) (now (firsts .entry)) (now (seconds .entry)) (now (order .entry)) n (now (values .entry)) (now (values .exit)) ⌝ }
 {
-    let mut i = cost.len();
+    let mut i = n;
     while 0 < i {
         i -= 1;
         let x = order[i] as usize;
-        let l = level[loops[x] as usize];
-        if l != 65535 {
-            words[x] = tail_at(
-                around,
-                cost,
-                loops,
-                first,
-                second,
-                header,
-                limit,
-                made,
-                level,
-                words,
-                l,
-                x,
-            );
-        }
+        let w = tail_of(values, firsts, seconds, x);
+        values[x] = more(weights[x], w);
     }
 }

@@ -1,77 +1,55 @@
-use mathlib.Core.List.{List, []}
 use Prim.Native.Nat.{ℕ}
-use Rattle.order.specs.Ordering.{Topological}
-use Rattle.optimum.specs.Remade.{withColumns}
-use Rattle.levels.specs.Levels.{Level}
-use Rattle.tails.specs.Columns.{Passed, TailsIn, Filled}
-use native.Mathlib.Omega.{arith}
 use mathlib.Core.Path.{_≡_}
-use lib.ListN.{length}
-use Rattle.limits.specs.Limits.{mostBlocks}
-use Rattle.wcet.specs.Table.{Routine}
-use Rattle.nesting.specs.Columns.{routine}
-use Rattle.tails.proofs.Passes.{passed-nested, passed-parents, passed-few-loops, passed-few-blocks, passed-headers, passed-linked, passed-weighed, passed-steps, passed-too}
-use Rattle.multipliers.proofs.Multipliers.{topological-with, Multiplying, multiplying-first, multiplying-over, multiplying-next, multiplied-over, multiplied-all}
+use native.Mathlib.Omega.{arith}
+use mathlib.Core.Logic.{⊎-elim}
+use Rattle.multipliers.proofs.Remaking.{Remaking, remaking-first, gated-low, gated-size, remaking-last, remaking-next, remaking-over, remaking-all}
 use borrow.Author.Needs.{needs}
 use Rattle.multipliers.proofs.remake_multipliers.Statement.{statement}
 use Rattle.multipliers.proofs.remake_multipliers.Tie as tie
 use Rattle.multipliers.proofs.remake_multipliers.Reads as reads
 use Rattle.multipliers.proofs.remake_multipliers.Lts as lts
-use Rattle.levels.proofs.level_of.Reads as level-of-reads
+use Rattle.multipliers.proofs.keep_tails.Reads as keep-tails-reads
 use Rattle.multipliers.proofs.take_rounds.Reads as take-rounds-reads
-use Rattle.tails.proofs.fill_tails.Reads as fill-tails-reads
+use Rattle.tails.proofs.fill_values.Reads as fill-values-reads
+use Rattle.tails.proofs.set_gates.Reads as set-gates-reads
 
 abbrev Inv-loop : tie.InvT-loop
-Inv-loop values₀ around cost loops first second parent header limit depths deepest order words₀ d₀ values words d =
-    (length words ≡ mostBlocks) × Multiplying (routine cost loops first second [] parent header limit []) values d
+Inv-loop made₀ weights₀ kept₀ cost header limit depths deepest firsts seconds order values₀ d₀ made weights kept values d =
+    Remaking cost header limit depths deepest firsts seconds order values made weights kept d
 
 abbrev μ-loop : tie.MeasureT-loop
-μ-loop values₀ around cost loops first second parent header limit depths deepest order words₀ d₀ values words d = d
-
-abbrev whole : (c : tie.Start Inv-loop μ-loop) → Routine
-whole c = routine (c .args .cost .now) (c .args .loops .now) (c .args .first .now) (c .args .second .now) [] (c .args .parent .now) (c .args .header .now) (c .args .limit .now) []
-
--- with the multipliers so far, and the words after a pass
-module _ (s : tie.Start Inv-loop μ-loop) (values : List ℕ) (d : ℕ) (M : Multiplying (whole s) values d) where
-  with-values : Passed (withColumns (whole s) [] values)
-  with-values = passed-too (whole s) (s .pre .0) values (M .loop0) (M .low)
-
-  ordered : Topological (withColumns (whole s) [] values) (s .args .order .now)
-  ordered = topological-with (whole s) [] values (s .args .order .now) (s .pre .2)
-
-  words-say : (level words : List ℕ) → Level (s .args .parent .now) d level
-      → Filled (s .args .around .now) (s .args .cost .now) (s .args .loops .now) (s .args .first .now) (s .args .second .now) (s .args .header .now) (s .args .limit .now) values level (s .args .order .now) words
-      → TailsIn (withColumns (whole s) [] values) level words
-  words-say level words L F = F .says (s .args .parent .now) d with-values (s .pre .1) L ordered
+μ-loop made₀ weights₀ kept₀ cost header limit depths deepest firsts seconds order values₀ d₀ made weights kept values d = d
 
 loop-holds : tie.Need-loop-holds Inv-loop μ-loop
-loop-holds c = let s = c .before .before .before .before .before .before .before in (search needs, multiplying-first (whole s) (s .pre .0) _ _ (s .pre .4) (s .pre .5) (s .pre .3 .most))
+loop-holds c = let p = (c .before .before .before) .pre in remaking-first _ _ _ _ _ _ _ _ (p .0) _ _ _ (p .1) (p .2) (p .3) (p .4) (p .5)
 
-level-of-requires : tie.Need-level-of-requires Inv-loop μ-loop
-level-of-requires c κs = let s = c .before .before .before .before .before .before .before .before .before in (passed-few-loops (whole s) (s .pre .0), passed-parents (whole s) (s .pre .0), s .pre .3 .same)
+set-gates-requires : tie.Need-set-gates-requires Inv-loop μ-loop
+set-gates-requires c κs = let Y = (c .before .before .before .before .before .before) .pre .0 in (c .before .before .loop .inv .values-size, Y .few-loops, Y .header-block)
 
-fill-tails-requires : tie.Need-fill-tails-requires Inv-loop μ-loop
-fill-tails-requires c κs =
-    let s = c .before .before .before .before .before .before .before .before .before .before .before .before .before in
+fill-values-requires : tie.Need-fill-values-requires Inv-loop μ-loop
+fill-values-requires c κs =
+    let Y = (c .before .before .before .before .before .before .before .before .before) .pre .0 in
     let loop = c .before .before .before .before .before .loop in
-    let M = loop .inv .1 in
-    let P = with-values s (loop .values) (loop .d) M in
-    (loop .inv .0, passed-weighed _ P, passed-linked _ P, passed-steps _ P (loop .d) _ _ (c .before .before .before .level-of .ensures) (ordered s (loop .values) (loop .d) M))
+    let G = c .before .before .set-gates .ensures in
+    (gated-size _ _ _ _ _ _ _ _ Y (loop .values) (loop .made) (loop .weights) (loop .kept) (loop .d) (omega arith) (loop .inv) _ G, gated-low _ _ _ _ _ _ _ _ Y (loop .values) (loop .made) (loop .weights) (loop .kept) (loop .d) (omega arith) (loop .inv) _ G, loop .inv .weights-low, Y .slotted)
+
+keep-tails-requires : tie.Need-keep-tails-requires Inv-loop μ-loop
+keep-tails-requires c κs =
+    let Y = (c .before .before .before .before .before .before .before .before .before .before .before .before) .pre .0 in
+    let loop = c .before .before .before .before .before .before .before .before .loop in
+    (loop .inv .kept-size, omega arith, omega (arith, loop .inv .at-most, Y .deep), Y .few-loops, λ l b. (omega (arith, Y .header-block l b, Y .slotted .few), Y .slotted .first-place _ (Y .header-block l b), Y .slotted .second-place _ (Y .header-block l b)))
 
 take-rounds-requires : tie.Need-take-rounds-requires Inv-loop μ-loop
 take-rounds-requires c κs =
-    let s = c .before .before .before .before .before .before .before .before .before .before .before .before .before .before .before .before .before in
-    let P = s .pre .0 in
-    let h : length (s .args .header .now) ≡ length (s .args .parent .now) = passed-headers (whole s) P in
-    (c .before .before .before .before .before .before .before .before .before .loop .inv .1 .size, omega (arith, h, passed-few-loops (whole s) P), λ l b. omega (arith, passed-nested (whole s) P .header-block l (omega (arith, h)), passed-few-blocks (whole s) P))
+    let Y = (c .before .before .before .before .before .before .before .before .before .before .before .before .before .before .before .before .before) .pre .0 in
+    let loop = c .before .before .before .before .before .before .before .before .before .before .before .before .before .loop in
+    (loop .inv .made-size, loop .inv .weights-size, omega arith, omega (arith, loop .inv .at-most, Y .deep), Y .few-loops, Y .limits-size, Y .slotted .few, λ l b. (Y .header-block l b, Y .limit-least l b, Y .limit-most l b), Y .cost-most)
 
 returns : tie.Need-returns Inv-loop μ-loop
 returns c =
-    let s = c .before .before .before .before .before .before .before .before .before .before .before .before .before .before .before .before .before .before .before in
-    let loop = c .before .before .before .before .before .before .before .before .before .before .before .loop in
-    let L = c .before .before .before .before .before .before .before .before .before .level-of .ensures in
-    multiplied-over (whole s) (s .pre .0) _
-    (multiplying-over (whole s) (s .pre .0) (loop .values) (loop .d) (omega arith) (loop .inv .1) _ _ L (words-say s (loop .values) (loop .d) (loop .inv .1) _ _ L (c .before .before .before .before .before .fill-tails .ensures)) _ _ (c .before .take-rounds .ensures) (c .if1 .taken))
+    let Y = (c .before .before .before .before .before .before .before .before .before .before .before .before .before .before .before .before .before .before .before) .pre .0 in
+    let loop = c .before .before .before .before .before .before .before .before .before .before .before .before .before .before .before .loop in
+    remaking-over _ _ _ _ _ _ _ _ Y (loop .values) (loop .made) (loop .weights) (loop .kept) (loop .d) (omega arith) (loop .inv) _ (c .before .before .before .before .before .before .before .before .before .before .before .before .set-gates .ensures) _ (c .before .before .before .before .before .before .before .before .before .fill-values .ensures) _ (c .before .before .before .before .before .before .keep-tails .ensures) (c .before .before .before .before .before .if1 .taken) _ _ _ (c .before .take-rounds .ensures) (c .if2 .taken)
 
 sub-d : tie.Need-sub-d Inv-loop μ-loop
 sub-d c = search needs
@@ -81,14 +59,18 @@ loop-less c = search needs
 
 loop-again : tie.Need-loop-again Inv-loop μ-loop
 loop-again c =
-    let s = c .before .before .before .before .before .before .before .before .before .before .before .before .before .before .before .before .before .before .before in
-    let loop = c .before .before .before .before .before .before .before .before .before .before .before .loop in
-    let L = c .before .before .before .before .before .before .before .before .before .level-of .ensures in
-    let F = c .before .before .before .before .before .fill-tails .ensures in
-    (F .size, multiplying-next (whole s) (s .pre .0) (loop .values) (loop .d) (omega arith) (loop .inv .1) _ _ L (words-say s (loop .values) (loop .d) (loop .inv .1) _ _ L F) _ _ (c .before .take-rounds .ensures) (c .if1 .left))
+    let Y = (c .before .before .before .before .before .before .before .before .before .before .before .before .before .before) .pre .0 in
+    let loop = c .before .before .before .before .before .before .before .before .before .before .loop in
+    let G = c .before .before .before .before .before .before .before .set-gates .ensures in
+    let F = c .before .before .before .before .fill-values .ensures in
+    let K = c .before .keep-tails .ensures in
+    ⊎-elim
+    (λ w. rw (w .6, w .7) (remaking-next _ _ _ _ _ _ _ _ Y (loop .values) (loop .made) (loop .weights) (loop .kept) (loop .d) (omega arith) (loop .inv) _ G _ F _ K (w .0 .taken) _ _ _ (w .4 .ensures) (w .5 .left)))
+    (λ w. rw (w .1, w .2) (remaking-last _ _ _ _ _ _ _ _ Y (loop .values) (loop .made) (loop .weights) (loop .kept) (loop .d) (omega arith) (loop .inv) _ G _ F _ K (omega (arith, w .0 .left))))
+    (c .if1 .came)
 
 returns-2 : tie.Need-returns-2 Inv-loop μ-loop
-returns-2 c = let s = c .before .before .before .before .before .before .before .before .before in multiplied-all (whole s) (s .pre .0) (c .before .loop .values) (c .before .loop .d) (omega arith) (c .before .loop .inv .1)
+returns-2 c = let done : _≡_ {A = ℕ} (c .before .loop .d) 0 = omega arith in remaking-all _ _ _ _ _ _ _ _ (c .before .loop .values) (c .before .loop .made) (c .before .loop .weights) (c .before .loop .kept) (rw done at (c .before .loop .inv))
 
 pub remake-multipliers-spec : {M : Type 1} → statement M
 remake-multipliers-spec =
@@ -97,8 +79,9 @@ remake-multipliers-spec =
     Inv-loop
     μ-loop
     loop-holds
-    level-of-requires
-    fill-tails-requires
+    set-gates-requires
+    fill-values-requires
+    keep-tails-requires
     take-rounds-requires
     returns
     sub-d

@@ -1,0 +1,266 @@
+-- The remade figures are figures by the slots: with the gates set by the remade multipliers and the figures of the headers, the greater of the
+-- values in a block's slots is its remade figure (`remade-equations`). Assumes nothing.
+use mathlib.Core.Path.{_≡_, refl, sym, _∙_, ap}
+use mathlib.Core.Bool.{Bool, true, false, not, _&&_, true≢false}
+use mathlib.Core.List.{List}
+use mathlib.Core.Logic.{_⊎_, inl, inr}
+use mathlib.Core.Option.{some}
+use Prim.Native.Nat.{ℕ, _+_, _-_, _*_, _^_, _≤_, _<_}
+use native.Mathlib.Decide.{ℕ-discrete}
+use native.Mathlib.Omega.{arith}
+use lib.Dec.{eqb, ltb}
+use borrow.Author.Tests.{eqb-true, not-true, lt-ltb, ltb-false, le-ltb}
+use lib.IntN.{ℤ, pos, _+ℤ_}
+use lib.ListN.{length, getD}
+use lib.Signed.{ltZ, _≤ℤ_}
+use Rattle.integers.proofs.Laws.{ints, sum}
+use Rattle.limits.specs.Limits.{mostBlocks, mostLoops}
+use Rattle.lists.specs.Search.{if_then_else_}
+use Rattle.lists.proofs.Tests.{either, and-true}
+use Rattle.lists.proofs.Search.{none-of}
+use Rattle.wcet.specs.Table.{Routine, blockCount, loopCount, exit, missing, loopOf, first, second, header, someEdge, edge, inside, isHeader}
+use Rattle.wcet.specs.Cycles.{backEdge, forwardEdge, undeclaredLoop}
+use Rattle.wcet.specs.Rules.{structureRules}
+use Rattle.wcet.specs.Claim.{AllHold}
+use Rattle.wcet.proofs.Nesting.{Nested, nested}
+use Rattle.loopsets.specs.Sets.{setsAround}
+use Rattle.loopsets.proofs.Laws.{member-around}
+use Rattle.nesting.specs.Columns.{Headed}
+use Rattle.nesting.proofs.Stages.{headed}
+use Rattle.order.specs.Edges.{backBySets}
+use Rattle.order.specs.Ordering.{Topological}
+use Rattle.optimum.specs.Remade.{PathToExit}
+use Rattle.optimum.specs.Tails.{weight}
+use Rattle.optimum.specs.Columns.{tails, remadeMultipliers, remultiplied, remadeFigures}
+use Rattle.optimum.specs.Replies.{multiplierOver}
+use Rattle.optimum.proofs.Structure.{first-edge, second-edge, target-loop, back-to}
+use Rattle.optimum.proofs.Filled.{figure-least}
+use Rattle.optimum.proofs.Remade.{remultiplied-nested, made-figure}
+use Rattle.optimum.proofs.Edges.{asks, figure-exit, figure-most, figure-attained}
+use Rattle.tails.specs.Slots.{nowhere, slotBySets, SlotsOf}
+use Rattle.multipliers.specs.Columns.{MultipliedOf}
+use Rattle.figures.specs.Figures.{noFigure, greaterOf}
+use Rattle.figures.specs.Columns.{HeadsFigured, HeadsOf, GatesSet, slotValue, Equations, FiguresFilled, Figured}
+use Rattle.figures.proofs.Signs.{figure-same}
+use Rattle.figures.proofs.Pass.{greater-first, greater-second}
+
+some-same : {a b : ℤ} → some a ≡ some b → a ≡ b
+some-same e = cc
+
+-- one of two that is not below the other is the greater
+greatest : (f a b : ℤ) → a ≤ℤ f → b ≤ℤ f → (f ≡ a) ⊎ (f ≡ b) → f ≡ greaterOf a b
+greatest f a b p q (inl e) = rw e (greater-first a b (omega ints))
+greatest f a b p q (inr e) = go (ltZ a b) refl
+  where
+    go : (l : Bool) → ltZ a b ≡ l → f ≡ greaterOf a b
+    go true l = e ∙ greater-second a b (omega ints)
+    go false l = let d : f ≡ a = omega ints in d ∙ greater-first a b (omega ints)
+
+module _ (t : Routine) (rules : AllHold (structureRules t)) (declared : undeclaredLoop t ≡ false) (paths : (u : ℕ) → u < blockCount t → PathToExit t u)
+    (sets : List ℕ) (around-sets : sets ≡ setsAround (t .parents)) (order : List ℕ) (O : Topological t order)
+    (made weights kept : List ℕ) (M : MultipliedOf t false made weights kept) (heads : List ℤ) (H : HeadsFigured t false heads)
+    (old gates : List ℤ) (G : GatesSet (t .costs) (t .headers) made heads old gates) (empty : getD old nowhere (pos 0) ≡ noFigure) where
+  abbrev n : ℕ
+  n = blockCount t
+
+  N : Nested t
+  N = nested t rules
+
+  H′ : Headed t
+  H′ = headed t rules
+
+  abbrev F : ℕ → ℤ
+  F x = getD (remadeFigures t) x (pos 0)
+
+  abbrev value : ℕ → ℤ
+  value s = slotValue F n weights gates s
+
+  few-blocks : n ≤ mostBlocks
+  few-blocks = H′ .ranged .sized .few-blocks
+
+  few-loops : loopCount t ≤ mostLoops
+  few-loops = H′ .ranged .sized .few-loops
+
+  -- a gate is no block
+  at-gate : (s : ℕ) → mostBlocks ≤ s → value s ≡ getD gates s (pos 0)
+  at-gate s h = rw (le-ltb s n (omega (arith, few-blocks)))
+
+  at-nowhere : value nowhere ≡ noFigure
+  at-nowhere = at-gate nowhere (omega arith) ∙ G .after nowhere (omega (arith, few-loops, H′ .ranged .sized .headers)) (omega arith) ∙ empty
+
+  at-exit-gate : value mostBlocks ≡ pos 0
+  at-exit-gate = at-gate mostBlocks (omega arith) ∙ G .exit-gate
+
+  low : (l : ℕ) → l < loopCount t → getD (remadeMultipliers t) l 0 ≤ 2 ^ 40
+  unfolding multiplierOver
+  low l b = ltb-false (2 ^ 40) (getD (remadeMultipliers t) l 0) (none-of (loopCount t) (λ l. ltb (2 ^ 40) (getD (remadeMultipliers t) l 0)) (sym (M .tested)) l b)
+
+  -- every figure is over a number that is none
+  over-none : (x : ℕ) → x < n → noFigure ≤ℤ F x
+  over-none x b =
+      let p : pos 0 ≤ℤ (F x +ℤ pos (2 ^ 40 * loopCount t))
+      = figure-least (remultiplied t) (remultiplied-nested t N declared) (tails (remultiplied t)) (2 ^ 40) low (loopCount t) x (F x) (omega arith) b (made-figure t N declared paths x b) in
+      omega (ints, few-loops, sum (F x) (pos (2 ^ 40 * loopCount t)))
+
+  head-figure : (l : ℕ) → l < loopCount t → getD heads l (pos 0) ≡ F (header t l)
+  head-figure l b = figure-same (getD heads l (pos 0)) (F (header t l)) (H .same refl l b ∙ made-figure t N declared paths (header t l) (N .header-block l b))
+
+  back-same : (u v : ℕ) → u < n → v < n → backBySets sets (t .loops) (t .headers) u v ≡ backEdge t u v
+  unfolding backBySets backEdge inside
+  back-same u v b c =
+      ap (λ (i : Bool). isHeader t v && i) (member-around (t .parents) sets around-sets few-loops (loopOf t u) (loopOf t v) (N .innermost u b) (omega (arith, N .innermost v c, few-loops)))
+
+  -- ---- one edge
+
+  module _ (x v : ℕ) (b : x < n) (e : edge t x v ≡ true) where
+    c : v < n
+    c = N .target x v b e
+
+    asked-back : backEdge t x v ≡ true → value (mostBlocks + loopOf t v) ≡ asks t x v
+    unfolding asks
+    asked-back r =
+        let p : (0 < loopOf t v) × (header t (loopOf t v) ≡ v) × (inside t x (loopOf t v) ≡ true) = back-to t N x v b e r in
+        let k : loopOf t v < loopCount t = target-loop t N x v b e in
+        at-gate (mostBlocks + loopOf t v) (omega arith) ∙ G .gate (loopOf t v) (p .0) (omega (arith, k, H′ .ranged .sized .headers))
+        ∙ rw (r, head-figure (loopOf t v) k, p .1, M .same refl (loopOf t v) k)
+
+    asked-on : backEdge t x v ≡ false → value v ≡ asks t x v
+    unfolding asks
+    asked-on r =
+        let w : getD weights v 0 - 1 ≡ weight (remultiplied t) v = omega (arith, M .weighed refl v c) in
+        rw (lt-ltb v n c, r, w) (omega (ints, sum (F v) (pos (weight (remultiplied t) v)), sum (pos (weight (remultiplied t) v)) (F v)))
+
+    forward : backEdge t x v ≡ false → O .position x < O .position v
+    forward r = O .rises x v b (unfold forwardEdge in rw (e, r))
+
+  -- ---- the slots of a column of successors
+
+  module _ (next slots : List ℕ) (S : SlotsOf sets (t .loops) (t .headers) next slots)
+      (edges : (x : ℕ) → eqb (getD next x 0) missing ≡ false → edge t x (getD next x 0) ≡ true) where
+    -- the slot s of x's edge is that of a back edge, or of a forward edge; or there is no edge
+    abbrev EdgeSlot : ℕ → ℕ → Type 0
+    EdgeSlot x s =
+        ((backEdge t x (getD next x 0) ≡ true) × (s ≡ mostBlocks + loopOf t (getD next x 0))) ⊎ ((backEdge t x (getD next x 0) ≡ false) × (s ≡ getD next x 0))
+
+    abbrev Slot : ℕ → ℕ → Type 0
+    Slot x s = ((eqb (getD next x 0) missing ≡ true) × (s ≡ nowhere)) ⊎ ((edge t x (getD next x 0) ≡ true) × EdgeSlot x s)
+
+    slot-exit : getD slots (exit t) 0 ≡ mostBlocks
+    slot-exit = let q : length (t .loops) - 1 ≡ exit t = ap (λ (k : ℕ). k - 1) (H′ .ranged .sized .loops) in rw q at (S .at-exit)
+
+    slot : (x : ℕ) → x < n → (x ≡ exit t → ⊥) → Slot x (getD slots x 0)
+    unfolding slotBySets
+    slot x b ne = go (eqb v missing) refl (S .each x (omega (arith, H′ .ranged .sized .loops)) (λ q. ne (omega (arith, H′ .ranged .sized .loops))))
+      where
+        v : ℕ
+        v = getD next x 0
+
+        go : (m : Bool) → eqb v missing ≡ m → getD slots x 0 ≡ (if m then nowhere else if backBySets sets (t .loops) (t .headers) x v then mostBlocks + loopOf t v else v) → Slot x (getD slots x 0)
+        go true m q = inl (m, q)
+        go false m q = inr (edges x m, by (backEdge t x v) refl (rw (back-same x v b (c x v b (edges x m))) at q))
+          where
+            by : (r : Bool) → backEdge t x v ≡ r → getD slots x 0 ≡ (if r then mostBlocks + loopOf t v else v) → EdgeSlot x (getD slots x 0)
+            by true r q = inl (r, q)
+            by false r q = inr (r, q)
+
+    slot-most : (x : ℕ) → x < n → (x ≡ exit t → ⊥) → value (getD slots x 0) ≤ℤ F x
+    slot-most x b ne = go (slot x b ne)
+      where
+        go : Slot x (getD slots x 0) → value (getD slots x 0) ≤ℤ F x
+        go (inl p) = rw (p .1, at-nowhere) (over-none x b)
+        go (inr (e, inl p)) = rw (p .1, asked-back x (getD next x 0) b e (p .0)) (figure-most t N declared paths x (getD next x 0) b e)
+        go (inr (e, inr p)) = rw (p .1, asked-on x (getD next x 0) b e (p .0)) (figure-most t N declared paths x (getD next x 0) b e)
+
+    slot-attained : (x : ℕ) → x < n → (x ≡ exit t → ⊥) → eqb (getD next x 0) missing ≡ false → value (getD slots x 0) ≡ asks t x (getD next x 0)
+    slot-attained x b ne there = go (slot x b ne)
+      where
+        go : Slot x (getD slots x 0) → value (getD slots x 0) ≡ asks t x (getD next x 0)
+        go (inl p) = absurd (true≢false (sym (p .0) ∙ there))
+        go (inr (e, inl p)) = rw (p .1) (asked-back x (getD next x 0) b e (p .0))
+        go (inr (e, inr p)) = rw (p .1) (asked-on x (getD next x 0) b e (p .0))
+
+    slot-later : (x : ℕ) → x < n → getD slots x 0 < n → O .position x < O .position (getD slots x 0)
+    slot-later x b h = at (ℕ-discrete x (exit t))
+      where
+        at : Dec (x ≡ exit t) → O .position x < O .position (getD slots x 0)
+        at (yes q) = absurd (omega (arith, few-blocks, ap (λ (y : ℕ). getD slots y 0) q ∙ slot-exit))
+        at (no ne) = go (slot x b ne)
+          where
+            go : Slot x (getD slots x 0) → O .position x < O .position (getD slots x 0)
+            go (inl p) = absurd (omega (arith, few-blocks, p .1))
+            go (inr (e, inl p)) = absurd (omega (arith, few-blocks, p .1))
+            go (inr (e, inr p)) = rw (p .1) (forward x (getD next x 0) b e (p .0))
+
+  -- ---- both slots
+
+  module _ (firstSlots secondSlots : List ℕ)
+      (S₁ : SlotsOf sets (t .loops) (t .headers) (t .firsts) firstSlots) (S₂ : SlotsOf sets (t .loops) (t .headers) (t .seconds) secondSlots) where
+    abbrev Attained : ℕ → Type 0
+    Attained x = (F x ≡ value (getD firstSlots x 0)) ⊎ (F x ≡ value (getD secondSlots x 0))
+
+    attained : (x v : ℕ) → x < n → (x ≡ exit t → ⊥) → edge t x v ≡ true → F x ≡ asks t x v → Attained x
+    unfolding edge someEdge
+    attained x v b ne e q = go (either (not (eqb (first t x) missing) && eqb (first t x) v) (not (eqb (second t x) missing) && eqb (second t x) v) e)
+      where
+        go : ((not (eqb (first t x) missing) && eqb (first t x) v) ≡ true) ⊎ ((not (eqb (second t x) missing) && eqb (second t x) v) ≡ true) → Attained x
+        go (inl p) =
+            let r = and-true (not (eqb (first t x) missing)) (eqb (first t x) v) p in
+            inl (q ∙ ap (asks t x) (sym (eqb-true (first t x) v (r .1))) ∙ sym (slot-attained (t .firsts) firstSlots S₁ (first-edge t) x b ne (not-true (eqb (first t x) missing) (r .0))))
+        go (inr p) =
+            let r = and-true (not (eqb (second t x) missing)) (eqb (second t x) v) p in
+            inr (q ∙ ap (asks t x) (sym (eqb-true (second t x) v (r .1))) ∙ sym (slot-attained (t .seconds) secondSlots S₂ (second-edge t) x b ne (not-true (eqb (second t x) missing) (r .0))))
+
+    each : (x : ℕ) → x < n → F x ≡ greaterOf (value (getD firstSlots x 0)) (value (getD secondSlots x 0))
+    each x b = at (ℕ-discrete x (exit t))
+      where
+        at : Dec (x ≡ exit t) → F x ≡ greaterOf (value (getD firstSlots x 0)) (value (getD secondSlots x 0))
+        at (yes q) =
+            rw (q, slot-exit (t .firsts) firstSlots S₁ (first-edge t), slot-exit (t .seconds) secondSlots S₂ (second-edge t), at-exit-gate)
+            (figure-exit t N declared paths ∙ greater-first (pos 0) (pos 0) (omega ints))
+        at (no ne) =
+            let f = figure-attained t N declared paths x b ne in
+            greatest (F x) (value (getD firstSlots x 0)) (value (getD secondSlots x 0))
+            (slot-most (t .firsts) firstSlots S₁ (first-edge t) x b ne) (slot-most (t .seconds) secondSlots S₂ (second-edge t) x b ne)
+            (attained x (f .0) b ne (f .1) (f .2))
+
+    pub remade-equations : Equations (λ x. getD (remadeFigures t) x (pos 0)) (blockCount t) weights firstSlots secondSlots order gates
+    remade-equations = record {
+      each = each;
+      position = O .position;
+      within = O .within;
+      there = O .there;
+      index = O .index;
+      first-later = slot-later (t .firsts) firstSlots S₁ (first-edge t);
+      second-later = slot-later (t .seconds) secondSlots S₂ (second-edge t);
+    }
+
+-- ---- of every routine with these columns
+
+module _ (costs parents headers made weights kept firstSlots secondSlots order : List ℕ) (heads figures : List ℤ) where
+  -- the figure of a header is over the limit
+  pub figured-high : length figures ≡ mostBlocks → HeadsOf parents kept made true heads → Figured costs parents headers made weights kept firstSlots secondSlots order true figures
+  figured-high size K = record {
+    size = size;
+    says = λ t sets ec ep eh rules declared paths A O S₁ S₂ M. record {
+      same = λ q. absurd (true≢false q);
+      low = λ q. absurd (true≢false q);
+      high = λ q.
+          let N : Nested t = nested t rules in
+          let h = K .says t weights ep rules M .high refl in
+          let b : header t (h .0) < blockCount t = N .header-block (h .0) (h .1) in
+          let e : getD (remadeFigures t) (header t (h .0)) (pos 0) ≡ h .2 .0 = some-same (sym (made-figure t N declared paths (header t (h .0)) b) ∙ h .2 .1) in
+          (header t (h .0), b, rw e (h .2 .2));
+    };
+  }
+
+  pub figured-filled : (old gates : List ℤ) (over : Bool) → HeadsOf parents kept made false heads → GatesSet costs headers made heads old gates → getD old nowhere (pos 0) ≡ noFigure
+      → FiguresFilled weights firstSlots secondSlots order (length costs) gates over figures → Figured costs parents headers made weights kept firstSlots secondSlots order over figures
+  figured-filled old gates over K G empty P = record {
+    size = P .size;
+    says = λ t sets ec ep eh rules declared paths A O S₁ S₂ M.
+        let k : blockCount t ≡ length costs = ap length ec in
+        let g : GatesSet (t .costs) (t .headers) made heads old gates = rw (ec, eh) G in
+        let E = remade-equations t rules declared paths sets A order O made weights kept M heads (K .says t weights ep rules M) old gates g empty firstSlots secondSlots S₁ S₂ in
+        let r = P .says (λ x. getD (remadeFigures t) x (pos 0)) (rw k at E) in
+        record { same = λ q x b. r .0 q x (rw k at b) .0; low = λ q x b. r .0 q x (rw k at b) .1; high = λ q. rw k (r .1 q) };
+  }

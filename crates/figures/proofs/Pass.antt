@@ -1,0 +1,262 @@
+-- The gates, one loop after the other, and the pass over the blocks, from the last in an order to the first: it makes any figures that the slots
+-- fix by equations, as long as none is over the limit. Assumes nothing.
+use mathlib.Core.Path.{_≡_, refl, sym, _∙_, ap}
+use mathlib.Core.Bool.{Bool, true, false, true≢false}
+use mathlib.Core.List.{List}
+use Prim.Native.Nat.{ℕ, _+_, _-_, _^_, _≤_, _<_}
+use native.Mathlib.Decide.{ℕ-discrete}
+use native.Mathlib.Omega.{arith}
+use lib.Dec.{ltb}
+use borrow.Author.Tests.{ltb-true, ltb-false}
+use lib.IntN.{ℤ, pos, negℤ, _+ℤ_, _-ℤ_}
+use lib.ListN.{length, getD, set, length-set, replicate, length-replicate, getD-replicate, List·getD-eq-default}
+use lib.Seq.{getD-set-same, getD-set-other}
+use lib.Signed.{ltZ, _≤ℤ_, _<ℤ_}
+use mir.Syntax.{w64}
+use mir.Val.{SFits}
+use Rattle.integers.proofs.Laws.{ints, sum, diff, size}
+use Rattle.limits.specs.Limits.{mostBlocks}
+use Rattle.lists.specs.Search.{if_then_else_}
+use Rattle.tails.specs.Slots.{places, Slotted}
+use Rattle.figures.specs.Figures.{noFigure, HeadFits, ValuesFit, WeightFits, greaterOf}
+use Rattle.figures.specs.Columns.{GatesSet, slotValue, Equations, FiguresFilled}
+
+-- ---- the greater of two
+
+pub greater-second : (a b : ℤ) → a <ℤ b → b ≡ greaterOf a b
+unfolding greaterOf
+greater-second a b h = let e : ltZ a b ≡ true = omega ints in rw e
+
+pub greater-first : (a b : ℤ) → b ≤ℤ a → a ≡ greaterOf a b
+unfolding greaterOf
+greater-first a b h = let e : ltZ a b ≡ false = omega ints in rw e
+
+-- it is not below what neither is below
+greater-least : (a b z : ℤ) → z ≤ℤ a → z ≤ℤ b → z ≤ℤ greaterOf a b
+unfolding greaterOf
+greater-least a b z p q = go (ltZ a b)
+  where
+    go : (l : Bool) → z ≤ℤ (if l then b else a)
+    go true = q
+    go false = p
+
+-- ---- the gates
+
+-- what a back edge to the header of loop l asks for
+abbrev pub gateBy : (costs headers made : List ℕ) (heads : List ℤ) → ℕ → ℤ
+gateBy costs headers made heads l = pos (getD costs (getD headers l 0) 0) -ℤ pos (getD made l 0) +ℤ getD heads l (pos 0)
+
+-- the gates of the loops below l are set
+pub record Gating (costs headers made : List ℕ) (heads old new : List ℤ) (l : ℕ) : Type 0 where
+  pub size : length new ≡ length old
+  pub exit-gate : getD new mostBlocks (pos 0) ≡ pos 0
+  pub gate : (k : ℕ) → 0 < k → k < l → getD new (mostBlocks + k) (pos 0) ≡ gateBy costs headers made heads k
+  pub rest : (i : ℕ) → i < mostBlocks → getD new i (pos 0) ≡ getD old i (pos 0)
+  pub after : (i : ℕ) → mostBlocks + l ≤ i → mostBlocks < i → getD new i (pos 0) ≡ getD old i (pos 0)
+
+pub gate-fits : (c k : ℕ) (z : ℤ) → c < 2 ^ 32 → k ≤ 2 ^ 40 → HeadFits z → SFits w64 (pos c -ℤ pos k +ℤ z)
+gate-fits c k z h l H =
+    let p = H .head-least in
+    let q = H .head-most in
+    omega (ints, size (pos c -ℤ pos k +ℤ z), diff (pos c) (pos k), sum (pos c -ℤ pos k) z, size z)
+
+-- and within the range of a pass
+pub gate-range : (c k : ℕ) (z : ℤ) → c < 2 ^ 32 → k ≤ 2 ^ 40 → HeadFits z
+    → (negℤ (pos (2 ^ 62 + 2 ^ 41)) ≤ℤ (pos c -ℤ pos k +ℤ z)) × ((pos c -ℤ pos k +ℤ z) ≤ℤ pos (2 ^ 61))
+gate-range c k z h l H =
+    let p = H .head-least in
+    let q = H .head-most in
+    (omega (ints, diff (pos c) (pos k), sum (pos c -ℤ pos k) z), omega (ints, diff (pos c) (pos k), sum (pos c -ℤ pos k) z))
+
+module _ (costs headers made : List ℕ) (heads old : List ℤ) where
+  -- with 0 at the gate of loop 0
+  pub gating-first : mostBlocks < length old → Gating costs headers made heads (set old mostBlocks (pos 0)) (set old mostBlocks (pos 0)) 1
+  gating-first few = record {
+    size = refl;
+    exit-gate = getD-set-same old mostBlocks (pos 0) (pos 0) few;
+    gate = λ k z b. absurd (omega arith);
+    rest = λ i b. refl;
+    after = λ i b c. refl;
+  }
+
+  module _ (new : List ℤ) (l : ℕ) (G : Gating costs headers made heads old new l) where
+    pub gating-next : 0 < l → mostBlocks + l < length old → Gating costs headers made heads old (set new (mostBlocks + l) (gateBy costs headers made heads l)) (l + 1)
+    gating-next z b = record {
+      size = length-set new (mostBlocks + l) value ∙ G .size;
+      exit-gate = getD-set-other new (mostBlocks + l) mostBlocks value (pos 0) (λ e. omega arith) ∙ G .exit-gate;
+      gate = λ k p q. gate k p q (ℕ-discrete k l);
+      rest = λ i c. getD-set-other new (mostBlocks + l) i value (pos 0) (λ e. omega arith) ∙ G .rest i c;
+      after = λ i c d. getD-set-other new (mostBlocks + l) i value (pos 0) (λ e. omega arith) ∙ G .after i (omega arith) d;
+    }
+      where
+        value : ℤ
+        value = gateBy costs headers made heads l
+
+        gate : (k : ℕ) → 0 < k → k < l + 1 → Dec (k ≡ l) → getD (set new (mostBlocks + l) value) (mostBlocks + k) (pos 0) ≡ gateBy costs headers made heads k
+        gate k p q (yes e) = rw e (getD-set-same new (mostBlocks + l) value (pos 0) (omega (arith, G .size)))
+        gate k p q (no ne) = getD-set-other new (mostBlocks + l) (mostBlocks + k) value (pos 0) (λ e. ne (omega arith)) ∙ G .gate k p (omega arith)
+
+  pub gating-all : (new : List ℤ) (l : ℕ) → Gating costs headers made heads (set old mostBlocks (pos 0)) new l → length headers ≤ l → l - 1 ≤ length headers - 1 → 0 < l
+      → GatesSet costs headers made heads old new
+  gating-all new l G h p z = record {
+    size = G .size ∙ length-set old mostBlocks (pos 0);
+    exit-gate = G .exit-gate;
+    gate = λ k q b. G .gate k q (omega arith);
+    rest = λ i b. G .rest i b ∙ getD-set-other old mostBlocks i (pos 0) (pos 0) (λ e. omega arith);
+    after = λ i b c. G .after i (omega arith) c ∙ getD-set-other old mostBlocks i (pos 0) (pos 0) (λ e. omega arith);
+  }
+
+-- a pass can start with no figure anywhere
+pub none-fit : (k : ℕ) → ValuesFit (replicate k noFigure)
+none-fit k i = go (ltb i k) refl
+  where
+    go : (a : Bool) → ltb i k ≡ a → (negℤ (pos (2 ^ 62 + 2 ^ 41)) ≤ℤ getD (replicate k noFigure) i (pos 0)) × (getD (replicate k noFigure) i (pos 0) ≤ℤ pos (2 ^ 61))
+    go true a = rw (getD-replicate k i noFigure (pos 0) (ltb-true i k a)) (omega ints, omega ints)
+    go false a =
+        let e : length (replicate k noFigure) ≤ i = rw (length-replicate k noFigure) (ltb-false i k a) in
+        rw (List·getD-eq-default (replicate k noFigure) (pos 0) e) (omega ints, omega ints)
+
+-- with these gates
+pub gates-fit : (costs headers made : List ℕ) (heads old new : List ℤ) → GatesSet costs headers made heads old new → ValuesFit old
+    → ((l : ℕ) → l < length headers → (getD costs (getD headers l 0) 0 < 2 ^ 32) × (getD made l 0 ≤ 2 ^ 40) × HeadFits (getD heads l (pos 0)))
+    → ValuesFit new
+gates-fit costs headers made heads old new G fit known i = go (ltb i mostBlocks) refl (ℕ-discrete i mostBlocks) (ltb i (mostBlocks + length headers)) refl
+  where
+    Within : ℤ → Type 0
+    Within z = (negℤ (pos (2 ^ 62 + 2 ^ 41)) ≤ℤ z) × (z ≤ℤ pos (2 ^ 61))
+
+    gate : (l : ℕ) → 0 < l → l < length headers → Within (getD new (mostBlocks + l) (pos 0))
+    gate l z b = let k = known l b in rw (G .gate l z b) (gate-range _ _ _ (k .0) (k .1) (k .2))
+
+    go : (a : Bool) → ltb i mostBlocks ≡ a → Dec (i ≡ mostBlocks) → (c : Bool) → ltb i (mostBlocks + length headers) ≡ c → Within (getD new i (pos 0))
+    go true a d c q = rw (G .rest i (ltb-true i mostBlocks a)) (fit i)
+    go false a (yes d) c q = rw (d, G .exit-gate) (omega ints, omega ints)
+    go false a (no d) true q =
+        let h : mostBlocks ≤ i = ltb-false i mostBlocks a in
+        let k : i < mostBlocks + length headers = ltb-true i (mostBlocks + length headers) q in
+        let e : mostBlocks + (i - mostBlocks) ≡ i = omega arith in
+        rw e at (gate (i - mostBlocks) (omega arith) (omega arith))
+    go false a (no d) false q = rw (G .after i (ltb-false i (mostBlocks + length headers) q) (omega (arith, ltb-false i mostBlocks a))) (fit i)
+
+-- ---- the pass
+
+-- the value of a block: its figure f and its weight w
+abbrev valueBy : ℤ → ℕ → ℤ
+valueBy f w = f +ℤ pos (w - 1)
+
+-- the blocks from place i of the order up have their figures and values
+pub record Passing (weights firstSlots secondSlots order : List ℕ) (n : ℕ) (gates figures values : List ℤ) (i : ℕ) : Type 0 where
+  pub few : i ≤ n
+  pub figures-size : length figures ≡ mostBlocks
+  pub values-size : length values ≡ places
+  pub fit : ValuesFit values
+  pub rest : (s : ℕ) → n ≤ s → getD values s (pos 0) ≡ getD gates s (pos 0)
+  pub low : (F : ℕ → ℤ) → Equations F n weights firstSlots secondSlots order gates → (j : ℕ) → i ≤ j → j < n → F (getD order j 0) ≤ℤ pos (2 ^ 60)
+  pub done : (F : ℕ → ℤ) → Equations F n weights firstSlots secondSlots order gates → (j : ℕ) → i ≤ j → j < n
+      → (getD figures (getD order j 0) (pos 0) ≡ F (getD order j 0)) × (getD values (getD order j 0) (pos 0) ≡ valueBy (F (getD order j 0)) (getD weights (getD order j 0) 0))
+
+pub value-fits : (f : ℤ) (w : ℕ) → WeightFits w → negℤ (pos (2 ^ 62 + 2 ^ 41)) ≤ℤ f → f ≤ℤ pos (2 ^ 60) → SFits w64 (f +ℤ pos (w - 1))
+value-fits f w W p q =
+    let a = W .weight-least in
+    let b = W .weight-most in
+    omega (ints, size (f +ℤ pos (w - 1)), sum f (pos (w - 1)), size f)
+
+module _ (weights firstSlots secondSlots order : List ℕ) (n : ℕ) (gates : List ℤ) (S : Slotted n firstSlots secondSlots order) where
+  pub passing-first : (figures : List ℤ) → length figures ≡ mostBlocks → length gates ≡ places → ValuesFit gates → Passing weights firstSlots secondSlots order n gates figures gates n
+  passing-first figures p q fit = record {
+    few = omega arith;
+    figures-size = p;
+    values-size = q;
+    fit = fit;
+    rest = λ s b. refl;
+    low = λ F E j a b. absurd (omega arith);
+    done = λ F E j a b. absurd (omega arith);
+  }
+
+  module _ (figures values : List ℤ) (i : ℕ) (z : 0 < i) (P : Passing weights firstSlots secondSlots order n gates figures values i) where
+    abbrev x : ℕ
+    x = getD order (i - 1) 0
+
+    here : x < n
+    here = S .block (i - 1) (omega (arith, P .few))
+
+    module _ (f : ℤ) (found : f ≡ greaterOf (getD values (getD firstSlots x 0) (pos 0)) (getD values (getD secondSlots x 0) (pos 0))) where
+      pub found-least : negℤ (pos (2 ^ 62 + 2 ^ 41)) ≤ℤ f
+      found-least = rw found (greater-least _ _ _ (P .fit (getD firstSlots x 0) .0) (P .fit (getD secondSlots x 0) .0))
+
+      module _ (F : ℕ → ℤ) (E : Equations F n weights firstSlots secondSlots order gates) where
+        -- the value in a slot that is a gate, or a block that stands later
+        in-slot : (s : ℕ) → (s < n → E .position x < E .position s) → getD values s (pos 0) ≡ slotValue F n weights gates s
+        in-slot s later = go (ltb s n) refl
+          where
+            go : (b : Bool) → ltb s n ≡ b → getD values s (pos 0) ≡ (if b then F s +ℤ pos (getD weights s 0 - 1) else getD gates s (pos 0))
+            go false b = P .rest s (ltb-false s n b)
+            go true b =
+                let h : s < n = ltb-true s n b in
+                let q : getD order (E .position s) 0 ≡ s = E .there s h in
+                rw q at (P .done F E (E .position s) (omega (arith, later h, E .index (i - 1) (omega (arith, P .few)))) (E .within s h) .1)
+
+        same : f ≡ F x
+        same =
+            found ∙ rw (in-slot (getD firstSlots x 0) (E .first-later x here), in-slot (getD secondSlots x 0) (E .second-later x here)) (sym (E .each x here))
+
+        later : (j : ℕ) → i ≤ j → j < n → (getD order j 0 ≡ x → ⊥)
+        later j a b e = let p : j ≡ i - 1 = sym (E .index j b) ∙ ap (E .position) e ∙ E .index (i - 1) (omega (arith, P .few)) in omega arith
+
+      pub passing-over : pos (2 ^ 60) <ℤ f → FiguresFilled weights firstSlots secondSlots order n gates true figures
+      passing-over high = record { size = P .figures-size; says = λ F E. (λ q. absurd (true≢false q), λ q. (x, here, rw (same F E) at high)) }
+
+      pub passing-next : WeightFits (getD weights x 0) → f ≤ℤ pos (2 ^ 60)
+          → Passing weights firstSlots secondSlots order n gates (set figures x f) (set values x (f +ℤ pos (getD weights x 0 - 1))) (i - 1)
+      passing-next W most = record {
+        few = omega (arith, P .few);
+        figures-size = length-set figures x f ∙ P .figures-size;
+        values-size = length-set values x value ∙ P .values-size;
+        fit = λ s. fit s (ℕ-discrete s x);
+        rest = λ s b. getD-set-other values x s value (pos 0) (λ e. omega (arith, here)) ∙ P .rest s b;
+        low = λ F E j a b. low F E j a b (ℕ-discrete j (i - 1));
+        done = λ F E j a b. done F E j a b (ℕ-discrete j (i - 1));
+      }
+        where
+          value : ℤ
+          value = f +ℤ pos (getD weights x 0 - 1)
+
+          in-values : getD (set values x value) x (pos 0) ≡ value
+          in-values = getD-set-same values x value (pos 0) (omega (arith, here, S .few, P .values-size))
+
+          in-figures : getD (set figures x f) x (pos 0) ≡ f
+          in-figures = getD-set-same figures x f (pos 0) (omega (arith, here, S .few, P .figures-size))
+
+          range : (negℤ (pos (2 ^ 62 + 2 ^ 41)) ≤ℤ value) × (value ≤ℤ pos (2 ^ 61))
+          range =
+              let a = W .weight-most in
+              let p = found-least in
+              (omega (ints, sum f (pos (getD weights x 0 - 1))), omega (ints, sum f (pos (getD weights x 0 - 1))))
+
+          fit : (s : ℕ) → Dec (s ≡ x) → (negℤ (pos (2 ^ 62 + 2 ^ 41)) ≤ℤ getD (set values x value) s (pos 0)) × (getD (set values x value) s (pos 0) ≤ℤ pos (2 ^ 61))
+          fit s (yes e) = rw (e, in-values) range
+          fit s (no ne) = rw (getD-set-other values x s value (pos 0) ne) (P .fit s)
+
+          low : (F : ℕ → ℤ) → Equations F n weights firstSlots secondSlots order gates → (j : ℕ) → i - 1 ≤ j → j < n → Dec (j ≡ i - 1) → F (getD order j 0) ≤ℤ pos (2 ^ 60)
+          low F E j a b (yes e) = rw (e, ← same F E) most
+          low F E j a b (no ne) = P .low F E j (omega arith) b
+
+          done : (F : ℕ → ℤ) → Equations F n weights firstSlots secondSlots order gates → (j : ℕ) → i - 1 ≤ j → j < n → Dec (j ≡ i - 1)
+              → (getD (set figures x f) (getD order j 0) (pos 0) ≡ F (getD order j 0)) × (getD (set values x value) (getD order j 0) (pos 0) ≡ valueBy (F (getD order j 0)) (getD weights (getD order j 0) 0))
+          done F E j a b (yes e) = rw e (in-figures ∙ same F E, in-values ∙ ap (λ (f : ℤ). valueBy f (getD weights x 0)) (same F E))
+          done F E j a b (no ne) =
+              let l : (getD order j 0 ≡ x → ⊥) = later F E j (omega arith) b in
+              let d = P .done F E j (omega arith) b in
+              (getD-set-other figures x (getD order j 0) f (pos 0) l ∙ d .0, getD-set-other values x (getD order j 0) value (pos 0) l ∙ d .1)
+
+  pub passing-all : (figures values : List ℤ) → Passing weights firstSlots secondSlots order n gates figures values 0 → FiguresFilled weights firstSlots secondSlots order n gates false figures
+  passing-all figures values P = record {
+    size = P .figures-size;
+    says = λ F E. (
+      λ q x b. (
+        rw (E .there x b) at (P .done F E (E .position x) (omega arith) (E .within x b) .0),
+        rw (E .there x b) at (P .low F E (E .position x) (omega arith) (E .within x b)),
+      ),
+      λ q. absurd (true≢false (sym q)),
+    );
+  }

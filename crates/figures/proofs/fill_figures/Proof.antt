@@ -1,0 +1,167 @@
+use mir.Val.{SFits, toZ}
+use mir.Facts.{toZ-ofZ, toZ-pos}
+use lib.IntN.{ℤ, pos, _+ℤ_}
+use lib.Signed.{_≤ℤ_}
+use mir.Syntax.{w64}
+use Prim.Native.Nat.{ℕ, _-_, _^_, _≤_, _<_}
+use mathlib.Core.Path.{_≡_}
+use Rattle.integers.proofs.Laws.{ints}
+use Rattle.figures.specs.Figures.{WeightFits}
+use native.Mathlib.Omega.{arith}
+use lib.ListN.{getD}
+use Rattle.figures.proofs.Pass.{Passing, value-fits, found-least, passing-first, passing-over, passing-next, passing-all}
+use borrow.Author.Needs.{needs}
+use Rattle.figures.proofs.fill_figures.Statement.{statement}
+use Rattle.figures.proofs.fill_figures.Tie as tie
+use Rattle.figures.proofs.fill_figures.Reads as reads
+use Rattle.figures.proofs.fill_figures.Lts as lts
+use Rattle.figures.proofs.figure_of.Reads as figure-of-reads
+
+abbrev Inv-loop : tie.InvT-loop
+Inv-loop figures₀ values₀ weights firsts seconds order n i₀ figures values i = Passing weights firsts seconds order n values₀ figures values i
+
+abbrev μ-loop : tie.MeasureT-loop
+μ-loop figures₀ values₀ weights firsts seconds order n i₀ figures values i = i
+
+-- the block at place i and what is known of it
+module _ (s : tie.Start Inv-loop μ-loop) (i : ℕ) (b : 0 < i) (few : i ≤ s .args .n) where
+  abbrev x : ℕ
+  x = getD (s .args .order .now) (i - 1) 0
+
+  block : x < s .args .n
+  block = s .pre .4 .block (i - 1) (omega arith)
+
+  low : x < 1024
+  low = omega (arith, block, s .pre .4 .few)
+
+  weight : WeightFits (getD (s .args .weights .now) x 0)
+  weight = s .pre .3 x block
+
+loop-holds : tie.Need-loop-holds Inv-loop μ-loop
+loop-holds c =
+    let a = c .args in
+    passing-first (a .weights .now) (a .firsts .now) (a .seconds .now) (a .order .now) (a .n) (a .values .now) (c .pre .4) (a .figures .now) (c .pre .0) (c .pre .1) (c .pre .2)
+
+sub-i : tie.Need-sub-i Inv-loop μ-loop
+sub-i c = search needs
+
+mul-x : tie.Need-mul-x Inv-loop μ-loop
+mul-x c = search needs
+
+element-copy-out-x : tie.Need-element-copy-out-x Inv-loop μ-loop
+element-copy-out-x c = search needs
+
+cast-x : tie.Need-cast-x Inv-loop μ-loop
+cast-x c = omega (arith, low (c .before .before .before) (c .before .before .loop .i) (omega arith) (omega (arith, c .before .before .loop .inv .few)))
+
+figure-of-requires : tie.Need-figure-of-requires Inv-loop μ-loop
+figure-of-requires c κs =
+    let s = c .before .before .before .before in
+    let i = c .before .before .before .loop .i in
+    let b : 0 < i = omega arith in
+    let few : i ≤ s .args .n = c .before .before .before .loop .inv .few in
+    (low s i b few, s .pre .4 .first-place _ (block s i b few), s .pre .4 .second-place _ (block s i b few))
+
+returns : tie.Need-returns Inv-loop μ-loop
+returns c =
+    let s = c .before .before .before .before .before .before in
+    let a = s .args in
+    let loop = c .before .before .before .before .before .loop in
+    let r = c .before .figure-of in
+    let f : SFits w64 (r .result) = search needs in
+    let e = rw (toZ-ofZ f) at (c .if1 .taken) in
+    passing-over (a .weights .now) (a .firsts .now) (a .seconds .now) (a .order .now) (a .n) (a .values .now) (s .pre .4) (loop .figures) (loop .values) (loop .i) (omega arith) (loop .inv) (r .result) (r .ensures) (omega (ints, e))
+
+mul-f : tie.Need-mul-f Inv-loop μ-loop
+mul-f c = omega (arith, low (c .before .before .before .before .before .before) (c .before .before .before .before .before .loop .i) (omega arith) (omega (arith, c .before .before .before .before .before .loop .inv .few)))
+
+element-set-from-f : tie.Need-element-set-from-f Inv-loop μ-loop
+element-set-from-f c = omega (arith, low (c .before .before .before .before .before .before) (c .before .before .before .before .before .loop .i) (omega arith) (omega (arith, c .before .before .before .before .before .loop .inv .few)))
+
+mul-values : tie.Need-mul-values Inv-loop μ-loop
+mul-values c = omega (arith, low (c .before .before .before .before .before .before) (c .before .before .before .before .before .loop .i) (omega arith) (omega (arith, c .before .before .before .before .before .loop .inv .few)))
+
+element-copy-out-values : tie.Need-element-copy-out-values Inv-loop μ-loop
+element-copy-out-values c = omega (arith, low (c .before .before .before .before .before .before) (c .before .before .before .before .before .loop .i) (omega arith) (omega (arith, c .before .before .before .before .before .loop .inv .few)))
+
+sub-values : tie.Need-sub-values Inv-loop μ-loop
+sub-values c = omega (arith, weight (c .before .before .before .before .before .before .before) (c .before .before .before .before .before .before .loop .i) (omega arith) (omega (arith, c .before .before .before .before .before .before .loop .inv .few)) .weight-least)
+
+cast-values : tie.Need-cast-values Inv-loop μ-loop
+cast-values c = let w = weight (c .before .before .before .before .before .before .before) (c .before .before .before .before .before .before .loop .i) (omega arith) (omega (arith, c .before .before .before .before .before .before .loop .inv .few)) in omega (arith, w .weight-most)
+
+add-values : tie.Need-add-values Inv-loop μ-loop
+add-values c =
+    let s = c .before .before .before .before .before .before .before in
+    let a = s .args in
+    let loop = c .before .before .before .before .before .before .loop in
+    let r = c .before .before .figure-of in
+    let i = loop .i in
+    let b : 0 < i = omega arith in
+    let few : i ≤ s .args .n = loop .inv .few in
+    let f : SFits w64 (r .result) = search needs in
+    let e = rw (toZ-ofZ f) at (c .before .if1 .left) in
+    let w = getD (a .weights .now) (getD (a .order .now) (i - 1) 0) 0 in
+    let W : WeightFits w = weight s i b few in
+    let g : toZ w64 (w - 1) ≡ pos (w - 1) = toZ-pos w64 {n = w - 1} (omega (arith, W .weight-most)) in
+    rw (toZ-ofZ f, g) (value-fits (r .result) w W (found-least (a .weights .now) (a .firsts .now) (a .seconds .now) (a .order .now) (a .n) (a .values .now) (s .pre .4) (loop .figures) (loop .values) i b (loop .inv) (r .result) (r .ensures)) (omega (ints, e)))
+
+mul-t25 : tie.Need-mul-t25 Inv-loop μ-loop
+mul-t25 c = omega (arith, low (c .before .before .before .before .before .before .before) (c .before .before .before .before .before .before .loop .i) (omega arith) (omega (arith, c .before .before .before .before .before .before .loop .inv .few)))
+
+element-set-from-values : tie.Need-element-set-from-values Inv-loop μ-loop
+element-set-from-values c = omega (arith, low (c .before .before .before .before .before .before .before) (c .before .before .before .before .before .before .loop .i) (omega arith) (omega (arith, c .before .before .before .before .before .before .loop .inv .few)))
+
+loop-less : tie.Need-loop-less Inv-loop μ-loop
+loop-less c = search needs
+
+loop-again : tie.Need-loop-again Inv-loop μ-loop
+loop-again c =
+    let s = c .before .before .before .before .before .before .before in
+    let a = s .args in
+    let loop = c .before .before .before .before .before .before .loop in
+    let r = c .before .before .figure-of in
+    let i = loop .i in
+    let b : 0 < i = omega arith in
+    let few : i ≤ s .args .n = loop .inv .few in
+    let f : SFits w64 (r .result) = search needs in
+    let e = rw (toZ-ofZ f) at (c .before .if1 .left) in
+    let w = getD (a .weights .now) (getD (a .order .now) (i - 1) 0) 0 in
+    let W : WeightFits w = weight s i b few in
+    let g : toZ w64 (w - 1) ≡ pos (w - 1) = toZ-pos w64 {n = w - 1} (omega (arith, W .weight-most)) in
+    let low : r .result ≤ℤ pos (2 ^ 60) = omega (ints, e) in
+    let v : SFits w64 (r .result +ℤ pos (w - 1)) = value-fits (r .result) w W (found-least (a .weights .now) (a .firsts .now) (a .seconds .now) (a .order .now) (a .n) (a .values .now) (s .pre .4) (loop .figures) (loop .values) i b (loop .inv) (r .result) (r .ensures)) low in
+    rw (toZ-ofZ f, g, toZ-ofZ v) (passing-next (a .weights .now) (a .firsts .now) (a .seconds .now) (a .order .now) (a .n) (a .values .now) (s .pre .4) (loop .figures) (loop .values) i b (loop .inv) (r .result) (r .ensures) W low)
+
+returns-2 : tie.Need-returns-2 Inv-loop μ-loop
+returns-2 c =
+    let s = c .before .before in
+    let a = s .args in
+    let loop = c .before .loop in
+    passing-all (a .weights .now) (a .firsts .now) (a .seconds .now) (a .order .now) (a .n) (a .values .now) (s .pre .4) (loop .figures) (loop .values) (let e : loop .i ≡ 0 = omega arith in rw e at (loop .inv))
+
+pub fill-figures-spec : {M : Type 1} → statement M
+fill-figures-spec =
+    tie.close
+    (tie.spec
+    Inv-loop
+    μ-loop
+    loop-holds
+    sub-i
+    mul-x
+    element-copy-out-x
+    cast-x
+    figure-of-requires
+    returns
+    mul-f
+    element-set-from-f
+    mul-values
+    element-copy-out-values
+    sub-values
+    cast-values
+    add-values
+    mul-t25
+    element-set-from-values
+    loop-less
+    loop-again
+    returns-2)
