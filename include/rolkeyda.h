@@ -49,7 +49,7 @@ extern "C" {
 #define ROLKEYDA_STACK_READ_LOOPS 12288u
 #define ROLKEYDA_STACK_CHECK 16384u
 #define ROLKEYDA_STACK_WALK 8192u
-#define ROLKEYDA_STACK_SOLVE 36864u
+#define ROLKEYDA_STACK_SOLVE 65536u
 
 /*
  * The reply of every function (`Reply` in the crate).

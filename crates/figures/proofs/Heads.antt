@@ -16,12 +16,11 @@ use lib.ListN.{length, getD}
 use lib.Signed.{ltZ, _≤ℤ_, _<ℤ_}
 use Rattle.integers.proofs.Laws.{ints, sum, diff}
 use Rattle.limits.specs.Limits.{mostLoops, mostDepth}
-use Rattle.wcet.specs.Table.{Routine, blockCount, loopCount, loopOf, header, multiplier, around, inside}
+use Rattle.wcet.specs.Table.{Routine, loopCount, loopOf, header, multiplier, around, inside}
 use Rattle.wcet.specs.Rules.{structureRules}
 use Rattle.wcet.specs.Claim.{AllHold}
 use Rattle.wcet.proofs.Nesting.{Nested, nested}
 use Rattle.loopsets.specs.Sets.{Parents}
-use Rattle.nesting.specs.Columns.{Headed}
 use Rattle.nesting.proofs.Stages.{headed}
 use Rattle.levels.specs.Levels.{depth, noLoop, Level, Deep}
 use Rattle.levels.proofs.Laws.{around-own, depth-least, deeper-above, deeper-strict, level-own, level-none}

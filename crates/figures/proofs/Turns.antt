@@ -15,7 +15,7 @@ use lib.ListN.{length, getD, set, length-set}
 use lib.Seq.{getD-set-same, getD-set-other}
 use lib.Signed.{ltZ, _≤ℤ_, _<ℤ_}
 use Rattle.integers.proofs.Laws.{ints, sum, diff}
-use Rattle.limits.specs.Limits.{mostLoops, mostDepth}
+use Rattle.limits.specs.Limits.{mostLoops}
 use Rattle.lists.specs.Search.{if_then_else_}
 use Rattle.levels.specs.Levels.{noLoop}
 use Rattle.optimum.specs.Tails.{best}

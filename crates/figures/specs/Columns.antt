@@ -23,7 +23,7 @@ use Rattle.optimum.specs.Columns.{tails, figureBy, remultiplied, remadeFigures}
 use Rattle.tails.specs.Words.{wordOf, Low}
 use Rattle.tails.specs.Slots.{SlotsOf, Slotted}
 use Rattle.multipliers.specs.Columns.{keptAt, MultipliedOf}
-use Rattle.figures.specs.Figures.{noFigure, figureOf, Known, turnOf, WeightFits, greaterOf}
+use Rattle.figures.specs.Figures.{noFigure, figureOf, turnOf, WeightFits, greaterOf}
 
 -- ---- the figures of the headers
 

@@ -10,7 +10,7 @@ use borrow.Author.Tests.{ltb-false}
 use lib.IntN.{ℤ, pos, negℤ}
 use lib.ListN.{length, getD, replicate}
 use lib.Seq.{ext-getD}
-use lib.Signed.{ltZ, _≤ℤ_}
+use lib.Signed.{ltZ}
 use Rattle.integers.proofs.Laws.{ints}
 use Rattle.lists.proofs.Tests.{or-right, neither}
 use Rattle.lists.proofs.Search.{any-none, any-at, none-of}
@@ -21,7 +21,7 @@ use Rattle.nesting.specs.Columns.{Ranged}
 use Rattle.nesting.proofs.Stages.{headed}
 use Rattle.certificate.specs.Figures.{Figure}
 use Rattle.certificate.specs.Columns.{priceColumns, Priced}
-use Rattle.optimum.specs.Columns.{remadeMultipliers, remultiplied, remadeFigures, remade}
+use Rattle.optimum.specs.Columns.{remadeMultipliers, remadeFigures, remade}
 use Rattle.optimum.specs.Replies.{multiplierOver, figureOver, Solved}
 use Rattle.optimum.proofs.Columns.{Fitting}
 use Rattle.optimum.proofs.Multipliers.{multiplier-count}

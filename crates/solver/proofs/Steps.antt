@@ -9,14 +9,13 @@ use native.Mathlib.Omega.{arith}
 use lib.Dec.{eqb}
 use borrow.Author.Tests.{eqb-false}
 use lib.ListN.{length, getD}
-use Rattle.limits.specs.Limits.{mostBlocks, mostLoops, mostDepth}
+use Rattle.limits.specs.Limits.{mostBlocks}
 use Rattle.lists.specs.Search.{if_then_else_}
-use Rattle.wcet.specs.Table.{Routine, blockCount, loopCount, exit, missing, cost, loopOf, limit, multiplier, isHeader}
+use Rattle.wcet.specs.Table.{Routine, blockCount, loopCount, missing, cost, loopOf, limit, isHeader}
 use Rattle.wcet.specs.Rules.{structureRules}
 use Rattle.wcet.specs.Claim.{AllHold}
-use Rattle.wcet.proofs.Nesting.{Nested, nested}
-use Rattle.nesting.specs.Columns.{Names, Ranged, Linked}
-use Rattle.nesting.proofs.Stages.{headed, innermost, linked}
+use Rattle.nesting.specs.Columns.{Names, Ranged}
+use Rattle.nesting.proofs.Stages.{headed, linked}
 use Rattle.order.specs.Edges.{backBySets}
 use Rattle.order.specs.Ordering.{Topological}
 use Rattle.levels.specs.Levels.{DepthsOf, Deep}
@@ -24,10 +23,8 @@ use Rattle.levels.specs.declared.Depths.{Depths}
 use Rattle.levels.proofs.Laws.{depth-most16}
 use Rattle.optimum.specs.Tails.{weight}
 use Rattle.optimum.specs.Columns.{remadeMultipliers, remultiplied}
-use Rattle.optimum.proofs.Multipliers.{multiplier-count}
 use Rattle.tails.specs.Slots.{places, nowhere, slotBySets, SlotsOf, Slotted}
 use Rattle.multipliers.specs.Columns as rounds
-use Rattle.figures.specs.Figures.{WeightFits}
 use Rattle.figures.specs.Columns as fill
 use Rattle.solver.specs.Columns.{MadeOf}
 use Rattle.solver.proofs.Columns.{made-most, multiplier-low}

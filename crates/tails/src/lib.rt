@@ -5,7 +5,7 @@
 // opens the gates of the loops of its depth only, and nothing passes the header of a loop whose multiplier is not made yet: its weight is none.
 // So a pass needs no test of which loop a block is in. Mispredicted branches would cost more than all else.
 ghost use mathlib.Core.Path.{_≡_};
-ghost use Prim.Native.Nat.{ℕ, _+_, _*_, _-_, _^_, _≤_, _<_, max};
+ghost use Prim.Native.Nat.{ℕ, _+_, _-_, _≤_, _<_, max};
 ghost use lib.Dec.{eqb};
 ghost use lib.ListN.{length, getD};
 ghost use Rattle.limits.specs.Limits.{mostBlocks, mostLoops};

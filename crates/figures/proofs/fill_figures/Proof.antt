@@ -1,6 +1,6 @@
 use mir.Val.{SFits, toZ}
 use mir.Facts.{toZ-ofZ, toZ-pos}
-use lib.IntN.{ℤ, pos, _+ℤ_}
+use lib.IntN.{pos, _+ℤ_}
 use lib.Signed.{_≤ℤ_}
 use mir.Syntax.{w64}
 use Prim.Native.Nat.{ℕ, _-_, _^_, _≤_, _<_}

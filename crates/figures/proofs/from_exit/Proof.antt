@@ -3,7 +3,7 @@ use mir.Facts.{toZ-ofZ, toZ-pos}
 use mir.Syntax.{w64}
 use mir.Val.{SFits}
 use lib.IntN.{pos, _-ℤ_}
-use Rattle.integers.proofs.Laws.{ints, size, diff}
+use Rattle.integers.proofs.Laws.{ints}
 use Rattle.optimum.specs.Columns.{fromExit}
 use Rattle.figures.proofs.Signs.{is-word, no-word, one-fits, tail-signed, is-figure, no-figure}
 use borrow.Author.Needs.{needs}

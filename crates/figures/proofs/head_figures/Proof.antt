@@ -1,7 +1,7 @@
 use native.Mathlib.Omega.{arith}
 use native.Mathlib.Numerals.{add-one}
 use mathlib.Core.Path.{_≡_}
-use Prim.Native.Nat.{_+_, _≤_, _-_}
+use Prim.Native.Nat.{_≤_, _-_}
 use Rattle.figures.proofs.Heads.{Filling, filling-first, filling-turnable, filling-next, filling-over, filling-all}
 use borrow.Author.Needs.{needs}
 use Rattle.figures.proofs.head_figures.Statement.{statement}

@@ -6,7 +6,7 @@ use mir.Syntax.{w64}
 use mir.Val.{SFits}
 use mir.Facts.{toZ-ofZ}
 use lib.IntN.{pos}
-use lib.ListN.{length, getD}
+use lib.ListN.{getD}
 use Rattle.integers.proofs.Laws.{ints}
 use Rattle.figures.proofs.Turns.{Turning, turning-first, turning-skip, chosen-known, turning-next, turning-over, turning-all}
 use borrow.Author.Needs.{needs}

@@ -30,7 +30,7 @@ enum-known-answer-3 : tie.Need-enum-known-answer-3
 enum-known-answer-3 c = search needs
 
 refused-requires-2 : tie.Need-refused-requires-2
-refused-requires-2 c κs = search solve-path
+refused-requires-2 c κs = search (solve-path, needs)
 
 enum-told-2 : tie.Need-enum-told-2
 enum-told-2 c = search needs

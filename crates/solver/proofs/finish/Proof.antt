@@ -1,6 +1,5 @@
 use Prim.Native.Nat.{ℕ}
 use mathlib.Core.List.{List}
-use lib.IntN.{pos}
 use mir.Syntax.{w64}
 use mir.Val.{SFits}
 use mir.Facts.{toZ-ofZ}
@@ -15,7 +14,7 @@ use Rattle.solver.proofs.Steps.{figures-readied}
 use mathlib.Core.Bool.{Bool}
 use lib.IntN.{ℤ}
 use native.Mathlib.Omega.{arith}
-use mathlib.Core.Path.{_≡_, refl}
+use mathlib.Core.Path.{refl}
 use borrow.Author.Needs.{needs}
 use Rattle.solver.proofs.finish.Statement.{statement}
 use Rattle.solver.proofs.finish.Tie as tie

@@ -7,9 +7,7 @@ use Rattle.multipliers.specs.Columns as rounds
 use Rattle.solver.specs.Columns.{MadeOf}
 use native.Mathlib.Omega.{arith}
 use mathlib.Core.Path.{_≡_, refl}
-use Prim.Native.Nat.{ℕ, _≤_, _<_}
-use lib.ListN.{length}
-use Rattle.limits.specs.Limits.{mostBlocks}
+use Prim.Native.Nat.{ℕ}
 use Rattle.wcet.specs.Table.{Routine}
 use Rattle.nesting.specs.Columns.{routine, Ranged}
 use Rattle.nesting.proofs.Stages.{headed, innermost, linked}
