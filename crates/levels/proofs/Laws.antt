@@ -1,7 +1,6 @@
 -- The depth of a loop is one more than its parent's (`depth-parent`), and an enclosing loop is less deep (`depth-inner`). The loops around a
 -- loop are a chain (`around-both`), so among them the deeper is the greater; there are as many as its depth (`depth-count`), one of each
--- depth up to its own (`at-depth`), and by 205 at most 16 (`depth-most16`). Where the loops of one depth are chosen, a loop is inside a chosen
--- one exactly where the same is chosen for it (`level-same`). Assumes nothing.
+-- depth up to its own (`at-depth`), and by 205 at most 16 (`depth-most16`). Assumes nothing.
 use mathlib.Core.Path.{_≡_, refl, sym, _∙_, ap}
 use mathlib.Core.Bool.{Bool, true, false, not, _&&_, _||_, and-true, or-true, true≢false}
 use mathlib.Core.List.{List}
@@ -221,24 +220,9 @@ module _ (parents : List ℕ) (P : Parents parents) where
       go (no ne) le = omega arith
 
 module _ (parents : List ℕ) (P : Parents parents) {d : ℕ} {level : List ℕ} (L : Level parents d level) where
-  -- the loop chosen for loop j is around loop k exactly where it is chosen for loop k too
-  pub level-same : (j k : ℕ) → j < length parents → k < length parents → (getD level j 0 ≡ noLoop → ⊥)
-      → eqb (getD level k 0) (getD level j 0) ≡ around parents (length parents) k (getD level j 0)
-  level-same j k hj hk some = go (around parents (length parents) k (getD level j 0)) refl (L .chosen j hj some)
-    where
-      x : ℕ
-      x = getD level j 0
-
-      go : (b : Bool) → around parents (length parents) k x ≡ b → (x < length parents) × (around parents (length parents) j x ≡ true) × (depth parents x ≡ d) → eqb (getD level k 0) x ≡ b
-      go true q (h, a, e) = eq-eqb (getD level k 0) x (L .each k x hk h q e)
-      go false q c = ne-eqb (getD level k 0) x (λ e. true≢false (sym (rw e at (L .chosen k hk (λ none. some (sym e ∙ none)) .1)) ∙ q))
-
   -- a loop of that depth is chosen for itself, and no other is
   pub level-own : (l : ℕ) → l < length parents → depth parents l ≡ d → getD level l 0 ≡ l
   level-own l h e = L .each l l h h (around-own parents (length parents) l) e
-
-  pub own-level : length parents ≤ mostLoops → (l : ℕ) → l < length parents → getD level l 0 ≡ l → depth parents l ≡ d
-  own-level few l h e = rw e at (L .chosen l h (λ none. omega arith) .2)
 
   -- where no loop is chosen there is none
   pub level-none : length parents ≤ mostLoops → (k : ℕ) → k < length parents → getD level k 0 ≡ noLoop → (l : ℕ) → l < length parents

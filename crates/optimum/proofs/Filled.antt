@@ -1,6 +1,5 @@
 -- Figures filled in loop by loop. The figure of a loop's header is final when the loop's turn comes (`final`), and so they are made
--- (`filled-made`). They are not far below 0 (`figure-least`), are there by any tails that are there where these are (`figures-there`), and
--- read the tails of the blocks in their loops only (`figures-same`). Assumes nothing.
+-- (`filled-made`). They are not far below 0 (`figure-least`). Assumes nothing.
 use mathlib.Core.Path.{_≡_, refl, sym, _∙_, ap}
 use mathlib.Core.Bool.{Bool, true, false, not}
 use mathlib.Core.Logic.{_⊎_, inl, inr}
@@ -171,35 +170,3 @@ module _ (t : Routine) (N : Nested t) (tail : (l x : ℕ) → Option ℕ) where
       let more : b * suc l ≤ b * d = mul-le-mul-left b n in
       let one : b * suc l ≡ b * l + b = mul-suc b l in
       omega (ints, p, h l m, diff (pos k) (pos (multiplier t l)), sum f g, sum (f +ℤ g) (pos (b * d)), sum g (pos (b * l))))
-
-  -- and by other tails: there where these are, and the same where these are
-  module _ (words : (l x : ℕ) → Option ℕ) where
-    pub figures-there : ((l x k : ℕ) → l < loopCount t → x < blockCount t → inside t x l ≡ true → tail l x ≡ some k → (j : ℕ) × (words l x ≡ some j))
-        → (d x : ℕ) (f : ℤ) → d ≤ loopCount t → x < blockCount t → figureBy t tail d x ≡ some f → (g : ℤ) × (figureBy t words d x ≡ some g)
-    figures-there h =
-        along-turns (λ d x f. (g : ℤ) × (figureBy t words d x ≡ some g))
-        (λ d x k z b e.
-        let j : (j : ℕ) × (words 0 x ≡ some j) = h 0 x k (N .some-loop) b (inside-whole t N x b) e in
-        let o : AtLeast _≤ℤ_ (figureBy t words d x) (pos (j .0)) = exit-over t words d x (j .0) z (inside-whole t N x b) (j .1) in
-        (o .0, o .1))
-        (λ d l x k g z n m b i ne e p.
-        let j : (j : ℕ) × (words l x ≡ some j) = h l x k m b i e in
-        let o : AtLeast _≤ℤ_ (figureBy t words d x) (pos (j .0) -ℤ pos (multiplier t l) +ℤ p .0) = header-over t words d l x (j .0) (p .0) z n i ne (j .1) (p .1) in
-        (o .0, o .1))
-
-    pub figures-same : ((l x : ℕ) → l < loopCount t → x < blockCount t → inside t x l ≡ true → words l x ≡ tail l x)
-        → (d x : ℕ) → d ≤ loopCount t → x < blockCount t → figureBy t words d x ≡ figureBy t tail d x
-    unfolding figureBy turn
-    figures-same h zero x m b = refl
-    figures-same h (suc d) x m b =
-        rw (figures-same h d x (omega arith) b, figures-same h d (header t d) (omega arith) (header-block d (omega arith)))
-        (ap (best ltZ (figureBy t tail d x)) (go (inside t x d) refl))
-      where
-        p : Option ℤ
-        p = figureBy t tail d (header t d)
-
-        go : (i : Bool) → inside t x d ≡ i
-            → (if not i then none else if eqb d 0 then fromExit (words d x) else if eqb x (header t d) then none else fromHeader (multiplier t d) (words d x) p)
-            ≡ (if not i then none else if eqb d 0 then fromExit (tail d x) else if eqb x (header t d) then none else fromHeader (multiplier t d) (tail d x) p)
-        go true i = rw (h d x (omega arith) b i)
-        go false i = refl

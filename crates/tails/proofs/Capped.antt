@@ -1,15 +1,13 @@
--- A cap on each number keeps the sums and the greater of two (`more-capped`, `best-capped`), and what is below the cap is exact (`below-cap`).
--- Assumes nothing.
-use mathlib.Core.Path.{_≡_, refl, sym, ap}
+-- A cap on each number keeps the sums and the greater of two (`more-capped`, `best-capped`). Assumes nothing.
+use mathlib.Core.Path.{_≡_, refl, ap}
 use mathlib.Core.Bool.{Bool, true, false}
 use mathlib.Core.Option.{Option, none, some}
-use Prim.Native.Nat.{ℕ, _≤_, _<_, min}
+use Prim.Native.Nat.{ℕ, min}
 use native.Mathlib.Omega.{arith}
 use lib.Dec.{ltb}
 use borrow.Author.Tests.{ltb-true, ltb-false}
 use Rattle.lists.specs.Search.{if_then_else_}
 use Rattle.optimum.specs.Tails.{best, more}
-use Rattle.optimum.proofs.Tails.{none-some}
 use Rattle.tails.specs.Words.{cap, moreCapped}
 
 module _ (k : ℕ) where
@@ -34,19 +32,3 @@ module _ (k : ℕ) where
       go true false p q = ap some (omega (arith, ltb-true a b p, ltb-false (min k a) (min k b) q))
       go false true p q = ap some (omega (arith, ltb-false a b p, ltb-true (min k a) (min k b) q))
       go false false p q = refl
-
-  -- what is below the cap is exact
-  pub cap-none : (o : Option ℕ) → cap k o ≡ none → o ≡ none
-  unfolding cap
-  cap-none none e = refl
-  cap-none (some a) e = none-some (sym e)
-
-  pub below-cap : (o : Option ℕ) (a : ℕ) → cap k o ≡ some a → a < k → o ≡ some a
-  unfolding cap
-  below-cap none a e h = none-some e
-  below-cap (some b) a e h = let q : min k b ≡ a = cc in ap some (omega arith)
-
-  pub at-cap : (o : Option ℕ) → cap k o ≡ some k → (a : ℕ) × (o ≡ some a) × (k ≤ a)
-  unfolding cap
-  at-cap none e = none-some e
-  at-cap (some b) e = let q : min k b ≡ k = cc in (b, refl, omega arith)

@@ -2,17 +2,17 @@
 use mathlib.Core.Path.{_≡_, ap}
 use mathlib.Core.Bool.{Bool, _&&_}
 use mathlib.Core.List.{List}
-use Prim.Native.Nat.{ℕ, _^_, _≤_, _<_}
+use Prim.Native.Nat.{ℕ, _≤_, _<_}
 use native.Mathlib.Omega.{arith}
-use lib.ListN.{length, getD}
+use lib.ListN.{length}
 use Rattle.limits.specs.Limits.{mostBlocks, mostLoops}
 use Rattle.wcet.specs.Table.{Routine, blockCount, loopCount, cost, loopOf, inside, isHeader}
 use Rattle.wcet.specs.Cycles.{backEdge}
 use Rattle.wcet.proofs.Nesting.{Nested, nested}
 use Rattle.loopsets.specs.Sets.{setsAround, Parents}
 use Rattle.loopsets.proofs.Laws.{member-around}
-use Rattle.nesting.specs.Columns.{Headed, Innermost, Linked}
-use Rattle.nesting.proofs.Stages.{headed, innermost, linked}
+use Rattle.nesting.specs.Columns.{Headed}
+use Rattle.nesting.proofs.Stages.{headed, innermost}
 use Rattle.order.specs.Edges.{backBySets}
 use Rattle.optimum.specs.Remade.{withColumns}
 use Rattle.optimum.proofs.Columns.{nested-too}
@@ -31,9 +31,6 @@ module _ (t : Routine) (P : Passed t) where
   pub passed-parents : Parents (t .parents)
   passed-parents = H .ranged .parents
 
-  pub passed-headers : length (t .headers) ≡ loopCount t
-  passed-headers = H .ranged .sized .headers
-
   pub passed-loops : length (t .loops) ≡ blockCount t
   passed-loops = H .ranged .sized .loops
 
@@ -45,16 +42,6 @@ module _ (t : Routine) (P : Passed t) where
 
   pub passed-cost : (u : ℕ) → u < blockCount t → cost t u ≤ 1000000
   passed-cost u b = H .ranged .cost-most u b
-
-  pub passed-linked : Linked (blockCount t) (t .firsts) (t .seconds)
-  passed-linked = linked given (H .ranged)
-
-  pub passed-innermost : Innermost (t .loops) (t .headers)
-  passed-innermost = innermost given (H .ranged)
-
-  -- with other multipliers in range t passes too
-  pub passed-too : (ks : List ℕ) → getD ks 0 0 ≡ 0 → ((l : ℕ) → l < loopCount t → getD ks l 0 ≤ 2 ^ 40) → Passed (withColumns t (t .figures) ks)
-  passed-too ks z low = record { figures = P .figures; multipliers = P .multipliers; rules = P .rules; loop0-multiplier = z; multiplier-most = low }
 
   -- the back edges, read off the sets
   pub back-same : (sets : List ℕ) → sets ≡ setsAround (t .parents) → (u v : ℕ) → u < blockCount t → v < blockCount t
