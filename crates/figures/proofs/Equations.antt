@@ -1,10 +1,9 @@
--- The remade figures are figures by the slots: with the gates set by the remade multipliers and the figures of the headers, the greater of the
--- values in a block's slots is its remade figure (`remade-equations`). Assumes nothing.
+-- The remade figures are figures by the slots: with the gates of the remade columns, the greater of the values in a block's slots is its remade
+-- figure, so that a pass makes the remade figures (`figured`). Assumes nothing.
 use mathlib.Core.Path.{_≡_, refl, sym, _∙_, ap}
 use mathlib.Core.Bool.{Bool, true, false, not, _&&_, true≢false}
 use mathlib.Core.List.{List}
 use mathlib.Core.Logic.{_⊎_, inl, inr}
-use mathlib.Core.Option.{some}
 use Prim.Native.Nat.{ℕ, _+_, _-_, _*_, _^_, _≤_, _<_}
 use native.Mathlib.Decide.{ℕ-discrete}
 use native.Mathlib.Omega.{arith}
@@ -40,12 +39,8 @@ use Rattle.optimum.proofs.Edges.{asks, figure-exit, figure-most, figure-attaine
 use Rattle.tails.specs.Slots.{nowhere, slotBySets, SlotsOf}
 use Rattle.multipliers.specs.Columns.{MultipliedOf}
 use Rattle.figures.specs.Figures.{noFigure, greaterOf}
-use Rattle.figures.specs.Columns.{HeadsFigured, HeadsOf, GatesSet, slotValue, Equations, FiguresFilled, Figured}
-use Rattle.figures.proofs.Signs.{figure-same}
+use Rattle.figures.specs.Columns.{GatesOf, slotValue, Equations, FiguresFilled, FiguredOf}
 use Rattle.figures.proofs.Pass.{greater-first, greater-second}
-
-some-same : {a b : ℤ} → some a ≡ some b → a ≡ b
-some-same e = cc
 
 -- one of two that is not below the other is the greater
 greatest : (f a b : ℤ) → a ≤ℤ f → b ≤ℤ f → (f ≡ a) ⊎ (f ≡ b) → f ≡ greaterOf a b
@@ -58,8 +53,7 @@ greatest f a b p q (inr e) = go (ltZ a b) refl
 
 module _ (t : Routine) (rules : AllHold (structureRules t)) (declared : undeclaredLoop t ≡ false) (paths : (u : ℕ) → u < blockCount t → PathToExit t u)
     (sets : List ℕ) (around-sets : sets ≡ setsAround (t .parents)) (order : List ℕ) (O : Topological t order)
-    (made weights kept : List ℕ) (M : MultipliedOf t false made weights kept) (heads : List ℤ) (H : HeadsFigured t false heads)
-    (old gates : List ℤ) (G : GatesSet (t .costs) (t .headers) made heads old gates) (empty : getD old nowhere (pos 0) ≡ noFigure) where
+    (made weights kept : List ℕ) (M : MultipliedOf t false made weights kept) (gates : List ℤ) (G : GatesOf t false gates) where
   abbrev n : ℕ
   n = blockCount t
 
@@ -86,10 +80,10 @@ module _ (t : Routine) (rules : AllHold (structureRules t)) (declared : undeclar
   at-gate s h = rw (le-ltb s n (omega (arith, few-blocks)))
 
   at-nowhere : value nowhere ≡ noFigure
-  at-nowhere = at-gate nowhere (omega arith) ∙ G .after nowhere (omega (arith, few-loops, H′ .ranged .sized .headers)) (omega arith) ∙ empty
+  at-nowhere = at-gate nowhere (omega arith) ∙ G .empty refl
 
   at-exit-gate : value mostBlocks ≡ pos 0
-  at-exit-gate = at-gate mostBlocks (omega arith) ∙ G .exit-gate
+  at-exit-gate = at-gate mostBlocks (omega arith) ∙ G .exit-gate refl
 
   low : (l : ℕ) → l < loopCount t → getD (remadeMultipliers t) l 0 ≤ 2 ^ 40
   unfolding multiplierOver
@@ -101,9 +95,6 @@ module _ (t : Routine) (rules : AllHold (structureRules t)) (declared : undeclar
       let p : pos 0 ≤ℤ (F x +ℤ pos (2 ^ 40 * loopCount t))
       = figure-least (remultiplied t) (remultiplied-nested t N declared) (tails (remultiplied t)) (2 ^ 40) low (loopCount t) x (F x) (omega arith) b (made-figure t N declared paths x b) in
       omega (ints, few-loops, sum (F x) (pos (2 ^ 40 * loopCount t)))
-
-  head-figure : (l : ℕ) → l < loopCount t → getD heads l (pos 0) ≡ F (header t l)
-  head-figure l b = figure-same (getD heads l (pos 0)) (F (header t l)) (H .same refl l b ∙ made-figure t N declared paths (header t l) (N .header-block l b))
 
   back-same : (u v : ℕ) → u < n → v < n → backBySets sets (t .loops) (t .headers) u v ≡ backEdge t u v
   unfolding backBySets backEdge inside
@@ -121,8 +112,7 @@ module _ (t : Routine) (rules : AllHold (structureRules t)) (declared : undeclar
     asked-back r =
         let p : (0 < loopOf t v) × (header t (loopOf t v) ≡ v) × (inside t x (loopOf t v) ≡ true) = back-to t N x v b e r in
         let k : loopOf t v < loopCount t = target-loop t N x v b e in
-        at-gate (mostBlocks + loopOf t v) (omega arith) ∙ G .gate (loopOf t v) (p .0) (omega (arith, k, H′ .ranged .sized .headers))
-        ∙ rw (r, head-figure (loopOf t v) k, p .1, M .same refl (loopOf t v) k)
+        at-gate (mostBlocks + loopOf t v) (omega arith) ∙ G .gate refl (loopOf t v) (p .0) k ∙ rw (r, p .1)
 
     asked-on : backEdge t x v ≡ false → value v ≡ asks t x v
     unfolding asks
@@ -223,7 +213,7 @@ module _ (t : Routine) (rules : AllHold (structureRules t)) (declared : undeclar
             (slot-most (t .firsts) firstSlots S₁ (first-edge t) x b ne) (slot-most (t .seconds) secondSlots S₂ (second-edge t) x b ne)
             (attained x (f .0) b ne (f .1) (f .2))
 
-    pub remade-equations : Equations (λ x. getD (remadeFigures t) x (pos 0)) (blockCount t) weights firstSlots secondSlots order gates
+    remade-equations : Equations (λ x. getD (remadeFigures t) x (pos 0)) (blockCount t) weights firstSlots secondSlots order gates
     remade-equations = record {
       each = each;
       position = O .position;
@@ -234,33 +224,8 @@ module _ (t : Routine) (rules : AllHold (structureRules t)) (declared : undeclar
       second-later = slot-later (t .seconds) secondSlots S₂ (second-edge t);
     }
 
--- ---- of every routine with these columns
-
-module _ (costs parents headers made weights kept firstSlots secondSlots order : List ℕ) (heads figures : List ℤ) where
-  -- the figure of a header is over the limit
-  pub figured-high : length figures ≡ mostBlocks → HeadsOf parents kept made true heads → Figured costs parents headers made weights kept firstSlots secondSlots order true figures
-  figured-high size K = record {
-    size = size;
-    says = λ t sets ec ep eh rules declared paths A O S₁ S₂ M. record {
-      same = λ q. absurd (true≢false q);
-      low = λ q. absurd (true≢false q);
-      high = λ q.
-          let N : Nested t = nested t rules in
-          let h = K .says t weights ep rules M .high refl in
-          let b : header t (h .0) < blockCount t = N .header-block (h .0) (h .1) in
-          let e : getD (remadeFigures t) (header t (h .0)) (pos 0) ≡ h .2 .0 = some-same (sym (made-figure t N declared paths (header t (h .0)) b) ∙ h .2 .1) in
-          (header t (h .0), b, rw e (h .2 .2));
-    };
-  }
-
-  pub figured-filled : (old gates : List ℤ) (over : Bool) → HeadsOf parents kept made false heads → GatesSet costs headers made heads old gates → getD old nowhere (pos 0) ≡ noFigure
-      → FiguresFilled weights firstSlots secondSlots order (length costs) gates over figures → Figured costs parents headers made weights kept firstSlots secondSlots order over figures
-  figured-filled old gates over K G empty P = record {
-    size = P .size;
-    says = λ t sets ec ep eh rules declared paths A O S₁ S₂ M.
-        let k : blockCount t ≡ length costs = ap length ec in
-        let g : GatesSet (t .costs) (t .headers) made heads old gates = rw (ec, eh) G in
-        let E = remade-equations t rules declared paths sets A order O made weights kept M heads (K .says t weights ep rules M) old gates g empty firstSlots secondSlots S₁ S₂ in
-        let r = P .says (λ x. getD (remadeFigures t) x (pos 0)) (rw k at E) in
-        record { same = λ q x b. r .0 q x (rw k at b) .0; low = λ q x b. r .0 q x (rw k at b) .1; high = λ q. rw k (r .1 q) };
-  }
+    -- a pass over these gates makes the remade figures
+    pub figured : (over : Bool) (figures : List ℤ) → FiguresFilled weights firstSlots secondSlots order (blockCount t) gates over figures → FiguredOf t over figures
+    figured over figures P =
+        let r = P .says (λ x. getD (remadeFigures t) x (pos 0)) remade-equations in
+        record { same = λ q x b. r .0 q x b .0; low = λ q x b. r .0 q x b .1; high = r .1 }

@@ -2,4 +2,5 @@ pub mod Signs
 pub mod Turns
 pub mod Heads
 pub mod Pass
+pub mod Gates
 pub mod Equations

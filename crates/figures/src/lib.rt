@@ -12,7 +12,7 @@ ghost use Rattle.optimum.specs.Columns.{fromExit, fromHeader};
 ghost use Rattle.tails.specs.Words.{mostWord, wordOf, Low};
 ghost use Rattle.tails.specs.Slots.{places, Slotted};
 ghost use Rattle.figures.specs.Figures.{noFigure, figureOf, Known, turnOf, HeadFits, ValuesFit, WeightFits, greaterOf};
-ghost use Rattle.figures.specs.Columns.{Turnable, Turned, HeadsReadied, HeadsOf, GatesSet, FiguresFilled, Readied, Figured};
+ghost use Rattle.figures.specs.Columns.{Turnable, Turned, HeadsReadied, HeadsOf, GatesSet, GatesReadied, GatesOpened, FiguresFilled};
 use limits::MOST_BLOCKS;
 use limits::MOST_LOOPS;
 use tails::PLACES;
@@ -139,7 +139,7 @@ fn head_figures(
     false
 }
 
-// ---- the figures of all blocks
+// ---- the gates
 
 // The gates: what a back edge to the header of each loop asks for, and 0 at the gate of loop 0, the slot of the exit.
 fn set_gates(values: &mut Values, cost: &[u32], header: &[u16], made: &Multipliers, heads: &Heads)
@@ -154,6 +154,30 @@ fn set_gates(values: &mut Values, cost: &[u32], header: &[u16], made: &Multiplie
         l += 1;
     }
 }
+
+// Opens the gates for the last pass, by the figures of the headers. Returns whether one of these is over 2^60; then no gate is open.
+pub fn open_gates(
+    gates: &mut Values,
+    cost: &[u32],
+    parent: &[u16],
+    header: &[u16],
+    made: &Multipliers,
+    kept: &Words,
+    depths: &Depths,
+    deepest: u16,
+) -> bool
+    requires { ⌜ GatesReadied (now cost) (now parent) (now header) (now made) (now kept) (now depths) deepest (now gates) ⌝ }
+    ensures { λ r. ⌜ GatesOpened (now (cost .entry)) (now (parent .entry)) (now (header .entry)) (now (made .entry)) (now (kept .entry)) r (now (gates .exit)) ⌝ }
+{
+    let mut heads = [NO_FIGURE; MOST_LOOPS];
+    if head_figures(&mut heads, parent, kept, made, depths, deepest) {
+        return true;
+    }
+    set_gates(gates, cost, header, made, &heads);
+    false
+}
+
+// ---- the figures of all blocks
 
 // The figure of block x: the greater of the values in its slots.
 fn figure_of(values: &Values, firsts: &Slots, seconds: &Slots, x: usize) -> i64
@@ -172,7 +196,7 @@ fn figure_of(values: &Values, firsts: &Slots, seconds: &Slots, x: usize) -> i64
 
 // The figures of n blocks: from the last in a topological order to the first. The value of a block is its figure and its weight. Returns whether a
 // figure is over 2^60; then the others are not made.
-fn fill_figures(
+pub fn fill_figures(
     figures: &mut Figures,
     values: &mut Values,
     weights: &Words,
@@ -196,39 +220,4 @@ fn fill_figures(
         values[x] = f + (weights[x] - 1) as i64;
     }
     false
-}
-
-// The figures of all blocks, after 401: each has one. Returns whether one is over 2^60; then the others are not made.
-pub fn remake_figures(
-    figures: &mut Figures,
-    cost: &[u32],
-    parent: &[u16],
-    header: &[u16],
-    made: &Multipliers,
-    weights: &Words,
-    kept: &Words,
-    depths: &Depths,
-    deepest: u16,
-    firsts: &Slots,
-    seconds: &Slots,
-    order: &[u16; MOST_BLOCKS],
-) -> bool
-    requires { ⌜ Readied (now cost) (now parent) (now header) (now made) (now weights) (now kept) (now depths) deepest (now firsts) (now seconds) (now order) × (length (now figures) ≡ mostBlocks) ⌝ }
-    ensures { λ r. ⌜ Figured (now (cost .entry)) (now (parent .entry)) (now (header .entry)) (now (made .entry)) (now (weights .entry)) (now (kept .entry)) (now (firsts .entry)) (now (seconds .entry)) (now (order .entry)) r (now (figures .exit)) ⌝ }
-{
-    let mut heads = [NO_FIGURE; MOST_LOOPS];
-    if head_figures(&mut heads, parent, kept, made, depths, deepest) {
-        return true;
-    }
-    let mut values = [NO_FIGURE; PLACES];
-    set_gates(&mut values, cost, header, made, &heads);
-    fill_figures(
-        figures,
-        &mut values,
-        weights,
-        firsts,
-        seconds,
-        order,
-        cost.len(),
-    )
 }
