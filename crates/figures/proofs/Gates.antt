@@ -62,7 +62,7 @@ module _ (t : Routine) (rules : AllHold (structureRules t)) (declared : undeclar
 module _ (costs parents headers made kept depths : List ℕ) (deepest : ℕ) (heads old : List ℤ) (R : GatesReadied costs parents headers made kept depths deepest old) where
   pub gates-high : HeadsOf parents kept made true heads → GatesOpened costs parents headers made kept true old
   gates-high K = record {
-    size = R .size;
+    size = R .unopened .size;
     fit = λ q. absurd (true≢false q);
     says = λ t weights ec ep eh rules declared paths M. record {
       exit-gate = λ q. absurd (true≢false q);
@@ -78,7 +78,7 @@ module _ (costs parents headers made kept depths : List ℕ) (deepest : ℕ) (he
 
     pub gates-opened : (gates : List ℤ) → GatesSet costs headers made heads old gates → ((i : ℕ) → getD costs i 0 < 2 ^ 32) → GatesOpened costs parents headers made kept false gates
     gates-opened gates G word = record {
-      size = G .size ∙ R .size;
-      fit = λ q. gates-fit costs headers made heads old gates G (R .fit) (λ l b. (word (getD headers l 0), R .heads-readied .multiplier-most l (omega (arith, R .headers-size)), head-fits l b));
-      says = λ t weights ec ep eh rules declared paths M. gates-of t rules declared paths heads made weights kept M (K .says t weights ep rules M) old gates (rw (ec, eh) G) (R .empty);
+      size = G .size ∙ R .unopened .size;
+      fit = λ q. gates-fit costs headers made heads old gates G (R .unopened .fit) (λ l b. (word (getD headers l 0), R .heads-readied .multiplier-most l (omega (arith, R .headers-size)), head-fits l b));
+      says = λ t weights ec ep eh rules declared paths M. gates-of t rules declared paths heads made weights kept M (K .says t weights ep rules M) old gates (rw (ec, eh) G) (R .unopened .empty);
     }

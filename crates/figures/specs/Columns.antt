@@ -110,14 +110,18 @@ pub record FiguresFilled (weights firstSlots secondSlots order : List ℕ) (n : 
   pub says : (F : ℕ → ℤ) → Equations F n weights firstSlots secondSlots order gates
       → (over ≡ false → (x : ℕ) → x < n → (getD figures x (pos 0) ≡ F x) × (F x ≤ℤ pos (2 ^ 60))) × (over ≡ true → (x : ℕ) × (x < n) × (pos (2 ^ 60) <ℤ F x))
 
--- what the gates require: the columns of some routine that passes 201 to 207, its tails and multipliers, and places that a pass can start from
+-- values that a pass can start from when its gates are open
+pub record Unopened (values : List ℤ) : Type 0 where
+  pub size : length values ≡ places
+  pub fit : ValuesFit values
+  pub empty : getD values nowhere (pos 0) ≡ noFigure
+
+-- what the gates require: the columns of some routine that passes 201 to 207, and its tails and multipliers
 pub record GatesReadied (costs parents headers made kept depths : List ℕ) (deepest : ℕ) (old : List ℤ) : Type 0 where
   pub heads-readied : HeadsReadied parents kept made depths deepest
   pub headers-size : length headers ≡ length parents
   pub header-block : (l : ℕ) → l < length headers → getD headers l 0 < length costs
-  pub size : length old ≡ places
-  pub fit : ValuesFit old
-  pub empty : getD old nowhere (pos 0) ≡ noFigure
+  pub unopened : Unopened old
 
 -- some remade figure of t is over 2^60
 abbrev pub FigureHigh : Routine → Type 0

@@ -28,7 +28,7 @@ use Rattle.optimum.proofs.Multipliers.{multiplier-count}
 use Rattle.optimum.proofs.Remade.{figure-count, remade-fits}
 use Rattle.optimum.proofs.Replies.{solved}
 use Rattle.multipliers.specs.Columns.{MultipliedOf}
-use Rattle.figures.specs.Columns.{FiguredOf}
+use Rattle.figures.specs.Columns.{FigureHigh, FiguredOf}
 use Rattle.solver.specs.Columns.{Written, Solvable}
 use Rattle.solver.proofs.Reply.{bound-accepted}
 
@@ -51,6 +51,14 @@ module _ (t : Routine) (over : Bool) (made weights kept : List ℕ) (M : Multipl
   pub multipliers-fit : over ≡ false → multiplierOver (remade t) ≡ false
   multipliers-fit o = sym tested ∙ o
 
+-- 403, as the code tests it
+pub figure-over : (t : Routine) → FigureHigh t → figureOver (remade t) ≡ true
+unfolding figureOver remade
+figure-over t H =
+    let high : ltZ (pos (2 ^ 60)) (getD (remadeFigures t) (H .0) (pos 0)) ≡ true = omega (ints, H .2) in
+    any-at (blockCount t) (λ u. figureOutside (getD (remadeFigures t) u (pos 0))) (H .0) (H .1)
+    (or-right (ltZ (getD (remadeFigures t) (H .0) (pos 0)) (negℤ (pos (2 ^ 60)))) high)
+
 module _ (t : Routine) (sets order : List ℕ) (S : Solvable t sets order) (made weights kept : List ℕ) (M : MultipliedOf t false made weights kept) where
   open Solvable S using (rules, declared, paths)
 
@@ -64,61 +72,51 @@ module _ (t : Routine) (sets order : List ℕ) (S : Solvable t sets order) (made
   pub made-most : (l : ℕ) → l < loopCount t → getD made l 0 ≤ 2 ^ 40
   made-most l b = omega (arith, M .same refl l b, multiplier-low l b)
 
-  module _ (over : Bool) (values : List ℤ) (F : FiguredOf t over values) where
-    -- 403, as the code tests it
-    pub figure-over : over ≡ true → figureOver (remade t) ≡ true
+  module _ (values : List ℤ) (F : FiguredOf t false values) where
+    fits : Fitting t (remadeFigures t) (remadeMultipliers t)
+    fits = remade-fits t N declared paths rules multiplier-low (F .low refl)
+
+    pub figures-fit : figureOver (remade t) ≡ false
     unfolding figureOver remade
-    figure-over o =
-        let H = F .high o in
-        let high : ltZ (pos (2 ^ 60)) (getD (remadeFigures t) (H .0) (pos 0)) ≡ true = omega (ints, H .2) in
-        any-at (blockCount t) (λ u. figureOutside (getD (remadeFigures t) u (pos 0))) (H .0) (H .1)
-        (or-right (ltZ (getD (remadeFigures t) (H .0) (pos 0)) (negℤ (pos (2 ^ 60)))) high)
+    figures-fit =
+        any-none (blockCount t) (λ u. figureOutside (getD (remadeFigures t) u (pos 0))) (λ u b.
+        neither {a = ltZ (getD (remadeFigures t) u (pos 0)) (negℤ (pos (2 ^ 60)))} (let p = fits .figure-least u b in omega (ints, p)) (let p = fits .figure-most u b in omega (ints, p)))
 
-    module _ (o : over ≡ false) where
-      fits : Fitting t (remadeFigures t) (remadeMultipliers t)
-      fits = remade-fits t N declared paths rules multiplier-low (F .low o)
+    -- the columns that are written
+    pub figures-written : (new : List ℤ) → Written (pos 0) values (t .figures) new → new ≡ remadeFigures t
+    figures-written new W =
+        let n : length (t .figures) ≡ blockCount t = headed t rules .ranged .sized .figures in
+        ext-getD (pos 0) new (remadeFigures t) (W .size ∙ n ∙ sym (figure-count t)) (λ x b.
+        let c : x < length (t .figures) = omega (arith, W .size) in
+        W .same x c ∙ F .same refl x (omega (arith, n)))
 
-      pub figures-fit : figureOver (remade t) ≡ false
-      unfolding figureOver remade
-      figures-fit =
-          any-none (blockCount t) (λ u. figureOutside (getD (remadeFigures t) u (pos 0))) (λ u b.
-          neither {a = ltZ (getD (remadeFigures t) u (pos 0)) (negℤ (pos (2 ^ 60)))} (let p = fits .figure-least u b in omega (ints, p)) (let p = fits .figure-most u b in omega (ints, p)))
+    pub multipliers-written : (new : List ℕ) → Written 0 made (t .multipliers) new → new ≡ remadeMultipliers t
+    multipliers-written new W =
+        let n : length (t .multipliers) ≡ loopCount t = headed t rules .ranged .sized .multipliers in
+        ext-getD 0 new (remadeMultipliers t) (W .size ∙ n ∙ sym (multiplier-count t)) (λ l b.
+        let c : l < length (t .multipliers) = omega (arith, W .size) in
+        W .same l c ∙ M .same refl l (omega (arith, n)))
 
-      -- the columns that are written
-      pub figures-written : (new : List ℤ) → Written (pos 0) values (t .figures) new → new ≡ remadeFigures t
-      figures-written new W =
-          let n : length (t .figures) ≡ blockCount t = headed t rules .ranged .sized .figures in
-          ext-getD (pos 0) new (remadeFigures t) (W .size ∙ n ∙ sym (figure-count t)) (λ x b.
-          let c : x < length (t .figures) = omega (arith, W .size) in
-          W .same x c ∙ F .same o x (omega (arith, n)))
+    in-range : (x : ℕ) → x < blockCount t → Figure (getD (remadeFigures t) x (pos 0))
+    in-range x b = record { least = fits .figure-least x b; most = fits .figure-most x b }
 
-      pub multipliers-written : (new : List ℕ) → Written 0 made (t .multipliers) new → new ≡ remadeMultipliers t
-      multipliers-written new W =
-          let n : length (t .multipliers) ≡ loopCount t = headed t rules .ranged .sized .multipliers in
-          ext-getD 0 new (remadeMultipliers t) (W .size ∙ n ∙ sym (multiplier-count t)) (λ l b.
-          let c : l < length (t .multipliers) = omega (arith, W .size) in
-          W .same l c ∙ M .same refl l (omega (arith, n)))
+    pub priced : Priced (priceColumns (t .costs) (remadeFigures t))
+    priced =
+        let R : Ranged t = headed t rules .ranged in
+        record {
+          some-block = R .sized .some-block;
+          few-blocks = R .sized .few-blocks;
+          figures = figure-count t;
+          cost-most = R .cost-most 0 (R .sized .some-block);
+          entry-range = in-range 0 (R .sized .some-block);
+          exit-range = in-range (blockCount t - 1) (omega (arith, R .sized .some-block));
+        }
 
-      in-range : (x : ℕ) → x < blockCount t → Figure (getD (remadeFigures t) x (pos 0))
-      in-range x b = record { least = fits .figure-least x b; most = fits .figure-most x b }
-
-      pub priced : Priced (priceColumns (t .costs) (remadeFigures t))
-      priced =
-          let R : Ranged t = headed t rules .ranged in
-          record {
-            some-block = R .sized .some-block;
-            few-blocks = R .sized .few-blocks;
-            figures = figure-count t;
-            cost-most = R .cost-most 0 (R .sized .some-block);
-            entry-range = in-range 0 (R .sized .some-block);
-            exit-range = in-range (blockCount t - 1) (omega (arith, R .sized .some-block));
-          }
-
-      -- "the reply is its bound"
-      pub accepted-solved : (fs : List ℤ) → Written (pos 0) values (t .figures) fs → (ms : List ℕ) → Written 0 made (t .multipliers) ms → (b : ℤ) → b ≡ bound (priceColumns (t .costs) fs)
-          → Solved t (accepted b) fs ms
-      unfolding bound remade
-      accepted-solved fs W ms X b e =
-          let f : fs ≡ remadeFigures t = figures-written fs W in
-          let same : b ≡ bound (remade t) = e ∙ ap (λ (x : List ℤ). bound (priceColumns (t .costs) x)) f in
-          solved t (accepted b) fs ms (ap accepted same ∙ bound-accepted t rules declared paths (multipliers-fit t false made weights kept M refl) figures-fit) f (multipliers-written ms X)
+    -- "the reply is its bound"
+    pub accepted-solved : (fs : List ℤ) → Written (pos 0) values (t .figures) fs → (ms : List ℕ) → Written 0 made (t .multipliers) ms → (b : ℤ) → b ≡ bound (priceColumns (t .costs) fs)
+        → Solved t (accepted b) fs ms
+    unfolding bound remade
+    accepted-solved fs W ms X b e =
+        let f : fs ≡ remadeFigures t = figures-written fs W in
+        let same : b ≡ bound (remade t) = e ∙ ap (λ (x : List ℤ). bound (priceColumns (t .costs) x)) f in
+        solved t (accepted b) fs ms (ap accepted same ∙ bound-accepted t rules declared paths (multipliers-fit t false made weights kept M refl) figures-fit) f (multipliers-written ms X)

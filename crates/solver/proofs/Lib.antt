@@ -2,3 +2,4 @@ pub mod Reply
 pub mod Written
 pub mod Columns
 pub mod Steps
+pub mod Making

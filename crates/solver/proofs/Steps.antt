@@ -8,8 +8,9 @@ use native.Mathlib.Nat.{mul-le-mul}
 use native.Mathlib.Omega.{arith}
 use lib.Dec.{eqb}
 use borrow.Author.Tests.{eqb-false}
+use lib.IntN.{ℤ}
 use lib.ListN.{length, getD}
-use Rattle.limits.specs.Limits.{mostBlocks}
+use Rattle.limits.specs.Limits.{mostBlocks, mostDepth}
 use Rattle.lists.specs.Search.{if_then_else_}
 use Rattle.wcet.specs.Table.{Routine, blockCount, loopCount, missing, cost, loopOf, limit, isHeader}
 use Rattle.wcet.specs.Rules.{structureRules}
@@ -23,10 +24,12 @@ use Rattle.levels.specs.declared.Depths.{Depths}
 use Rattle.levels.proofs.Laws.{depth-most16}
 use Rattle.optimum.specs.Tails.{weight}
 use Rattle.optimum.specs.Columns.{remadeMultipliers, remultiplied}
+use Rattle.tails.specs.Words.{Low}
 use Rattle.tails.specs.Slots.{places, nowhere, slotBySets, SlotsOf, Slotted}
 use Rattle.multipliers.specs.Columns as rounds
+use Rattle.figures.specs.Figures.{WeightFits}
 use Rattle.figures.specs.Columns as fill
-use Rattle.solver.specs.Columns.{MadeOf}
+use Rattle.solver.specs.Columns.{Solvable}
 use Rattle.solver.proofs.Columns.{made-most, multiplier-low}
 
 module _ (t : Routine) (h : AllHold (structureRules t)) where
@@ -79,14 +82,27 @@ module _ (t : Routine) (h : AllHold (structureRules t)) where
 pub deep-of : {parents : List ℕ} {r : Depths} → DepthsOf parents r → Deep parents (r .each) (r .most)
 deep-of D = record { same = D .same; most = D .most }
 
--- the making of the figures
-module _ (t : Routine) (sets made weights kept depths : List ℕ) (deepest : ℕ) (firstSlots secondSlots order : List ℕ)
-    (M : MadeOf t sets made weights kept depths deepest firstSlots secondSlots order) where
-  h : AllHold (structureRules t)
-  h = M .solvable .rules
-
+-- the gates, and the last pass
+module _ (t : Routine) (sets order : List ℕ) (S : Solvable t sets order) (made weights kept : List ℕ) (M : rounds.MultipliedOf t false made weights kept) where
   Q : Ranged t
-  Q = headed t h .ranged
+  Q = headed t (S .rules) .ranged
+
+  pub gates-readied : (depths : List ℕ) (deepest : ℕ) → Deep (t .parents) depths deepest → deepest ≤ mostDepth → Low kept → (old : List ℤ) → fill.Unopened old
+      → fill.GatesReadied (t .costs) (t .parents) (t .headers) made kept depths deepest old
+  gates-readied depths deepest D few K old U = record {
+    heads-readied = record {
+      some-loop = Q .sized .some-loop;
+      few-loops = Q .sized .few-loops;
+      parents-below = Q .parents;
+      deep = D;
+      few-depths = few;
+      kept-low = K;
+      multiplier-most = made-most t sets order S made weights kept M;
+    };
+    headers-size = Q .sized .headers;
+    header-block = λ l b. Q .header-below l (omega (arith, Q .sized .headers));
+    unopened = U;
+  }
 
   -- a weight by the remade multipliers
   weight-most : (x : ℕ) → x < blockCount t → weight (remultiplied t) x ≤ 2 ^ 57
@@ -102,28 +118,14 @@ module _ (t : Routine) (sets made weights kept depths : List ℕ) (deepest : ℕ
       later : getD (remadeMultipliers t) l 0 * (limit t l - 1) ≤ 2 ^ 40 * 65534
       later =
           let less : limit t l - 1 ≤ 65534 = omega (arith, Q .limit-most l m) in
-          mul-le-mul (multiplier-low t sets order (M .solvable) made weights kept (M .multiplied) l m) less
+          mul-le-mul (multiplier-low t sets order S made weights kept M l m) less
 
       go : (b : Bool) → (if b then cost t x + getD (remadeMultipliers t) l 0 * (limit t l - 1) else cost t x) ≤ 2 ^ 57
       go true = omega (arith, later, Q .cost-most x b)
       go false = omega (arith, Q .cost-most x b)
 
-  pub figures-readied : fill.Readied (t .costs) (t .parents) (t .headers) made weights kept depths deepest firstSlots secondSlots order
-  figures-readied = record {
-    heads-readied = record {
-      some-loop = Q .sized .some-loop;
-      few-loops = Q .sized .few-loops;
-      parents-below = Q .parents;
-      deep = M .deep;
-      few-depths = M .few-depths;
-      kept-low = M .kept-low;
-      multiplier-most = made-most t sets order (M .solvable) made weights kept (M .multiplied);
-    };
-    headers-size = Q .sized .headers;
-    header-block = λ l b. Q .header-below l (omega (arith, Q .sized .headers));
-    weight-range = λ x b. record {
-      weight-least = omega (arith, M .multiplied .weighed refl x b);
-      weight-most = omega (arith, M .multiplied .weighed refl x b, weight-most x b);
-    };
-    slotted = slotted t h sets firstSlots secondSlots order (M .solvable .ordered) (M .first-slots) (M .second-slots);
+  pub weight-range : (x : ℕ) → x < blockCount t → WeightFits (getD weights x 0)
+  weight-range x b = record {
+    weight-least = omega (arith, M .weighed refl x b);
+    weight-most = omega (arith, M .weighed refl x b, weight-most x b);
   }

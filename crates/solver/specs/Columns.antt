@@ -1,24 +1,26 @@
 -- What the steps of the solver leave to the next: for functions that are no public entry.
-use Prim.Native.Nat.{ℕ, _≤_, _<_}
+use Prim.Native.Nat.{ℕ, _<_}
 use mathlib.Core.Path.{_≡_}
-use mathlib.Core.Bool.{false}
+use mathlib.Core.Bool.{true, false}
 use mathlib.Core.List.{List}
-use lib.IntN.{ℤ}
+use lib.IntN.{ℤ, pos}
 use lib.ListN.{length, getD}
-use Rattle.limits.specs.Limits.{mostDepth}
 use Rattle.wcet.specs.Table.{Routine, blockCount}
 use Rattle.wcet.specs.Cycles.{undeclaredLoop}
-use Rattle.wcet.specs.Rules.{Reply, structureRules}
+use Rattle.wcet.specs.Rules.{structureRules, bound}
 use Rattle.wcet.specs.Claim.{AllHold}
 use Rattle.loopsets.specs.Sets.{setsAround}
-use Rattle.nesting.specs.Columns.{routine}
 use Rattle.order.specs.Ordering.{Topological}
-use Rattle.levels.specs.Levels.{Deep}
+use Rattle.certificate.specs.Columns.{priceColumns}
 use Rattle.optimum.specs.Remade.{PathToExit}
-use Rattle.optimum.specs.Replies.{Solved}
-use Rattle.tails.specs.Words.{Low}
-use Rattle.tails.specs.Slots.{SlotsOf}
+use Rattle.optimum.specs.Columns.{remade}
+use Rattle.optimum.specs.Replies.{multiplierOver, figureOver}
+use Rattle.tails.specs.Slots.{places, SlotsOf}
 use Rattle.multipliers.specs.Columns.{MultipliedOf}
+use Rattle.figures.specs.Figures.{ValuesFit}
+use Rattle.figures.specs.Columns.{GatesOf, FiguredOf}
+use Rattle.solver.specs.declared.Outcome.{Outcome}
+use Rattle.solver.specs.declared.Outcome.the-variants.{Made, Multiplier, Figure}
 
 -- a column keeps its length, and holds what the first places of another hold
 pub record Written {A : Type 0} (d : A) (from old new : List A) : Type 0 where
@@ -33,29 +35,58 @@ pub record Solvable (t : Routine) (sets order : List ℕ) : Type 0 where
   pub declared : undeclaredLoop t ≡ false
   pub paths : (u : ℕ) → u < blockCount t → PathToExit t u
 
--- of t there are its multipliers, its weights by them, the tails at its headers, its depths and its slots
-pub record MadeOf (t : Routine) (sets made weights kept depths : List ℕ) (deepest : ℕ) (firstSlots secondSlots order : List ℕ) : Type 0 where
+-- and the slots of its edges
+pub record Laid (t : Routine) (sets firstSlots secondSlots order : List ℕ) : Type 0 where
   pub solvable : Solvable t sets order
-  pub multiplied : MultipliedOf t false made weights kept
-  pub kept-low : Low kept
-  pub deep : Deep (t .parents) depths deepest
-  pub few-depths : deepest ≤ mostDepth
   pub first-slots : SlotsOf sets (t .loops) (t .headers) (t .firsts) firstSlots
   pub second-slots : SlotsOf sets (t .loops) (t .headers) (t .seconds) secondSlots
 
--- so of some routine with these five columns, which makes the last step safe
-pub record Finishable (costs : List ℕ) (figures : List ℤ) (parents headers multipliers made weights kept depths : List ℕ) (deepest : ℕ) (firstSlots secondSlots order : List ℕ) : Type 0 where
-  pub loops : List ℕ
-  pub firsts : List ℕ
-  pub seconds : List ℕ
-  pub limits : List ℕ
-  pub sets : List ℕ
-  pub all-made : MadeOf (routine costs loops firsts seconds figures parents headers limits multipliers) sets made weights kept depths deepest firstSlots secondSlots order
+-- the columns of t that are read when its slots are known
+pub record Columned (t : Routine) (costs parents headers limits : List ℕ) : Type 0 where
+  pub same-costs : t .costs ≡ costs
+  pub same-parents : t .parents ≡ parents
+  pub same-headers : t .headers ≡ headers
+  pub same-limits : t .limits ≡ limits
 
--- and then of every one of them the reply and the columns are right
-abbrev pub Finished : (costs : List ℕ) (figures : List ℤ) (parents headers multipliers made weights kept depths : List ℕ) (deepest : ℕ) (firstSlots secondSlots order : List ℕ)
-    → Reply ℤ → List ℤ → List ℕ → Type 0
-Finished costs figures parents headers multipliers made weights kept depths deepest firstSlots secondSlots order r fs ks =
-    (loops firsts seconds limits sets : List ℕ)
-    → MadeOf (routine costs loops firsts seconds figures parents headers limits multipliers) sets made weights kept depths deepest firstSlots secondSlots order
-    → Solved (routine costs loops firsts seconds figures parents headers limits multipliers) r fs ks
+-- some routine has these columns, slots and order, which makes every step safe
+pub record Makeable (costs parents headers limits firstSlots secondSlots order : List ℕ) : Type 0 where
+  pub t : Routine
+  pub sets : List ℕ
+  pub columned : Columned t costs parents headers limits
+  pub laid : Laid t sets firstSlots secondSlots order
+
+-- what an outcome says of t, whose step is done or is not
+abbrev pub OutcomeOf : (r : Outcome) (t : Routine) (Done : Type 0) → Type 0
+OutcomeOf Made t Done = Done
+OutcomeOf Multiplier t Done = multiplierOver (remade t) ≡ true
+OutcomeOf Figure t Done = (multiplierOver (remade t) ≡ false) × (figureOver (remade t) ≡ true)
+
+-- the last pass can start: the multipliers, the weights by them and the gates
+pub record Gated (t : Routine) (made weights : List ℕ) (gates : List ℤ) : Type 0 where
+  pub kept : List ℕ
+  pub multiplied : MultipliedOf t false made weights kept
+  pub size : length gates ≡ places
+  pub fit : ValuesFit gates
+  pub gates-of : GatesOf t false gates
+
+-- both columns are made
+pub record ColumnsMade (t : Routine) (figures : List ℤ) (made : List ℕ) : Type 0 where
+  pub kept : List ℕ
+  pub weights : List ℕ
+  pub multiplied : MultipliedOf t false made weights kept
+  pub figured : FiguredOf t false figures
+
+-- so of every routine with these columns, slots and order
+abbrev pub GatedBy : (costs parents headers limits firstSlots secondSlots order : List ℕ) (r : Outcome) (made weights : List ℕ) (gates : List ℤ) → Type 0
+GatedBy costs parents headers limits firstSlots secondSlots order r made weights gates =
+    (t : Routine) (sets : List ℕ) → Columned t costs parents headers limits → Laid t sets firstSlots secondSlots order → OutcomeOf r t (Gated t made weights gates)
+
+abbrev pub MadeBy : (costs parents headers limits firstSlots secondSlots order : List ℕ) (r : Outcome) (figures : List ℤ) (made : List ℕ) → Type 0
+MadeBy costs parents headers limits firstSlots secondSlots order r figures made =
+    (t : Routine) (sets : List ℕ) → Columned t costs parents headers limits → Laid t sets firstSlots secondSlots order → OutcomeOf r t (ColumnsMade t figures made)
+
+-- the columns when they are written, and their bound
+pub record Ended (costs : List ℕ) (figuresFrom figures : List ℤ) (multipliersFrom multipliers : List ℕ) (b : ℤ) (newFigures : List ℤ) (newMultipliers : List ℕ) : Type 0 where
+  pub figures-written : Written (pos 0) figuresFrom figures newFigures
+  pub multipliers-written : Written 0 multipliersFrom multipliers newMultipliers
+  pub bounded : b ≡ bound (priceColumns costs newFigures)

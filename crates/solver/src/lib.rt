@@ -1,24 +1,32 @@
 // The solver: remakes the figure and multiplier columns of a pair of tables, so that no certificate gives a smaller bound, or replies the first
 // reason why it cannot: 201 to 207, 209, 401 to 403. The columns are made in arrays, and written only when all of both is in range.
 ghost use mathlib.Core.Path.{_≡_};
-ghost use Prim.Native.Nat.{_≤_, _<_};
-ghost use lib.IntN.{pos};
-ghost use lib.ListN.{length};
+ghost use mathlib.Core.List.{List};
+ghost use Prim.Native.Nat.{ℕ, _≤_, _<_};
+ghost use lib.IntN.{ℤ, pos};
+ghost use lib.ListN.{length, getD};
 ghost use Rattle.limits.specs.Limits.{mostBlocks, mostLoops};
 ghost use Rattle.wcet.specs.Rules.{structureRules};
 ghost use Rattle.wcet.specs.Claim.{AllHold};
 ghost use Rattle.loopsets.specs.Sets.{setsAround};
 ghost use Rattle.nesting.specs.Columns.{routine};
+ghost use Rattle.nesting.specs.Answers.{StructureChecked};
+ghost use Rattle.certificate.specs.Columns.{priceColumns, Priced};
+ghost use Rattle.multipliers.specs.Columns.{HeadersClosed};
+ghost use Rattle.figures.specs.Columns.{Unopened};
 ghost use Rattle.optimum.specs.Replies.{Solved};
 ghost use Rattle.solver.specs.Answers.{solveMeaning};
-ghost use Rattle.solver.specs.Columns.{Written, Solvable, Finishable, Finished};
+ghost use Rattle.solver.specs.Columns.{Written, Solvable, Makeable, GatedBy, MadeBy, Ended};
+use figures::NO_FIGURE;
 use limits::MOST_BLOCKS;
 use limits::MOST_LOOPS;
 use loopsets::Sets;
 use nesting::Place;
 use nesting::Structure;
 use nesting::StructureFault;
+use nesting::Structured;
 use tails::NO_TAIL;
+use tails::PLACES;
 
 // The bound, or the first broken rule: 201 to 207 as the structure check names them, 209, 401 at the lowest block without a path to the exit,
 // 402 or 403.
@@ -55,48 +63,111 @@ fn write_multipliers(to: &mut [u64], from: &[u64; MOST_LOOPS])
     }
 }
 
-// ---- the reply
-
-// The figures by these multipliers, and the reply: 403 or the bound.
+// Writes both columns, and returns the bound of the figures.
 fn finish(
     cost: &[u32],
     figure: &mut [i64],
+    multiplier: &mut [u64],
+    figures: &[i64; MOST_BLOCKS],
+    made: &[u64; MOST_LOOPS],
+) -> i64
+    requires { ⌜ (length (now figure) ≤ mostBlocks) × (length (now multiplier) ≤ mostLoops) × ((fs : List ℤ) → Written (pos 0) (now figures) (now figure) fs → Priced (priceColumns (now cost) fs)) ⌝ }
+    ensures { λ r. ⌜ Ended (now (cost .entry)) (now (figures .entry)) (now (figure .entry)) (now (made .entry)) (now (multiplier .entry)) r (now (figure .exit)) (now (multiplier .exit)) ⌝ }
+{
+    write_figures(figure, figures);
+    write_multipliers(multiplier, made);
+    certificate::bound_at_exit(cost, figure)
+}
+
+// ---- the making of the columns
+
+// What came of a step: it is done, or a multiplier or a figure is over its limit.
+enum Outcome {
+    Made,
+    Multiplier,
+    Figure,
+}
+
+// All that goes by nesting depth: the multipliers, the weights by them, and the gates for the last pass.
+fn make_gates(
+    gates: &mut [i64; PLACES],
+    made: &mut [u64; MOST_LOOPS],
+    weights: &mut [u64; MOST_BLOCKS],
+    cost: &[u32],
     parent: &[u16],
     header: &[u16],
-    multiplier: &mut [u64],
-    made: &[u64; MOST_LOOPS],
-    weights: &[u64; MOST_BLOCKS],
-    kept: &[u64; MOST_BLOCKS],
-    depths: &[u16; MOST_LOOPS],
-    deepest: u16,
+    limit: &[u32],
     firsts: &[u16; MOST_BLOCKS],
     seconds: &[u16; MOST_BLOCKS],
     order: &[u16; MOST_BLOCKS],
-) -> SolveReply
-    requires { ⌜ Finishable (now cost) (now figure) (now parent) (now header) (now multiplier) (now made) (now weights) (now kept) (now depths) deepest (now firsts) (now seconds) (now order) ⌝ }
-    ensures { λ r. ⌜ Finished (now (cost .entry)) (now (figure .entry)) (now (parent .entry)) (now (header .entry)) (now (multiplier .entry)) (now (made .entry)) (now (weights .entry)) (now (kept .entry)) (now (depths .entry)) deepest (now (firsts .entry)) (now (seconds .entry)) (now (order .entry)) (solveMeaning r) (now (figure .exit)) (now (multiplier .exit)) ⌝ }
+) -> Outcome
+    requires { ⌜ Makeable (now cost) (now parent) (now header) (now limit) (now firsts) (now seconds) (now order) × Unopened (now gates) × (length (now made) ≡ mostLoops) × ((l : ℕ) → getD (now made) l 0 ≡ 0) × HeadersClosed (now cost) (now header) (now weights) ⌝ }
+    ensures { λ r. ⌜ GatedBy (now (cost .entry)) (now (parent .entry)) (now (header .entry)) (now (limit .entry)) (now (firsts .entry)) (now (seconds .entry)) (now (order .entry)) r (now (made .exit)) (now (weights .exit)) (now (gates .exit)) ⌝ }
 {
-    let mut figures = [0i64; MOST_BLOCKS];
-    if figures::remake_figures(
-        &mut figures,
-        cost,
-        parent,
-        header,
+    let depths = levels::depths_of(parent);
+    let each = depths.each;
+    let most = depths.most;
+    let mut kept = [NO_TAIL; MOST_BLOCKS];
+    if multipliers::remake_multipliers(
         made,
         weights,
-        kept,
-        depths,
-        deepest,
+        &mut kept,
+        cost,
+        header,
+        limit,
+        &each,
+        most,
         firsts,
         seconds,
         order,
     ) {
-        return SolveReply::Figure;
+        return Outcome::Multiplier;
     }
-    write_figures(figure, &figures);
-    write_multipliers(multiplier, made);
-    SolveReply::Accepted(certificate::bound_at_exit(cost, figure))
+    if figures::open_gates(gates, cost, parent, header, made, &kept, &each, most) {
+        return Outcome::Figure;
+    }
+    Outcome::Made
 }
+
+// Both columns, in arrays.
+fn make(
+    figures: &mut [i64; MOST_BLOCKS],
+    made: &mut [u64; MOST_LOOPS],
+    cost: &[u32],
+    parent: &[u16],
+    header: &[u16],
+    limit: &[u32],
+    firsts: &[u16; MOST_BLOCKS],
+    seconds: &[u16; MOST_BLOCKS],
+    order: &[u16; MOST_BLOCKS],
+) -> Outcome
+    requires { ⌜ Makeable (now cost) (now parent) (now header) (now limit) (now firsts) (now seconds) (now order) × (length (now figures) ≡ mostBlocks) × (length (now made) ≡ mostLoops) × ((l : ℕ) → getD (now made) l 0 ≡ 0) ⌝ }
+    ensures { λ r. ⌜ MadeBy (now (cost .entry)) (now (parent .entry)) (now (header .entry)) (now (limit .entry)) (now (firsts .entry)) (now (seconds .entry)) (now (order .entry)) r (now (figures .exit)) (now (made .exit)) ⌝ }
+{
+    let n = cost.len();
+    let mut weights = multipliers::first_weights(cost, header);
+    let mut gates = [NO_FIGURE; PLACES];
+    let outcome = make_gates(
+        &mut gates,
+        made,
+        &mut weights,
+        cost,
+        parent,
+        header,
+        limit,
+        firsts,
+        seconds,
+        order,
+    );
+    if let Outcome::Made = outcome {
+        if figures::fill_figures(figures, &mut gates, &weights, firsts, seconds, order, n) {
+            return Outcome::Figure;
+        }
+    }
+    outcome
+}
+
+// ---- the reply
 
 // The reply to tables that pass 201 to 207, 209 and 401: 402, 403 or the bound.
 fn remake(
@@ -117,42 +188,24 @@ fn remake(
 {
     let firsts = tails::slots_of(around, loops, header, first);
     let seconds = tails::slots_of(around, loops, header, second);
-    let depths = levels::depths_of(parent);
-    let each = depths.each;
-    let most = depths.most;
+    let mut figures = [0i64; MOST_BLOCKS];
     let mut made = [0u64; MOST_LOOPS];
-    let mut weights = multipliers::first_weights(cost, header);
-    let mut kept = [NO_TAIL; MOST_BLOCKS];
-    if multipliers::remake_multipliers(
+    let outcome = make(
+        &mut figures,
         &mut made,
-        &mut weights,
-        &mut kept,
         cost,
-        header,
-        limit,
-        &each,
-        most,
-        &firsts,
-        &seconds,
-        order,
-    ) {
-        return SolveReply::Multiplier;
-    }
-    finish(
-        cost,
-        figure,
         parent,
         header,
-        multiplier,
-        &made,
-        &weights,
-        &kept,
-        &each,
-        most,
+        limit,
         &firsts,
         &seconds,
         order,
-    )
+    );
+    match outcome {
+        Outcome::Made => SolveReply::Accepted(finish(cost, figure, multiplier, &figures, &made)),
+        Outcome::Multiplier => SolveReply::Multiplier,
+        Outcome::Figure => SolveReply::Figure,
+    }
 }
 
 // The reply to tables that pass 201 to 207, whose loop sets are given: 209, 401, 402, 403 or the bound.
@@ -195,6 +248,41 @@ fn solve_sound(
     )
 }
 
+// The reply to tables whose structure is checked.
+fn solve_checked(
+    checked: Structured,
+    cost: &[u32],
+    loops: &[u16],
+    first: &[u16],
+    second: &[u16],
+    figure: &mut [i64],
+    parent: &[u16],
+    header: &[u16],
+    limit: &[u32],
+    multiplier: &mut [u64],
+) -> SolveReply
+    requires { ⌜ StructureChecked (routine (now cost) (now loops) (now first) (now second) (now figure) (now parent) (now header) (now limit) (now multiplier)) checked ⌝ }
+    ensures { λ r. ⌜ Solved (routine (now (cost .entry)) (now (loops .entry)) (now (first .entry)) (now (second .entry)) (now (figure .entry)) (now (parent .entry)) (now (header .entry)) (now (limit .entry)) (now (multiplier .entry))) (solveMeaning r) (now (figure .exit)) (now (multiplier .exit)) ⌝ }
+{
+    let answer = checked.answer;
+    if let Structure::Broken(fault) = answer {
+        return SolveReply::Structure(fault);
+    }
+    let around = checked.around;
+    solve_sound(
+        &around,
+        cost,
+        loops,
+        first,
+        second,
+        figure,
+        parent,
+        header,
+        limit,
+        multiplier,
+    )
+}
+
 // The bound of the remade columns, which are then in place of the figures and multipliers; or the first broken rule, and both columns stay as
 // they were. With it comes what the columns and the bound mean.
 pub fn solve(
@@ -221,13 +309,8 @@ pub fn solve(
         limit,
         multiplier,
     );
-    let answer = checked.answer;
-    if let Structure::Broken(fault) = answer {
-        return SolveReply::Structure(fault);
-    }
-    let around = checked.around;
-    solve_sound(
-        &around,
+    solve_checked(
+        checked,
         cost,
         loops,
         first,

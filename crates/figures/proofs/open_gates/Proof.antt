@@ -28,7 +28,7 @@ set-gates-requires c κs =
     let a = s .args in
     let h = c .before .before .before .head-figures in
     let R = s .pre in (
-      R .size,
+      R .unopened .size,
       omega (arith, R .headers-size, R .heads-readied .few-loops),
       λ l b. (R .header-block l b, R .heads-readied .multiplier-most l (omega (arith, R .headers-size)), head-fits (a .cost .now) (a .parent .now) (a .header .now) (a .made .now) (a .kept .now) (a .depths .now) (a .deepest) (h .last .0) (a .gates .now) R (rw (c .before .before .if1 .left) at (h .ensures)) l b),
     )

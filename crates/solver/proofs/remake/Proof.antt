@@ -1,28 +1,26 @@
-use mathlib.Core.Bool.{Bool, false}
-use mathlib.Core.List.{List}
-use Rattle.levels.specs.Levels.{DepthsOf}
-use Rattle.levels.specs.declared.Depths.{Depths}
-use Rattle.tails.specs.Slots.{SlotsOf}
-use Rattle.multipliers.specs.Columns as rounds
-use Rattle.solver.specs.Columns.{MadeOf}
+use mathlib.Core.Path.{refl}
 use native.Mathlib.Omega.{arith}
-use mathlib.Core.Path.{_≡_, refl}
-use Prim.Native.Nat.{ℕ}
+use mathlib.Core.List.{List}
+use Prim.Native.Nat.{ℕ, _≤_}
+use lib.ListN.{length}
+use mir.Syntax.{w64}
+use mir.Val.{SFits}
+use mir.Facts.{toZ-ofZ}
 use Rattle.wcet.specs.Table.{Routine}
 use Rattle.nesting.specs.Columns.{routine, Ranged}
 use Rattle.nesting.proofs.Stages.{headed, innermost, linked}
-use Rattle.solver.proofs.Reply.{refused-solved, multiplier-refused}
-use Rattle.solver.proofs.Columns.{zeros, multiplier-over}
-use Rattle.solver.proofs.Steps.{rounds-readied, deep-of}
+use Rattle.tails.specs.Slots.{SlotsOf}
+use Rattle.solver.specs.Columns.{Laid, Columned}
+use Rattle.solver.proofs.Reply.{refused-solved, multiplier-refused, figure-refused}
+use Rattle.solver.proofs.Columns.{zeros, priced, figures-written, accepted-solved}
+use Rattle.solver.proofs.Making.{done}
 use borrow.Author.Needs.{needs}
 use Rattle.solver.proofs.remake.Statement.{statement}
 use Rattle.solver.proofs.remake.Tie as tie
 use Rattle.solver.proofs.remake.Reads as reads
 use Rattle.solver.proofs.remake.Lts as lts
-use Rattle.levels.proofs.depths_of.Reads as depths-of-reads
-use Rattle.multipliers.proofs.first_weights.Reads as first-weights-reads
-use Rattle.multipliers.proofs.remake_multipliers.Reads as remake-multipliers-reads
 use Rattle.solver.proofs.finish.Reads as finish-reads
+use Rattle.solver.proofs.make.Reads as make-reads
 use Rattle.tails.proofs.slots_of.Reads as slots-of-reads
 
 abbrev whole : tie.Start → Routine
@@ -33,25 +31,12 @@ whole s =
 ranged : (s : tie.Start) → Ranged (whole s)
 ranged s = headed (whole s) (s .pre .rules) .ranged
 
--- the slots, the depths and what the making of the multipliers ensures
-module _ (s : tie.Start) (firsts seconds : List ℕ) (r : Depths) (made weights kept : List ℕ) (over : Bool)
-    (S₁ : SlotsOf (s .args .around .now) (s .args .loops .now) (s .args .header .now) (s .args .first .now) firsts)
-    (S₂ : SlotsOf (s .args .around .now) (s .args .loops .now) (s .args .header .now) (s .args .second .now) seconds)
-    (D : DepthsOf (s .args .parent .now) r)
-    (M : rounds.Multiplied (s .args .cost .now) (s .args .header .now) (s .args .limit .now) (r .each) (r .most) firsts seconds (s .args .order .now) over made weights kept) where
-  multiplied : rounds.MultipliedOf (whole s) over made weights kept
-  multiplied = M .says (whole s) (s .args .around .now) refl refl refl (s .pre .rules) (s .pre .sets-around) (deep-of D) (s .pre .ordered) S₁ S₂
+columned : (s : tie.Start) → Columned (whole s) (s .args .cost .now) (s .args .parent .now) (s .args .header .now) (s .args .limit .now)
+columned s = record { same-costs = refl; same-parents = refl; same-headers = refl; same-limits = refl }
 
-  all-made : over ≡ false → MadeOf (whole s) (s .args .around .now) made weights kept (r .each) (r .most) firsts seconds (s .args .order .now)
-  all-made o = record {
-    solvable = s .pre;
-    multiplied = rw o at multiplied;
-    kept-low = M .kept-low;
-    deep = deep-of D;
-    few-depths = rounds-readied (whole s) (s .pre .rules) (s .args .around .now) firsts seconds (s .args .order .now) (s .pre .ordered) S₁ S₂ r D .deep;
-    first-slots = S₁;
-    second-slots = S₂;
-  }
+laid : (s : tie.Start) (firsts seconds : List ℕ) → SlotsOf (s .args .around .now) (s .args .loops .now) (s .args .header .now) (s .args .first .now) firsts
+    → SlotsOf (s .args .around .now) (s .args .loops .now) (s .args .header .now) (s .args .second .now) seconds → Laid (whole s) (s .args .around .now) firsts seconds (s .args .order .now)
+laid s firsts seconds S₁ S₂ = record { solvable = s .pre; first-slots = S₁; second-slots = S₂ }
 
 slots-of-requires : tie.Need-slots-of-requires
 slots-of-requires c κs =
@@ -65,35 +50,29 @@ slots-of-requires-2 c κs =
     let R = ranged s in
     rw (R .sized .loops) (innermost (whole s) R, R .sized .few-blocks, R .sized .some-block, R .sized .seconds, linked (whole s) R .second-names)
 
-depths-of-requires : tie.Need-depths-of-requires
-depths-of-requires c κs = let R = ranged (c .before .before .before .before .before .before .before .before .before .before) in (R .sized .some-loop, R .sized .few-loops, R .parents)
+make-requires : tie.Need-make-requires
+make-requires c κs =
+    let s = c .before .before .before .before .before .before .before .before .before .before .before .before .before .before in
+    (record { t = whole s; sets = s .args .around .now; columned = columned s; laid = laid s _ _ (c .before .before .before .before .before .slots-of .ensures) (c .before .before .before .before .slots-of2 .ensures) }, refl, refl, zeros 64)
 
-first-weights-requires : tie.Need-first-weights-requires
-first-weights-requires c κs = let s = c .before .before .before .before .before .before .before .before .before .before .before .before in let R = ranged s in (R .sized .few-blocks, λ l b. omega (arith, R .header-below l (omega (arith, R .sized .headers)), R .sized .few-blocks))
-
-remake-multipliers-requires : tie.Need-remake-multipliers-requires
-remake-multipliers-requires c κs =
-    let s = c .before .before .before .before .before .before .before .before .before .before .before .before .before .before .before .before .before .before .before in
-    (rounds-readied (whole s) (s .pre .rules) _ _ _ _ (s .pre .ordered) (c .before .before .before .before .before .before .before .before .before .before .slots-of .ensures) (c .before .before .before .before .before .before .before .before .before .slots-of2 .ensures) _ (c .before .before .before .before .before .before .before .before .depths-of .ensures), refl, zeros 64, refl, λ i. omega (arith, zeros 1024 i), c .before .before .before .before .before .before .first-weights .ensures)
-
-returns : tie.Need-returns
-returns c =
-    let s = c .before .before .before .before .before .before .before .before .before .before .before .before .before .before .before .before .before .before .before .before .before in
-    refused-solved (whole s) 402 0
-    (multiplier-refused (whole s) (s .pre .rules) (s .pre .declared) (s .pre .paths)
-    (multiplier-over (whole s) _ _ _ _ (multiplied s _ _ _ _ _ _ _ (c .before .before .before .before .before .before .before .before .before .before .before .before .slots-of .ensures) (c .before .before .before .before .before .before .before .before .before .before .before .slots-of2 .ensures) (c .before .before .before .before .before .before .before .before .before .before .depths-of .ensures) (c .before .remake-multipliers .ensures)) (c .if1 .taken)))
+enum-told : tie.Need-enum-told
+enum-told c = search needs
 
 finish-requires : tie.Need-finish-requires
 finish-requires c κs =
-    let s = c .before .before .before .before .before .before .before .before .before .before .before .before .before .before .before .before .before .before .before .before .before .before .before .before .before .before .before .before .before in
-    record {
-      loops = s .args .loops .now;
-      firsts = s .args .first .now;
-      seconds = s .args .second .now;
-      limits = s .args .limit .now;
-      sets = s .args .around .now;
-      all-made = all-made s _ _ _ _ _ _ _ (c .before .before .before .before .before .before .before .before .before .before .before .before .before .before .before .before .before .before .before .before .slots-of .ensures) (c .before .before .before .before .before .before .before .before .before .before .before .before .before .before .before .before .before .before .before .slots-of2 .ensures) (c .before .before .before .before .before .before .before .before .before .before .before .before .before .before .before .before .before .before .depths-of .ensures) (c .before .before .before .before .before .before .before .before .before .remake-multipliers .ensures) (c .before .before .before .before .before .before .before .before .if1 .left);
-    }
+    let s = c .before .before .before .before .before .before .before .before .before .before .before .before .before .before .before .before .before .before .before .before .before in
+    let t = whole s in
+    let R = ranged s in
+    let X = done _ t _ (c .before .before .before .before .enum-told .given .1) (c .before .before .before .before .before .before .make .ensures t (s .args .around .now) (columned s) (laid s _ _ (c .before .before .before .before .before .before .before .before .before .before .before .before .slots-of .ensures) (c .before .before .before .before .before .before .before .before .before .before .before .slots-of2 .ensures))) in
+    let few : length (s .args .figure .now) ≤ 1024 = omega (arith, R .sized .figures, R .sized .few-blocks) in
+    let fewer : length (s .args .multiplier .now) ≤ 64 = omega (arith, R .sized .multipliers, R .sized .few-loops) in
+    (few, fewer, λ fs W. rw (figures-written t _ _ (s .pre) _ _ _ (X .multiplied) _ (X .figured) fs W) (priced t _ _ (s .pre) _ _ _ (X .multiplied) _ (X .figured)))
+
+enum-told-2 : tie.Need-enum-told-2
+enum-told-2 c = search needs
+
+enum-told-3 : tie.Need-enum-told-3
+enum-told-3 c = search needs
 
 same-length : tie.Need-same-length
 same-length c = search needs
@@ -101,11 +80,29 @@ same-length c = search needs
 same-length-2 : tie.Need-same-length-2
 same-length-2 c = search needs
 
+returns : tie.Need-returns
+returns c =
+    let s = c .before .before .before .before .before .before .before .before .before .before .before .before .before .before .before .before .before .before .before .before .before .before .before .before .before in
+    let t = whole s in
+    let X = done _ t _ (c .before .before .before .before .before .before .before .before .enum-told .given .1) (c .before .before .before .before .before .before .before .before .before .before .make .ensures t (s .args .around .now) (columned s) (laid s _ _ (c .before .before .before .before .before .before .before .before .before .before .before .before .before .before .before .before .slots-of .ensures) (c .before .before .before .before .before .before .before .before .before .before .before .before .before .before .before .slots-of2 .ensures))) in
+    let E = c .before .before .before .finish .ensures in
+    let f : SFits w64 (c .before .before .before .finish .result) = search needs in
+    rw (toZ-ofZ f) (accepted-solved t _ _ (s .pre) _ _ _ (X .multiplied) _ (X .figured) _ (E .figures-written) _ (E .multipliers-written) _ (E .bounded))
+
 returns-2 : tie.Need-returns-2
 returns-2 c =
-    let s = c .before .before .before .before .before .before .before .before .before .before .before .before .before .before .before .before .before .before .before .before .before .before .before .before .before .before .before .before .before .before .before .before .before in
-    c .before .before .before .finish .ensures (s .args .loops .now) (s .args .first .now) (s .args .second .now) (s .args .limit .now) (s .args .around .now)
-    (all-made s _ _ _ _ _ _ _ (c .before .before .before .before .before .before .before .before .before .before .before .before .before .before .before .before .before .before .before .before .before .before .before .before .slots-of .ensures) (c .before .before .before .before .before .before .before .before .before .before .before .before .before .before .before .before .before .before .before .before .before .before .before .slots-of2 .ensures) (c .before .before .before .before .before .before .before .before .before .before .before .before .before .before .before .before .before .before .before .before .before .before .depths-of .ensures) (c .before .before .before .before .before .before .before .before .before .before .before .before .before .remake-multipliers .ensures) (c .before .before .before .before .before .before .before .before .before .before .before .before .if1 .left))
+    let s = c .before .before .before .before .before .before .before .before .before .before .before .before .before .before .before .before .before in
+    let t = whole s in
+    let o = c .before .before .make .ensures t (s .args .around .now) (columned s) (laid s _ _ (c .before .before .before .before .before .before .before .before .slots-of .ensures) (c .before .before .before .before .before .before .before .slots-of2 .ensures)) in
+    refused-solved t 402 0 (multiplier-refused t (s .pre .rules) (s .pre .declared) (s .pre .paths) (rw (c .enum-told2 .given .1) at o))
+
+returns-3 : tie.Need-returns-3
+returns-3 c =
+    let s = c .before .before .before .before .before .before .before .before .before .before .before .before .before .before .before .before .before in
+    let t = whole s in
+    let o = c .before .before .make .ensures t (s .args .around .now) (columned s) (laid s _ _ (c .before .before .before .before .before .before .before .before .slots-of .ensures) (c .before .before .before .before .before .before .before .slots-of2 .ensures)) in
+    let h = rw (c .enum-told3 .given .1) at o in
+    refused-solved t 403 0 (figure-refused t (s .pre .rules) (s .pre .declared) (s .pre .paths) (h .0) (h .1))
 
 pub remake-spec : {M : Type 1} → statement M
 remake-spec =
@@ -113,11 +110,13 @@ remake-spec =
     (tie.spec
     slots-of-requires
     slots-of-requires-2
-    depths-of-requires
-    first-weights-requires
-    remake-multipliers-requires
-    returns
+    make-requires
+    enum-told
     finish-requires
+    enum-told-2
+    enum-told-3
     same-length
     same-length-2
-    returns-2)
+    returns
+    returns-2
+    returns-3)
