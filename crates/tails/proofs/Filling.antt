@@ -4,11 +4,12 @@ use mathlib.Core.Path.{_≡_, refl, sym, _∙_, ap}
 use mathlib.Core.Bool.{Bool, true, false, not, _&&_, and-false, true≢false}
 use mathlib.Core.List.{List}
 use mathlib.Core.Option.{Option, none, some}
-use Prim.Native.Nat.{ℕ, suc, _+_, _-_, _≤_, _<_, min, max}
+use Prim.Native.Nat.{ℕ, suc, _+_, _-_, _≤_, _<_, min}
 use native.Mathlib.Decide.{ℕ-discrete, decLe}
 use native.Mathlib.Omega.{arith}
 use lib.Dec.{eqb, ltb}
 use borrow.Author.Tests.{eq-eqb, ne-eqb, lt-ltb, le-ltb}
+use lib.IntN.{ℤ, pos}
 use lib.ListN.{length, getD, set}
 use lib.Seq.{getD-set-same, getD-set-other}
 use Rattle.limits.specs.Limits.{mostBlocks}
@@ -27,10 +28,10 @@ use Rattle.optimum.specs.Columns.{tails}
 use Rattle.optimum.proofs.Local.{Tailed, Ranked}
 use Rattle.optimum.proofs.Structure.{inside-whole, first-edge, second-edge, back-to, enters-above}
 use Rattle.optimum.proofs.Steps.{enough-steps}
-use Rattle.tails.specs.Words.{mostTail, wordOf, cap, moreCapped}
+use Rattle.tails.specs.Words.{mostTail, wordOf, greaterOf, cap, moreCapped}
 use Rattle.tails.specs.Slots.{nowhere, slotBySets}
 use Rattle.tails.specs.Passes.{closed, PassOf, tailIn, TailsIn}
-use Rattle.tails.proofs.Words.{word-max}
+use Rattle.tails.proofs.Words.{word-greater}
 use Rattle.tails.proofs.Capped.{more-capped, more-none, best-capped}
 use Rattle.tails.proofs.Passes.{passed-nested, passed-parents, passed-loops, passed-few-blocks, passed-cost, back-same}
 
@@ -39,20 +40,20 @@ abbrev valueAt : Routine → (d l x : ℕ) → Option ℕ
 valueAt t d l x = if closed t d x then none else cap mostTail (more (weight t x) (tails t l x))
 
 -- the value of block x is right
-pub record Says (t : Routine) (d : ℕ) (values : List ℕ) (x : ℕ) : Type 0 where
-  pub within : (l : ℕ) → l < loopCount t → inside t x l ≡ true → depth (t .parents) l ≡ d → wordOf (getD values x 0) ≡ valueAt t d l x
-  pub without : depth (t .parents) (loopOf t x) < d → wordOf (getD values x 0) ≡ none
+pub record Says (t : Routine) (d : ℕ) (values : List ℤ) (x : ℕ) : Type 0 where
+  pub within : (l : ℕ) → l < loopCount t → inside t x l ≡ true → depth (t .parents) l ≡ d → wordOf (getD values x (pos 0)) ≡ valueAt t d l x
+  pub without : depth (t .parents) (loopOf t x) < d → wordOf (getD values x (pos 0)) ≡ none
 
 -- the blocks from index i of the order up have their values
-abbrev pub Done : Routine → (d : ℕ) → (order values : List ℕ) → ℕ → Type 0
+abbrev pub Done : Routine → (d : ℕ) → (order : List ℕ) (values : List ℤ) → ℕ → Type 0
 Done t d order values i = (j : ℕ) → i ≤ j → j < blockCount t → Says t d values (getD order j 0)
 
 -- for every routine and depth that the pass may be about, the blocks from place i of the order up have their values
-abbrev pub Filling : (weights firstSlots secondSlots order : List ℕ) (n : ℕ) (old values : List ℕ) → ℕ → Type 0
+abbrev pub Filling : (weights : List ℤ) (firstSlots secondSlots order : List ℕ) (n : ℕ) (old values : List ℤ) → ℕ → Type 0
 Filling weights firstSlots secondSlots order n old values i =
     (t : Routine) (d : ℕ) (sets : List ℕ) → blockCount t ≡ n → PassOf t d sets weights firstSlots secondSlots order old → 1 ≤ d → Done t d order values i
 
-module _ (t : Routine) (d : ℕ) (sets weights firstSlots secondSlots order old : List ℕ) (Q : PassOf t d sets weights firstSlots secondSlots order old) where
+module _ (t : Routine) (d : ℕ) (sets : List ℕ) (weights : List ℤ) (firstSlots secondSlots order : List ℕ) (old : List ℤ) (Q : PassOf t d sets weights firstSlots secondSlots order old) where
   abbrev n : ℕ
   n = blockCount t
 
@@ -114,11 +115,11 @@ module _ (t : Routine) (d : ℕ) (sets weights firstSlots secondSlots order old 
 
   -- ---- slots
 
-  module _ (least : 1 ≤ d) (values : List ℕ) (same : (i : ℕ) → n ≤ i → getD values i 0 ≡ getD old i 0) where
-    gate-at : (k : ℕ) → k < m → wordOf (getD values (mostBlocks + k) 0) ≡ (if eqb (depthOf k) d then (if eqb k 0 then some 0 else some (cost t (header t k))) else none)
+  module _ (least : 1 ≤ d) (values : List ℤ) (same : (i : ℕ) → n ≤ i → getD values i (pos 0) ≡ getD old i (pos 0)) where
+    gate-at : (k : ℕ) → k < m → wordOf (getD values (mostBlocks + k) (pos 0)) ≡ (if eqb (depthOf k) d then (if eqb k 0 then some 0 else some (cost t (header t k))) else none)
     gate-at k h = ap wordOf (same (mostBlocks + k) (omega (arith, passed-few-blocks t (Q .passed)))) ∙ Q .gates .gate k h
 
-    nothing : wordOf (getD values nowhere 0) ≡ none
+    nothing : wordOf (getD values nowhere (pos 0)) ≡ none
     nothing = ap wordOf (same nowhere (omega (arith, passed-few-blocks t (Q .passed)))) ∙ Q .gates .empty
 
     module _ (x v : ℕ) (b : x < n) (e : edge t x v ≡ true) where
@@ -146,11 +147,11 @@ module _ (t : Routine) (d : ℕ) (sets weights firstSlots secondSlots order old 
           rw (eq-eqb (header t (loopOf t v)) v (ap (header t) (sym k) ∙ a), ne-eqb (loopOf t v) 0 z, le-ltb d (depthOf (loopOf t v)) (omega (arith, q, ap depthOf k)))
 
       -- so no value comes from a loop of depth d that x is not inside of
-      none-there : Says t d values v → ((l : ℕ) → l < m → inside t v l ≡ true → depthOf l ≡ d → inside t x l ≡ false) → wordOf (getD values v 0) ≡ none
+      none-there : Says t d values v → ((l : ℕ) → l < m → inside t v l ≡ true → depthOf l ≡ d → inside t x l ≡ false) → wordOf (getD values v (pos 0)) ≡ none
       unfolding inside
       none-there S out = go (decLe d (depthOf (loopOf t v)))
         where
-          go : Dec (d ≤ depthOf (loopOf t v)) → wordOf (getD values v 0) ≡ none
+          go : Dec (d ≤ depthOf (loopOf t v)) → wordOf (getD values v (pos 0)) ≡ none
           go (yes h) =
               let (l, low, j, q) = at-depth (t .parents) P (loopOf t v) d (N .innermost v c) least h in
               S .within l low j q ∙ rw (closed-entered l low j (out l low j q) q)
@@ -167,12 +168,12 @@ module _ (t : Routine) (d : ℕ) (sets weights firstSlots secondSlots order old 
 
       -- what the edge gives to the loop of depth d around x
       pub slot-in : (l : ℕ) → l < m → inside t x l ≡ true → depthOf l ≡ d
-          → wordOf (getD values (slotBySets sets (t .loops) (t .headers) x v) 0) ≡ cap mostTail (via t l (tails t l) x v)
+          → wordOf (getD values (slotBySets sets (t .loops) (t .headers) x v) (pos 0)) ≡ cap mostTail (via t l (tails t l) x v)
       unfolding via cap
       slot-in l h i q = go (eqb v missing) refl (backEdge t x v) refl
         where
           back : edge t x v ≡ true → backEdge t x v ≡ true → Dec (depthOf (loopOf t v) ≡ d)
-              → wordOf (getD values (mostBlocks + loopOf t v) 0)
+              → wordOf (getD values (mostBlocks + loopOf t v) (pos 0))
               ≡ cap mostTail (if not (inside t v l) then none else if not (eqb l 0) && eqb v (header t l) then some (cost t v) else none)
           back e r (yes same-depth) =
               let (z, at, own) = back-to t N x v b e r in
@@ -190,7 +191,7 @@ module _ (t : Routine) (d : ℕ) (sets weights firstSlots secondSlots order old 
               both true = refl
               both false = refl
 
-          forward : edge t x v ≡ true → backEdge t x v ≡ false → (y : Bool) → inside t v l ≡ y → wordOf (getD values v 0) ≡ cap mostTail (if not y then none else more (weight t v) (tails t l v))
+          forward : edge t x v ≡ true → backEdge t x v ≡ false → (y : Bool) → inside t v l ≡ y → wordOf (getD values v (pos 0)) ≡ cap mostTail (if not y then none else more (weight t v) (tails t l v))
           forward e r true j = later (is-forward x v e r) .within l h j q ∙ rw (open-inside x v b e l h i j q r)
           forward e r false j = none-there x v b e (later (is-forward x v e r)) (λ k low a p. out k a p (inside t x k) refl)
             where
@@ -199,20 +200,20 @@ module _ (t : Routine) (d : ℕ) (sets weights firstSlots secondSlots order old 
               out k a p false w = refl
 
           go : (gone : Bool) → eqb v missing ≡ gone → (r : Bool) → backEdge t x v ≡ r
-              → wordOf (getD values (slotBySets sets (t .loops) (t .headers) x v) 0) ≡ cap mostTail (via t l (tails t l) x v)
+              → wordOf (getD values (slotBySets sets (t .loops) (t .headers) x v) (pos 0)) ≡ cap mostTail (via t l (tails t l) x v)
           go true gone r back-is = rw (slot-same true gone, gone) nothing
           go false gone true back-is = rw (slot-same false gone, gone, back-is) (back (present gone) back-is (ℕ-discrete (depthOf (loopOf t v)) d))
           go false gone false back-is = rw (slot-same false gone, gone, back-is) (forward (present gone) back-is (inside t v l) refl)
 
       -- nothing where there is no such loop
-      pub slot-out : depthOf (loopOf t x) < d → wordOf (getD values (slotBySets sets (t .loops) (t .headers) x v) 0) ≡ none
+      pub slot-out : depthOf (loopOf t x) < d → wordOf (getD values (slotBySets sets (t .loops) (t .headers) x v) (pos 0)) ≡ none
       slot-out high = go (eqb v missing) refl (backEdge t x v) refl
         where
           out : (k : ℕ) → k < m → depthOf k ≡ d → (y : Bool) → inside t x k ≡ y → y ≡ false
           out k low p true w = absurd (omega (arith, depth-around x k b low w))
           out k low p false w = refl
 
-          go : (gone : Bool) → eqb v missing ≡ gone → (r : Bool) → backEdge t x v ≡ r → wordOf (getD values (slotBySets sets (t .loops) (t .headers) x v) 0) ≡ none
+          go : (gone : Bool) → eqb v missing ≡ gone → (r : Bool) → backEdge t x v ≡ r → wordOf (getD values (slotBySets sets (t .loops) (t .headers) x v) (pos 0)) ≡ none
           go true gone r back-is = rw (slot-same true gone) nothing
           go false gone true back-is =
               let e : edge t x v ≡ true = present gone in
@@ -226,18 +227,18 @@ module _ (t : Routine) (d : ℕ) (sets weights firstSlots secondSlots order old 
     -- ---- the tail at block x
 
     module _ (x : ℕ) (b : x < n) (later : (v : ℕ) → forwardEdge t x v ≡ true → Says t d values v) where
-      abbrev one : ℕ
-      one = getD values (getD firstSlots x 0) 0
+      abbrev one : ℤ
+      one = getD values (getD firstSlots x 0) (pos 0)
 
-      abbrev two : ℕ
-      two = getD values (getD secondSlots x 0) 0
+      abbrev two : ℤ
+      two = getD values (getD secondSlots x 0) (pos 0)
 
       exit-is : exit t ≡ length (t .loops) - 1
       exit-is = ap (λ (k : ℕ). k - 1) (sym (passed-loops t (Q .passed)))
 
       exit-gate : x ≡ exit t → (wordOf one ≡ (if eqb 1 d then some 0 else none)) × (wordOf two ≡ (if eqb 1 d then some 0 else none))
       exit-gate e =
-          let g : wordOf (getD values mostBlocks 0) ≡ (if eqb 1 d then some 0 else none) = rw (depth-root (t .parents) P) at (gate-at 0 (N .some-loop)) in
+          let g : wordOf (getD values mostBlocks (pos 0)) ≡ (if eqb 1 d then some 0 else none) = rw (depth-root (t .parents) P) at (gate-at 0 (N .some-loop)) in
           let f : getD firstSlots x 0 ≡ mostBlocks = ap (λ (k : ℕ). getD firstSlots k 0) (e ∙ exit-is) ∙ Q .first-slots .at-exit in
           let s : getD secondSlots x 0 ≡ mostBlocks = ap (λ (k : ℕ). getD secondSlots k 0) (e ∙ exit-is) ∙ Q .second-slots .at-exit in
           (rw f g, rw s g)
@@ -257,9 +258,9 @@ module _ (t : Routine) (d : ℕ) (sets weights firstSlots secondSlots order old 
           go true gone = rw gone
           go false gone = absurd (N .exit-ends v (rw e at (present gone)))
 
-      pub tail-in : (l : ℕ) → l < m → inside t x l ≡ true → depthOf l ≡ d → wordOf (max one two) ≡ cap mostTail (tails t l x)
+      pub tail-in : (l : ℕ) → l < m → inside t x l ≡ true → depthOf l ≡ d → wordOf (greaterOf one two) ≡ cap mostTail (tails t l x)
       unfolding tailAt
-      tail-in l h i q = word-max one two ∙ go (ℕ-discrete x (exit t)) (ℕ-discrete l 0) ∙ ap (cap mostTail) (sym (tailed l x h b i))
+      tail-in l h i q = word-greater one two ∙ go (ℕ-discrete x (exit t)) (ℕ-discrete l 0) ∙ ap (cap mostTail) (sym (tailed l x h b i))
         where
           go : Dec (x ≡ exit t) → Dec (l ≡ 0) → best ltb (wordOf one) (wordOf two) ≡ cap mostTail (tailAt t l (tails t l) x)
           go (yes e) (yes z) =
@@ -272,8 +273,8 @@ module _ (t : Routine) (d : ℕ) (sets weights firstSlots secondSlots order old 
               rw (first-slot ne, second-slot ne, ne-eqb x (exit t) ne, and-false (eqb l 0), slot-in x (first t x) b (first-edge t x) (later (first t x)) l h i q, slot-in x (second t x) b (second-edge t x) (later (second t x)) l h i q)
               (best-capped mostTail (via t l (tails t l) x (first t x)) (via t l (tails t l) x (second t x)))
 
-      pub tail-out : depthOf (loopOf t x) < d → wordOf (max one two) ≡ none
-      tail-out high = word-max one two ∙ go (ℕ-discrete x (exit t))
+      pub tail-out : depthOf (loopOf t x) < d → wordOf (greaterOf one two) ≡ none
+      tail-out high = word-greater one two ∙ go (ℕ-discrete x (exit t))
         where
           go : Dec (x ≡ exit t) → best ltb (wordOf one) (wordOf two) ≡ none
           go (yes e) =
@@ -292,8 +293,8 @@ module _ (t : Routine) (d : ℕ) (sets weights firstSlots secondSlots order old 
         let w : v < n = target (getD order i 0) v y e in
         rw (O .there v w) at (done (O .position v) (omega (arith, O .rises (getD order i 0) v y e, O .index i h)) (O .within v w))
 
-    pub done-set : n ≤ length values → (i : ℕ) → i < n → Done t d order values (suc i) → (v w : ℕ)
-        → v ≡ tailIn firstSlots secondSlots values (getD order i 0) → wordOf w ≡ moreCapped mostTail (wordOf (getD weights (getD order i 0) 0)) (wordOf v)
+    pub done-set : n ≤ length values → (i : ℕ) → i < n → Done t d order values (suc i) → (v w : ℤ)
+        → v ≡ tailIn firstSlots secondSlots values (getD order i 0) → wordOf w ≡ moreCapped mostTail (wordOf (getD weights (getD order i 0) (pos 0))) (wordOf v)
         → Done t d order (set values (getD order i 0) w) i
     done-set size i h done v w tail sum j a b = go (ℕ-discrete j i)
       where
@@ -303,11 +304,11 @@ module _ (t : Routine) (d : ℕ) (sets weights firstSlots secondSlots order old 
         here : x < n
         here = O .block i h
 
-        e : wordOf w ≡ moreCapped mostTail (wordOf (getD weights x 0)) (wordOf (tailIn firstSlots secondSlots values x))
+        e : wordOf w ≡ moreCapped mostTail (wordOf (getD weights x (pos 0))) (wordOf (tailIn firstSlots secondSlots values x))
         e = rw tail at sum
 
-        kept : getD (set values x w) x 0 ≡ w
-        kept = getD-set-same values x w 0 (omega (arith, here))
+        kept : getD (set values x w) x (pos 0) ≡ w
+        kept = getD-set-same values x w (pos 0) (omega (arith, here))
 
         own : (l : ℕ) → l < m → inside t x l ≡ true → depthOf l ≡ d → (y : Bool) → closed t d x ≡ y
             → wordOf w ≡ (if y then none else cap mostTail (more (weight t x) (tails t l x)))
@@ -318,14 +319,14 @@ module _ (t : Routine) (d : ℕ) (sets weights firstSlots secondSlots order old 
         said : Says t d (set values x w) x
         said = record {
           within = λ l low k q. ap wordOf kept ∙ own l low k q (closed t d x) refl;
-          without = λ high. ap wordOf kept ∙ e ∙ rw (tail-out x here (later-says i h done) high) (more-none mostTail (wordOf (getD weights x 0)));
+          without = λ high. ap wordOf kept ∙ e ∙ rw (tail-out x here (later-says i h done) high) (more-none mostTail (wordOf (getD weights x (pos 0))));
         }
 
         go : Dec (j ≡ i) → Says t d (set values x w) (getD order j 0)
         go (yes q) = rw q said
         go (no ne) =
             let apart : getD order j 0 ≡ x → ⊥ = λ q. ne (sym (O .index j b) ∙ ap (O .position) q ∙ O .index i h) in
-            let kept : getD (set values x w) (getD order j 0) 0 ≡ getD values (getD order j 0) 0 = getD-set-other values x (getD order j 0) w 0 apart in
+            let kept : getD (set values x w) (getD order j 0) (pos 0) ≡ getD values (getD order j 0) (pos 0) = getD-set-other values x (getD order j 0) w (pos 0) apart in
             let S : Says t d values (getD order j 0) = done j (omega (arith, ne)) b in
             record { within = λ l low k q. ap wordOf kept ∙ S .within l low k q; without = λ high. ap wordOf kept ∙ S .without high }
 

@@ -1,21 +1,28 @@
--- Tails in words of 64 bits that stop at a cap: what a word says.
-use Prim.Native.Nat.{ℕ, _+_, _-_, _^_, _≤_, min}
+-- Tails in signed words of 64 bits that stop at a cap: what a word says.
+use Prim.Native.Nat.{ℕ, _+_, _^_, min}
 use mathlib.Core.List.{List}
 use mathlib.Core.Option.{Option, none, some}
-use lib.Dec.{eqb}
+use lib.IntN.{ℤ, pos, negsuc}
 use lib.ListN.{getD}
+use lib.Signed.{ltZ, _≤ℤ_}
 use Rattle.lists.specs.Search.{if_then_else_}
 
 -- The cap. It is over the limits of a multiplier (2^40) and of a figure (2^60), whatever is taken off it: what is at the cap is refused.
 abbrev pub mostTail : ℕ
-mostTail = 2 ^ 62
+mostTail = 2 ^ 61
 
-abbrev pub mostWord : ℕ
-mostWord = 2 ^ 62 + 1
+-- no tail is −1
+abbrev pub noTail : ℤ
+noTail = negsuc 0
 
--- none, or a tail and 1
-unfoldable pub wordOf : ℕ → Option ℕ
-wordOf w = if eqb w 0 then none else some (w - 1)
+-- a tail is its number
+unfoldable pub wordOf : ℤ → Option ℕ
+wordOf (pos k) = some k
+wordOf (negsuc k) = none
+
+-- the greater of two
+unfoldable pub greaterOf : ℤ → ℤ → ℤ
+greaterOf a b = if ltZ a b then b else a
 
 -- k for each number over k
 unfoldable pub cap : ℕ → Option ℕ → Option ℕ
@@ -28,6 +35,10 @@ moreCapped k none o = none
 moreCapped k (some c) none = none
 moreCapped k (some c) (some a) = some (min k (min k c + a))
 
--- no word is over the greatest
-abbrev pub Low : List ℕ → Type 0
-Low words = (i : ℕ) → getD words i 0 ≤ mostWord
+-- no word is over the cap, and none is −1
+pub record Word (w : ℤ) : Type 0 where
+  pub least : noTail ≤ℤ w
+  pub most : w ≤ℤ pos mostTail
+
+abbrev pub Low : List ℤ → Type 0
+Low words = (i : ℕ) → Word (getD words i (pos 0))

@@ -5,24 +5,25 @@
 // opens the gates of the loops of its depth only, and nothing passes the header of a loop whose multiplier is not made yet: its weight is none.
 // So a pass needs no test of which loop a block is in. Mispredicted branches would cost more than all else.
 ghost use mathlib.Core.Path.{_≡_};
-ghost use Prim.Native.Nat.{ℕ, _+_, _-_, _≤_, _<_, max};
+ghost use Prim.Native.Nat.{ℕ, _-_, _≤_, _<_};
 ghost use lib.Dec.{eqb};
+ghost use lib.IntN.{pos};
 ghost use lib.ListN.{length, getD};
 ghost use Rattle.limits.specs.Limits.{mostBlocks, mostLoops};
 ghost use Rattle.lists.specs.Search.{if_then_else_};
 ghost use Rattle.nesting.specs.Columns.{Names, Innermost};
-ghost use Rattle.tails.specs.Words.{mostTail, mostWord, wordOf, moreCapped, Low};
+ghost use Rattle.tails.specs.Words.{mostTail, noTail, wordOf, greaterOf, moreCapped, Word, Low};
 ghost use Rattle.tails.specs.Slots.{places, slotBySets, SlotsOf, Slotted};
 ghost use Rattle.tails.specs.Passes.{GatesSet, Filled};
 use limits::MOST_BLOCKS;
 use limits::MOST_LOOPS;
 use loopsets::Sets;
 
-// No tail. A tail k is the word k + 1, so that the greater of two tails is the greater word.
-pub const NO_TAIL: u64 = 0;
+// No tail. It is below every tail, so that the greater of two words is the greater tail.
+pub const NO_TAIL: i64 = -1;
 
-// The greatest word: a tail of 2^62 or more.
-pub const MOST_WORD: u64 = 4611686018427387905;
+// The cap, 2^61: this tail or a greater one.
+const MOST_TAIL: i64 = 2305843009213693952;
 
 // A place for each block, a gate for each loop, and one that is always empty.
 pub const PLACES: usize = 1089;
@@ -32,40 +33,30 @@ const NOWHERE: u16 = 1088;
 // The gate of loop 0: the slot of the exit, from which no edge leads on.
 const EXIT_GATE: u16 = 1024;
 
-type Values = [u64; PLACES];
+type Values = [i64; PLACES];
 
 type Slots = [u16; MOST_BLOCKS];
 
-type Words = [u64; MOST_BLOCKS];
+type Words = [i64; MOST_BLOCKS];
 
 // ---- words
 
 // A tail and c more; none where either is none.
-fn more(c: u64, w: u64) -> u64
-    requires { ⌜ (c ≤ mostWord) × (w ≤ mostWord) ⌝ }
-    ensures { λ r. ⌜ (wordOf r ≡ moreCapped mostTail (wordOf c) (wordOf w)) × (r ≤ mostWord) ⌝ }
+fn more(c: i64, w: i64) -> i64
+    requires { ⌜ Word c × Word w ⌝ }
+    ensures { λ r. ⌜ (wordOf r ≡ moreCapped mostTail (wordOf c) (wordOf w)) × Word r ⌝ }
 {
-    if c == 0 {
+    if c < 0 {
         return NO_TAIL;
     }
-    if w == 0 {
+    if w < 0 {
         return NO_TAIL;
     }
-    let s = c - 1 + w;
-    if MOST_WORD < s {
-        return MOST_WORD;
+    let s = c + w;
+    if MOST_TAIL < s {
+        return MOST_TAIL;
     }
     s
-}
-
-// The greater of two tails.
-pub fn greater(a: u64, b: u64) -> u64
-    ensures { λ r. ⌜ r ≡ max a b ⌝ }
-{
-    if a < b {
-        return b;
-    }
-    a
 }
 
 // ---- slots
@@ -103,16 +94,16 @@ pub fn slots_of(around: &Sets, loops: &[u16], header: &[u16], next: &[u16]) -> S
 // ---- a pass
 
 // The value of a gate: the cost of the loop's header where the loop is of depth d, for loop 0 no cost.
-fn gate(l: usize, depth: u16, d: u16, cost: u32) -> u64
-    ensures { λ r. ⌜ r ≡ (if eqb depth d then (if eqb l 0 then 1 else cost + 1) else 0) ⌝ }
+fn gate(l: usize, depth: u16, d: u16, cost: u32) -> i64
+    ensures { λ r. ⌜ r ≡ (if eqb depth d then (if eqb l 0 then pos 0 else pos cost) else noTail) ⌝ }
 {
     if depth != d {
         return NO_TAIL;
     }
     if l == 0 {
-        return 1;
+        return 0;
     }
-    cost as u64 + 1
+    cost as i64
 }
 
 // Opens the gates of the loops of depth d, and closes the others.
@@ -135,15 +126,18 @@ pub fn set_gates(
 }
 
 // The tail at block x after a pass: the greater of the values in its slots.
-pub fn tail_of(values: &Values, firsts: &Slots, seconds: &Slots, x: usize) -> u64
+pub fn tail_of(values: &Values, firsts: &Slots, seconds: &Slots, x: usize) -> i64
     requires { ⌜ (x < mostBlocks) × (getD (now firsts) x 0 < places) × (getD (now seconds) x 0 < places) ⌝ }
-    ensures { λ r. ⌜ r ≡ max (getD (now (values .entry)) (getD (now (firsts .entry)) x 0) 0) (getD (now (values .entry)) (getD (now (seconds .entry)) x 0) 0) ⌝ }
+    ensures { λ r. ⌜ r ≡ greaterOf (getD (now (values .entry)) (getD (now (firsts .entry)) x 0) (pos 0)) (getD (now (values .entry)) (getD (now (seconds .entry)) x 0) (pos 0)) ⌝ }
 {
     let s = firsts[x] as usize;
     let a = values[s];
     let s = seconds[x] as usize;
     let b = values[s];
-    greater(a, b)
+    if a < b {
+        return b;
+    }
+    a
 }
 
 // The values of n blocks: from the last in a topological order to the first, so that each block comes after those that its forward edges lead to.

@@ -1,11 +1,15 @@
+use mir.Syntax.{w64}
+use mir.Val.{SFits}
+use mir.Facts.{toZ-ofZ}
 use mathlib.Core.Path.{_≡_, refl, _∙_}
 use Rattle.tails.specs.Words.{Low}
 use native.Mathlib.Omega.{arith}
 use Prim.Native.Nat.{ℕ, _≤_, _<_, _-_}
+use lib.IntN.{ℤ, pos}
 use lib.ListN.{length, getD, length-set}
 use lib.Seq.{getD-set-other}
 use Rattle.levels.proofs.Laws.{depth-least}
-use Rattle.tails.proofs.Words.{low-set}
+use Rattle.tails.proofs.Words.{greater-word, low-set}
 use Rattle.tails.proofs.Passes.{passed-parents}
 use Rattle.tails.proofs.Filling.{Filling, done-set, done-all}
 use borrow.Author.Needs.{needs}
@@ -18,7 +22,7 @@ use Rattle.tails.proofs.tail_of.Reads as tail-of-reads
 
 abbrev Inv-loop : tie.InvT-loop
 Inv-loop values₀ weights firsts seconds order n i₀ values i =
-    (i ≤ n) × (length values ≡ length values₀) × Low values × ((j : ℕ) → n ≤ j → getD values j 0 ≡ getD values₀ j 0)
+    (i ≤ n) × (length values ≡ length values₀) × Low values × ((j : ℕ) → n ≤ j → getD values j (pos 0) ≡ getD values₀ j (pos 0))
     × Filling weights firsts seconds order n values₀ values i
 
 abbrev μ-loop : tie.MeasureT-loop
@@ -64,13 +68,15 @@ more-requires c κs =
     let s = c .before .before .before .before .before .before in
     let x = getD (s .args .order .now) (c .before .before .before .before .before .loop .i - 1) 0 in
     let low = c .before .before .before .before .before .loop .inv .2 in
-    (s .pre .2 _, omega (arith, c .before .tail-of .ensures, low (getD (s .args .firsts .now) x 0), low (getD (s .args .seconds .now) x 0)))
+    let f : SFits w64 (c .before .tail-of .result) = search needs in
+    let g : SFits w64 (getD (s .args .weights .now) x (pos 0)) = search needs in
+    rw (toZ-ofZ f, toZ-ofZ g) (s .pre .2 _, rw (c .before .tail-of .ensures) (greater-word _ _ (low (getD (s .args .firsts .now) x 0)) (low (getD (s .args .seconds .now) x 0))))
 
-mul-values : tie.Need-mul-values Inv-loop μ-loop
-mul-values c = omega (arith, place (c .before .before .before .before .before .before .before) (c .before .before .before .before .before .before .loop .i - 1) (omega arith))
+mul-t20 : tie.Need-mul-t20 Inv-loop μ-loop
+mul-t20 c = omega (arith, place (c .before .before .before .before .before .before .before) (c .before .before .before .before .before .before .loop .i - 1) (omega arith))
 
-element-write-values : tie.Need-element-write-values Inv-loop μ-loop
-element-write-values c = omega (arith, place (c .before .before .before .before .before .before .before) (c .before .before .before .before .before .before .loop .i - 1) (omega arith))
+element-set-from-values : tie.Need-element-set-from-values Inv-loop μ-loop
+element-set-from-values c = omega (arith, place (c .before .before .before .before .before .before .before) (c .before .before .before .before .before .before .loop .i - 1) (omega arith))
 
 loop-less : tie.Need-loop-less Inv-loop μ-loop
 loop-less c = search needs
@@ -83,16 +89,20 @@ loop-again c =
     let i = o .i - 1 in
     let x = getD (s .args .order .now) i 0 in
     let w = c .more .result in
-    let here : x < length values = omega (arith, place s i (omega arith), s .pre .0, o .inv .1) in (
+    let f : SFits w64 (c .before .before .tail-of .result) = search needs in
+    let g : SFits w64 (getD (s .args .weights .now) x (pos 0)) = search needs in
+    let h : SFits w64 w = search needs in
+    let here : x < length values = omega (arith, place s i (omega arith), s .pre .0, o .inv .1) in
+    rw (toZ-ofZ h) (
       omega arith,
       length-set values x w ∙ o .inv .1,
       low-set values x w here (c .more .ensures .1) (o .inv .2),
-      λ j b. getD-set-other values x j w 0 (λ q. omega (arith, block s i (omega arith))) ∙ o .inv .3 j b,
+      λ j b. getD-set-other values x j w (pos 0) (λ q. omega (arith, block s i (omega arith))) ∙ o .inv .3 j b,
       λ t d sets same Q least.
           done-set t d sets (s .args .weights .now) (s .args .firsts .now) (s .args .seconds .now) (s .args .order .now) (s .args .values .now) Q least values
           (λ j b. o .inv .3 j (omega arith))
           (omega (arith, s .pre .0, o .inv .1, s .pre .3 .few)) i (omega arith)
-          (λ j a b. o .inv .4 t d sets same Q least j (omega arith) b) (c .before .before .tail-of .result) w (c .before .before .tail-of .ensures) (c .more .ensures .0),
+          (λ j a b. o .inv .4 t d sets same Q least j (omega arith) b) (c .before .before .tail-of .result) w (c .before .before .tail-of .ensures) (rw (toZ-ofZ f, toZ-ofZ g) at (c .more .ensures .0)),
     )
 
 returns : tie.Need-returns Inv-loop μ-loop
@@ -123,8 +133,8 @@ fill-values-spec =
     mul-more
     element-copy-out-more
     more-requires
-    mul-values
-    element-write-values
+    mul-t20
+    element-set-from-values
     loop-less
     loop-again
     returns)

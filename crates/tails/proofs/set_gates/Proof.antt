@@ -1,3 +1,6 @@
+use mir.Syntax.{w64}
+use mir.Val.{SFits}
+use mir.Facts.{toZ-ofZ}
 use native.Mathlib.Omega.{arith}
 use Prim.Native.Nat.{_-_}
 use lib.ListN.{length}
@@ -42,14 +45,14 @@ shared-slice-read-gate c = (c .before .before .before .before .before .before .b
 gate-requires : tie.Need-gate-requires Inv-loop μ-loop
 gate-requires c κs = search needs
 
-add-values : tie.Need-add-values Inv-loop μ-loop
-add-values c = search needs
+add-t18 : tie.Need-add-t18 Inv-loop μ-loop
+add-t18 c = search needs
 
-mul-values : tie.Need-mul-values Inv-loop μ-loop
-mul-values c = search needs
+mul-t19 : tie.Need-mul-t19 Inv-loop μ-loop
+mul-t19 c = search needs
 
-element-write-values : tie.Need-element-write-values Inv-loop μ-loop
-element-write-values c = search needs
+element-set-from-values : tie.Need-element-set-from-values Inv-loop μ-loop
+element-set-from-values c = search needs
 
 add-l : tie.Need-add-l Inv-loop μ-loop
 add-l c = search needs
@@ -61,7 +64,8 @@ loop-again : tie.Need-loop-again Inv-loop μ-loop
 loop-again c =
     let s = c .before .before .before .before .before .before .before .before in
     let o = c .before .before .before .before .before .loop in
-    setting-next (o .values) (o .l) (c .gate .result) (o .inv) (omega arith) (omega (arith, s .pre .0, s .pre .1)) (c .gate .ensures)
+    let f : SFits w64 (c .gate .result) = search needs in
+    rw (toZ-ofZ f) (setting-next (o .values) (o .l) (c .gate .result) (o .inv) (omega arith) (omega (arith, s .pre .0, s .pre .1)) (c .gate .ensures))
 
 returns : tie.Need-returns Inv-loop μ-loop
 returns c = setting-all (c .before .loop .values) (c .before .loop .l) (c .before .loop .inv) (omega arith)
@@ -81,9 +85,9 @@ set-gates-spec =
     mul-gate-2
     shared-slice-read-gate
     gate-requires
-    add-values
-    mul-values
-    element-write-values
+    add-t18
+    mul-t19
+    element-set-from-values
     add-l
     loop-less
     loop-again

@@ -4,12 +4,12 @@ use mir.Facts.{toZ-ofZ}
 use lib.IntN.{pos}
 use lib.ListN.{getD}
 use Rattle.integers.proofs.Laws.{ints}
-use Rattle.figures.proofs.Pass.{greater-first, greater-second}
+use Rattle.tails.proofs.Words.{greater-first, greater-second}
 use borrow.Author.Needs.{needs}
-use Rattle.figures.proofs.figure_of.Statement.{statement}
-use Rattle.figures.proofs.figure_of.Tie as tie
-use Rattle.figures.proofs.figure_of.Reads as reads
-use Rattle.figures.proofs.figure_of.Lts as lts
+use Rattle.tails.proofs.tail_of.Statement.{statement}
+use Rattle.tails.proofs.tail_of.Tie as tie
+use Rattle.tails.proofs.tail_of.Reads as reads
+use Rattle.tails.proofs.tail_of.Lts as lts
 
 mul-s : tie.Need-mul-s
 mul-s c = search needs
@@ -57,8 +57,8 @@ returns-2 c =
     let e = rw (toZ-ofZ f, toZ-ofZ g) at (c .if1 .left) in
     rw (toZ-ofZ f) (greater-first _ _ (omega (ints, e)))
 
-pub figure-of-spec : {M : Type 1} → statement M
-figure-of-spec =
+pub tail-of-spec : {M : Type 1} → statement M
+tail-of-spec =
     tie.close
     (tie.spec
     mul-s
