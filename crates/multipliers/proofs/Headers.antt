@@ -8,6 +8,7 @@ use native.Mathlib.Decide.{ℕ-discrete}
 use native.Mathlib.Omega.{arith}
 use lib.Dec.{eqb, ltb}
 use borrow.Author.Tests.{eqb-true, eqb-false, eq-eqb, ne-eqb, ltb-true, ltb-false, lt-ltb, le-ltb}
+use lib.IntN.{ℤ, pos, negsuc}
 use lib.ListN.{length, getD}
 use Rattle.lists.specs.Search.{if_then_else_}
 use Rattle.wcet.specs.Table.{Routine, blockCount, loopCount, cost, loopOf, header, limit, isHeader}
@@ -20,24 +21,24 @@ use Rattle.levels.specs.Levels.{depth}
 use Rattle.levels.proofs.Laws.{depth-least, depth-one}
 use Rattle.optimum.specs.Remade.{withColumns}
 use Rattle.optimum.specs.Tails.{weight}
-use Rattle.tails.specs.Words.{wordOf}
+use Rattle.tails.specs.Words.{noTail, wordOf}
 use Rattle.tails.specs.Passes.{closed, Weights}
-use Rattle.tails.proofs.Words.{no-word}
 use Rattle.multipliers.specs.Columns.{HeadersClosed, RoundsTaken}
 
 -- ---- words
 
-pub word-more : (a : ℕ) → wordOf (a + 1) ≡ some a
+pub word-more : (a : ℕ) → wordOf (pos a) ≡ some a
 unfolding wordOf
-word-more a = let e : a + 1 - 1 ≡ a = omega arith in rw (ne-eqb (a + 1) 0 (λ q. omega (arith, q)), e) refl
+word-more a = refl
 
-pub word-some : (w a : ℕ) → wordOf w ≡ some a → w ≡ a + 1
+pub no-tail : wordOf noTail ≡ none
 unfolding wordOf
-word-some w a e = go (eqb w 0) refl e
-  where
-    go : (z : Bool) → eqb w 0 ≡ z → (if z then none else some (w - 1)) ≡ some a → w ≡ a + 1
-    go true q e = absurd (Option·none-ne-some a e)
-    go false q e = let s : w - 1 ≡ a = Option·some-injective (w - 1) a e in omega (arith, eqb-false w 0 q)
+no-tail = refl
+
+pub word-some : (w : ℤ) (a : ℕ) → wordOf w ≡ some a → w ≡ pos a
+unfolding wordOf
+word-some (pos k) a e = ap pos (Option·some-injective k a e)
+word-some (negsuc k) a e = absurd (Option·none-ne-some a e)
 
 -- ---- depths
 
@@ -95,12 +96,12 @@ module _ (t : Routine) (rules : AllHold (structureRules t)) where
 
   -- ---- the first weights
 
-  pub weights-first : (made weights : List ℕ) (d : ℕ) → ((l : ℕ) → getD made l 0 ≡ 0) → ((l : ℕ) → l < loopCount t → deepOf l ≤ d)
+  pub weights-first : (made : List ℕ) (weights : List ℤ) (d : ℕ) → ((l : ℕ) → getD made l 0 ≡ 0) → ((l : ℕ) → l < loopCount t → deepOf l ≤ d)
       → HeadersClosed (t .costs) (t .headers) weights → Weights (with made) d weights
   weights-first made weights d zero most C = record { says = λ x b. unfold closed weight in says x b (isHeader t x) (eqb (loopOf t x) 0) refl refl }
     where
       says : (x : ℕ) → x < blockCount t → (h z : Bool) → isHeader t x ≡ h → eqb (loopOf t x) 0 ≡ z
-          → wordOf (getD weights x 0)
+          → wordOf (getD weights x (pos 0))
           ≡ (if (h && not z && not (ltb d (deepOf (loopOf t x)))) then none else some (if h then cost t x + getD made (loopOf t x) 0 * (limit t (loopOf t x) - 1) else cost t x))
       says x b false z a e = ap wordOf (C .plain x b (λ l p c q. true≢false (sym (is-header l x (omega (arith, R .sized .headers)) q) ∙ a))) ∙ word-more (cost t x)
       says x b true true a e =
@@ -110,39 +111,39 @@ module _ (t : Routine) (rules : AllHold (structureRules t)) where
       says x b true false a e =
           let k = loopOf t x in
           let c : k < loopCount t = N .innermost x b in
-          let w : getD weights (header t k) 0 ≡ 0 = C .closed k (omega (arith, eqb-false k 0 e)) (in-headers k c) in
-          rw (le-ltb d (deepOf k) (most k c)) (ap wordOf (rw (eqb-true (header t k) x a) at w) ∙ no-word)
+          let w : getD weights (header t k) (pos 0) ≡ noTail = C .closed k (omega (arith, eqb-false k 0 e)) (in-headers k c) in
+          rw (le-ltb d (deepOf k) (most k c)) (ap wordOf (rw (eqb-true (header t k) x a) at w) ∙ no-tail)
 
   -- ---- the next weights
 
-  module _ (d : ℕ) (deep : 1 < d) (kept depths made weights made′ weights′ : List ℕ) (same : (l : ℕ) → l < loopCount t → getD depths l 0 ≡ deepOf l)
+  module _ (d : ℕ) (deep : 1 < d) (kept : List ℤ) (depths made : List ℕ) (weights : List ℤ) (made′ : List ℕ) (weights′ : List ℤ) (same : (l : ℕ) → l < loopCount t → getD depths l 0 ≡ deepOf l)
       (W : Weights (with made) d weights) (T : RoundsTaken kept (t .costs) (t .headers) (t .limits) depths d made weights false made′ weights′) where
     apart : (k l : ℕ) → k < length (t .headers) → l < length (t .headers) → header t k ≡ header t l → k ≡ l
     apart k l a b q = sym (of-header k (header t l) (omega (arith, R .sized .headers)) q) ∙ N .own l (omega (arith, R .sized .headers))
 
-    taken-weight : (x : ℕ) → x < blockCount t → isHeader t x ≡ true → deepOf (loopOf t x) ≡ d → wordOf (getD weights′ x 0) ≡ (if closed (with made′) (d - 1) x then none else some (weight (with made′) x))
+    taken-weight : (x : ℕ) → x < blockCount t → isHeader t x ≡ true → deepOf (loopOf t x) ≡ d → wordOf (getD weights′ x (pos 0)) ≡ (if closed (with made′) (d - 1) x then none else some (weight (with made′) x))
     unfolding closed weight
     taken-weight x b h o =
         let k = loopOf t x in
         let c : k < loopCount t = N .innermost x b in
-        let e : getD weights′ (header t k) 0 ≡ cost t (header t k) + getD made′ k 0 * (limit t k - 1) + 1 = T .weighed refl apart k (in-headers k c) (same k c ∙ o) in
-        let f : getD weights′ x 0 ≡ cost t x + getD made′ k 0 * (limit t k - 1) + 1 = rw (eqb-true (header t k) x h) at e in
+        let e : getD weights′ (header t k) (pos 0) ≡ pos (cost t (header t k) + getD made′ k 0 * (limit t k - 1)) = T .weighed refl apart k (in-headers k c) (same k c ∙ o) in
+        let f : getD weights′ x (pos 0) ≡ pos (cost t x + getD made′ k 0 * (limit t k - 1)) = rw (eqb-true (header t k) x h) at e in
         rw (h, lt-ltb (d - 1) (deepOf k) (omega (arith, o))) (go (not (eqb k 0)) (ap wordOf f ∙ word-more (cost t x + getD made′ k 0 * (limit t k - 1))))
       where
         go : {o : Option ℕ} {w : Option ℕ} → (z : Bool) → w ≡ o → w ≡ (if z && false then none else o)
         go true e = e
         go false e = e
 
-    other-weight : (x : ℕ) → x < blockCount t → (isHeader t x ≡ true → deepOf (loopOf t x) ≡ d → ⊥) → wordOf (getD weights′ x 0) ≡ (if closed (with made′) (d - 1) x then none else some (weight (with made′) x))
+    other-weight : (x : ℕ) → x < blockCount t → (isHeader t x ≡ true → deepOf (loopOf t x) ≡ d → ⊥) → wordOf (getD weights′ x (pos 0)) ≡ (if closed (with made′) (d - 1) x then none else some (weight (with made′) x))
     other-weight x b ne =
-        let e : getD weights′ x 0 ≡ getD weights x 0 = T .other-weights refl x (λ l a o q. let c : l < loopCount t = omega (arith, R .sized .headers) in ne (is-header l x c q) (ap deepOf (of-header l x c q) ∙ sym (same l c) ∙ o)) in
+        let e : getD weights′ x (pos 0) ≡ getD weights x (pos 0) = T .other-weights refl x (λ l a o q. let c : l < loopCount t = omega (arith, R .sized .headers) in ne (is-header l x c q) (ap deepOf (of-header l x c q) ∙ sym (same l c) ∙ o)) in
         rw (closed-same made made′ d x (omega arith) (λ h z o. ne h o), weight-same made made′ x (λ h. T .others refl (loopOf t x) (λ o. ne h (sym (same (loopOf t x) (N .innermost x b)) ∙ o))))
         (ap wordOf e ∙ W .says x b)
 
     pub weights-next : Weights (with made′) (d - 1) weights′
     weights-next = record { says = λ x b. go x b (isHeader t x) refl (ℕ-discrete (deepOf (loopOf t x)) d) }
       where
-        go : (x : ℕ) → x < blockCount t → (h : Bool) → isHeader t x ≡ h → Dec (deepOf (loopOf t x) ≡ d) → wordOf (getD weights′ x 0) ≡ (if closed (with made′) (d - 1) x then none else some (weight (with made′) x))
+        go : (x : ℕ) → x < blockCount t → (h : Bool) → isHeader t x ≡ h → Dec (deepOf (loopOf t x) ≡ d) → wordOf (getD weights′ x (pos 0)) ≡ (if closed (with made′) (d - 1) x then none else some (weight (with made′) x))
         go x b true h (yes o) = taken-weight x b h o
         go x b true h (no ne) = other-weight x b (λ a o. ne o)
         go x b false h o = other-weight x b (λ a. absurd (true≢false (sym a ∙ h)))
@@ -150,7 +151,7 @@ module _ (t : Routine) (rules : AllHold (structureRules t)) where
   -- ---- the last weights
 
   -- only loop 0 has depth 1
-  pub weights-one : (made weights : List ℕ) → Weights (with made) 1 weights → Weights (with made) 0 weights
+  pub weights-one : (made : List ℕ) (weights : List ℤ) → Weights (with made) 1 weights → Weights (with made) 0 weights
   weights-one made weights W = record {
     says = λ x b. rw (closed-same made made 1 x (omega arith) (λ h z o. z (depth-one (t .parents) (R .parents) (loopOf t x) (N .innermost x b) o))) (W .says x b);
   }
@@ -164,7 +165,7 @@ module _ (t : Routine) (rules : AllHold (structureRules t)) where
   unfolding closed
   not-closed ks x = rw (lt-ltb 0 (deepOf (loopOf t x)) (depth-least (t .parents) (R .parents) (loopOf t x))) (none-closed (isHeader t x) (not (eqb (loopOf t x) 0)))
 
-  pub weights-last : (made ks weights : List ℕ) → Weights (with made) 0 weights → ((l : ℕ) → l < loopCount t → getD made l 0 ≡ getD ks l 0)
-      → (x : ℕ) → x < blockCount t → getD weights x 0 ≡ weight (with ks) x + 1
+  pub weights-last : (made ks : List ℕ) (weights : List ℤ) → Weights (with made) 0 weights → ((l : ℕ) → l < loopCount t → getD made l 0 ≡ getD ks l 0)
+      → (x : ℕ) → x < blockCount t → getD weights x (pos 0) ≡ pos (weight (with ks) x)
   weights-last made ks weights W same x b =
-      word-some (getD weights x 0) (weight (with ks) x) (rw (not-closed made x, weight-same ks made x (λ h. same (loopOf t x) (N .innermost x b))) at (W .says x b))
+      word-some (getD weights x (pos 0)) (weight (with ks) x) (rw (not-closed made x, weight-same ks made x (λ h. same (loopOf t x) (N .innermost x b))) at (W .says x b))

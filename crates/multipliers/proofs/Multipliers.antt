@@ -9,7 +9,7 @@ use native.Mathlib.Decide.{ℕ-discrete}
 use native.Mathlib.Omega.{arith}
 use lib.Dec.{eqb, ltb}
 use borrow.Author.Tests.{lt-ltb, le-ltb}
-use lib.IntN.{ℤ}
+use lib.IntN.{ℤ, pos}
 use lib.ListN.{length, getD}
 use Rattle.limits.specs.Limits.{mostBlocks, mostDepth}
 use Rattle.lists.specs.Search.{if_then_else_}
@@ -32,12 +32,11 @@ use Rattle.optimum.specs.Replies.{multiplierOver}
 use Rattle.optimum.proofs.Columns.{nested-too}
 use Rattle.optimum.proofs.Steps.{tails-inner}
 use Rattle.optimum.proofs.Multipliers.{loop0-multiplier, made-multiplier}
-use Rattle.tails.specs.Words.{mostTail, wordOf, cap}
+use Rattle.tails.specs.Words.{mostTail, noTail, wordOf, cap}
 use Rattle.tails.specs.Slots.{nowhere, SlotsOf}
 use Rattle.tails.specs.Passes.{Passed, GatesSet, Gates, Weights, PassOf, tailIn, Filled}
-use Rattle.tails.proofs.Words.{no-word}
 use Rattle.multipliers.specs.Columns.{HeadersClosed, keptAt, TailsKept, roundBy, RoundsTaken, MultipliedOf}
-use Rattle.multipliers.proofs.Headers.{word-more, weights-first, weights-next, weights-one, weights-last}
+use Rattle.multipliers.proofs.Headers.{word-more, no-tail, weights-first, weights-next, weights-one, weights-last}
 
 -- ---- at the limit
 
@@ -60,20 +59,20 @@ topological-with t fs ks order O = record { position = O .position; within = O .
 
 -- ---- gates
 
-gate-word : (a b : Bool) (c : ℕ) → wordOf (if a then (if b then 1 else c + 1) else 0) ≡ (if a then (if b then some 0 else some c) else none)
+gate-word : (a b : Bool) (c : ℕ) → wordOf (if a then (if b then pos 0 else pos c) else noTail) ≡ (if a then (if b then some 0 else some c) else none)
 gate-word true true c = word-more 0
 gate-word true false c = word-more c
-gate-word false b c = no-word
+gate-word false b c = no-tail
 
 -- ---- down to depth d
 
 -- the loops deeper than d are done
-pub record Multiplying (t : Routine) (made weights kept : List ℕ) (d : ℕ) : Type 0 where
+pub record Multiplying (t : Routine) (made : List ℕ) (weights kept : List ℤ) (d : ℕ) : Type 0 where
   pub done : (k : ℕ) → k < loopCount t → d < depth (t .parents) k → getD made k 0 ≡ getD (remadeMultipliers t) k 0
   pub loop0 : getD made 0 0 ≡ 0
   pub weights-say : Weights (withColumns t [] made) d weights
   pub kept-tails : (l j : ℕ) → l < loopCount t → j < loopCount t → inside t (header t l) j ≡ true → d < depth (t .parents) j
-      → wordOf (getD kept (keptAt l (depth (t .parents) j)) 0) ≡ cap mostTail (tails (remultiplied t) j (header t l))
+      → wordOf (getD kept (keptAt l (depth (t .parents) j)) (pos 0)) ≡ cap mostTail (tails (remultiplied t) j (header t l))
 
 module _ (t : Routine) (rules : AllHold (structureRules t)) (depths : List ℕ) (deepest : ℕ) (D : Deep (t .parents) depths deepest) where
   abbrev N : Nested t
@@ -88,7 +87,7 @@ module _ (t : Routine) (rules : AllHold (structureRules t)) (depths : List ℕ) 
   in-headers : (l : ℕ) → l < loopCount t → l < length (t .headers)
   in-headers l b = omega (arith, R .sized .headers)
 
-  pub multiplying-first : (made weights kept : List ℕ) → ((l : ℕ) → getD made l 0 ≡ 0) → HeadersClosed (t .costs) (t .headers) weights → Multiplying t made weights kept deepest
+  pub multiplying-first : (made : List ℕ) (weights kept : List ℤ) → ((l : ℕ) → getD made l 0 ≡ 0) → HeadersClosed (t .costs) (t .headers) weights → Multiplying t made weights kept deepest
   multiplying-first made weights kept zeros C = record {
     done = λ k b h. absurd (omega (arith, D .most k b));
     loop0 = zeros 0;
@@ -100,8 +99,8 @@ module _ (t : Routine) (rules : AllHold (structureRules t)) (depths : List ℕ) 
 
   module _ (few : deepest ≤ mostDepth) (sets firstSlots secondSlots order : List ℕ) (A : sets ≡ setsAround (t .parents)) (O : Topological t order)
       (first-slots : SlotsOf sets (t .loops) (t .headers) (t .firsts) firstSlots) (second-slots : SlotsOf sets (t .loops) (t .headers) (t .seconds) secondSlots)
-      (made weights kept : List ℕ) (d : ℕ) (some-depth : 1 ≤ d) (at-most : d ≤ deepest) (M : Multiplying t made weights kept d)
-      (low : (l : ℕ) → l < length (t .headers) → getD made l 0 ≤ 2 ^ 40) (values gated filled kept′ : List ℕ) (empty : getD values nowhere 0 ≡ 0)
+      (made : List ℕ) (weights kept : List ℤ) (d : ℕ) (some-depth : 1 ≤ d) (at-most : d ≤ deepest) (M : Multiplying t made weights kept d)
+      (low : (l : ℕ) → l < length (t .headers) → getD made l 0 ≤ 2 ^ 40) (values gated filled kept′ : List ℤ) (empty : getD values nowhere (pos 0) ≡ noTail)
       (G : GatesSet (t .costs) (t .headers) depths d values gated) (F : Filled weights firstSlots secondSlots order (blockCount t) gated filled)
       (K : TailsKept filled firstSlots secondSlots (t .headers) depths d kept kept′) where
     abbrev so-far : Routine
@@ -111,9 +110,9 @@ module _ (t : Routine) (rules : AllHold (structureRules t)) (depths : List ℕ) 
     passed = record { figures = t .figures; multipliers = t .multipliers; rules = rules; loop0-multiplier = M .loop0; multiplier-most = λ l b. low l (in-headers l b) }
 
     gates : Gates so-far d gated
-    gates = record { gate = gate; empty = ap wordOf (G .after nowhere (omega (arith, R .sized .headers, R .sized .few-loops)) ∙ empty) ∙ no-word }
+    gates = record { gate = gate; empty = ap wordOf (G .after nowhere (omega (arith, R .sized .headers, R .sized .few-loops)) ∙ empty) ∙ no-tail }
       where
-        gate : (k : ℕ) → k < loopCount t → wordOf (getD gated (mostBlocks + k) 0) ≡ (if eqb (deepOf k) d then (if eqb k 0 then some 0 else some (cost t (header t k))) else none)
+        gate : (k : ℕ) → k < loopCount t → wordOf (getD gated (mostBlocks + k) (pos 0)) ≡ (if eqb (deepOf k) d then (if eqb k 0 then some 0 else some (cost t (header t k))) else none)
         gate k b = rw (sym (D .same k b)) (ap wordOf (G .gate k (in-headers k b)) ∙ gate-word (eqb (getD depths k 0) d) (eqb k 0) (cost t (header t k)))
 
     pass : PassOf so-far d sets weights firstSlots secondSlots order gated
@@ -143,10 +142,10 @@ module _ (t : Routine) (rules : AllHold (structureRules t)) (depths : List ℕ) 
         go (no ne) = omega (arith, depth-inner (t .parents) (R .parents) l j b c (rw (N .own l b) at i) ne)
 
     kept-next : (l j : ℕ) → l < loopCount t → j < loopCount t → inside t (header t l) j ≡ true → d - 1 < deepOf j
-        → wordOf (getD kept′ (keptAt l (deepOf j)) 0) ≡ cap mostTail (tails (remultiplied t) j (header t l))
+        → wordOf (getD kept′ (keptAt l (deepOf j)) (pos 0)) ≡ cap mostTail (tails (remultiplied t) j (header t l))
     kept-next l j b c i h = go (ℕ-discrete (deepOf j) d)
       where
-        go : Dec (deepOf j ≡ d) → wordOf (getD kept′ (keptAt l (deepOf j)) 0) ≡ cap mostTail (tails (remultiplied t) j (header t l))
+        go : Dec (deepOf j ≡ d) → wordOf (getD kept′ (keptAt l (deepOf j)) (pos 0)) ≡ cap mostTail (tails (remultiplied t) j (header t l))
         go (yes o) = rw o (ap wordOf (K .kept l (in-headers l b) (omega (arith, D .same l b, not-deeper l j b c i, o))) ∙ tail-word j c o (header t l) (N .header-block l b) i)
         go (no ne) =
             ap wordOf (K .rest (keptAt l (deepOf j)) (λ k a q. omega (arith, q, D .most j c, depth-least (t .parents) (R .parents) j, ne))) ∙ M .kept-tails l j b c i (omega (arith, ne))
@@ -191,7 +190,7 @@ module _ (t : Routine) (rules : AllHold (structureRules t)) (depths : List ℕ) 
         unfolding exact
         remade = made-multiplier t N l positive b
 
-      pub multiplying-over : (made′ weights′ : List ℕ) → RoundsTaken kept′ (t .costs) (t .headers) (t .limits) depths d made weights true made′ weights′ → multiplierOver (remultiplied t) ≡ true
+      pub multiplying-over : (made′ : List ℕ) (weights′ : List ℤ) → RoundsTaken kept′ (t .costs) (t .headers) (t .limits) depths d made weights true made′ weights′ → multiplierOver (remultiplied t) ≡ true
       unfolding multiplierOver
       multiplying-over made′ weights′ T =
           let H = T .high refl in
@@ -201,7 +200,7 @@ module _ (t : Routine) (rules : AllHold (structureRules t)) (depths : List ℕ) 
           any-at (loopCount t) (λ l. ltb (2 ^ 40) (getD (remadeMultipliers t) l 0)) l b
           (lt-ltb (2 ^ 40) (getD (remadeMultipliers t) l 0) (rw (remade l b own) (over-cap (exact l b own) (rw (by-words l b own) at (H .3)))))
 
-      module _ (made′ weights′ : List ℕ) (T : RoundsTaken kept′ (t .costs) (t .headers) (t .limits) depths d made weights false made′ weights′) where
+      module _ (made′ : List ℕ) (weights′ : List ℤ) (T : RoundsTaken kept′ (t .costs) (t .headers) (t .limits) depths d made weights false made′ weights′) where
         others : (k : ℕ) → k < loopCount t → (deepOf k ≡ d → ⊥) → getD made′ k 0 ≡ getD made k 0
         others k b ne = T .others refl k (λ q. ne (sym (D .same k b) ∙ q))
 
@@ -223,10 +222,10 @@ module _ (t : Routine) (rules : AllHold (structureRules t)) (depths : List ℕ) 
 
   -- ---- the end
 
-  pub multiplied-over : (made weights kept : List ℕ) → multiplierOver (remultiplied t) ≡ true → MultipliedOf t true made weights kept
+  pub multiplied-over : (made : List ℕ) (weights kept : List ℤ) → multiplierOver (remultiplied t) ≡ true → MultipliedOf t true made weights kept
   multiplied-over made weights kept e = record { tested = sym e; same = λ q. absurd (true≢false q); weighed = λ q. absurd (true≢false q); kept-tails = λ q. absurd (true≢false q) }
 
-  pub multiplied-all : (made weights kept : List ℕ) → ((l : ℕ) → l < length (t .headers) → getD made l 0 ≤ 2 ^ 40) → Multiplying t made weights kept 0 → MultipliedOf t false made weights kept
+  pub multiplied-all : (made : List ℕ) (weights kept : List ℤ) → ((l : ℕ) → l < length (t .headers) → getD made l 0 ≤ 2 ^ 40) → Multiplying t made weights kept 0 → MultipliedOf t false made weights kept
   unfolding multiplierOver
   multiplied-all made weights kept low M = record {
     tested = sym (any-none (loopCount t) (λ l. ltb (2 ^ 40) (getD (remadeMultipliers t) l 0)) (λ l b. le-ltb (2 ^ 40) (getD (remadeMultipliers t) l 0) (omega (arith, low l (in-headers l b), all l b))));

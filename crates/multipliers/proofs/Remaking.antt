@@ -7,7 +7,9 @@ use native.Mathlib.Decide.{ℕ-discrete}
 use native.Mathlib.Omega.{arith}
 use lib.Dec.{eqb, ltb}
 use borrow.Author.Tests.{ltb-true, ltb-false}
-use lib.ListN.{length, getD, replicate}
+use lib.IntN.{ℤ, pos}
+use lib.ListN.{length, getD, replicate, getD-replicate}
+use lib.Signed.{_≤ℤ_}
 use Rattle.limits.specs.Limits.{mostBlocks, mostLoops}
 use Rattle.lists.specs.Search.{if_then_else_}
 use Rattle.wcet.specs.Table.{Routine, blockCount}
@@ -16,17 +18,18 @@ use Rattle.wcet.specs.Claim.{AllHold}
 use Rattle.loopsets.specs.Sets.{setsAround}
 use Rattle.order.specs.Ordering.{Topological}
 use Rattle.levels.specs.Levels.{Deep}
-use Rattle.tails.specs.Words.{mostWord, Low}
+use Rattle.integers.proofs.Laws.{ints}
+use Rattle.tails.specs.Words.{noTail, Word, Low}
 use Rattle.tails.specs.Slots.{places, nowhere, SlotsOf}
 use Rattle.tails.specs.Passes.{GatesSet, Filled}
 use Rattle.multipliers.specs.Columns.{HeadersClosed, TailsKept, RoundsTaken, Readied, Multiplied, MultipliedOf}
-use Rattle.multipliers.proofs.Weights.{zeros}
+use Rattle.multipliers.proofs.Weights.{none-low, cost-word}
 use Rattle.multipliers.proofs.Multipliers.{Multiplying, multiplying-first, multiplying-last, multiplying-over, multiplying-next, multiplied-over, multiplied-all}
 
-gate-low : (a b : Bool) (c : ℕ) → c ≤ 1000000 → (if a then (if b then 1 else c + 1) else 0) ≤ mostWord
-gate-low true true c h = omega arith
-gate-low true false c h = omega arith
-gate-low false b c h = omega arith
+gate-low : (a b : Bool) (c : ℕ) → c ≤ 1000000 → Word (if a then (if b then pos 0 else pos c) else noTail)
+gate-low true true c h = record { least = omega ints; most = omega ints }
+gate-low true false c h = cost-word c (omega arith)
+gate-low false b c h = record { least = omega ints; most = omega ints }
 
 module _ (costs headers limits depths : List ℕ) (deepest : ℕ) (firstSlots secondSlots order : List ℕ) where
   -- a routine that this may be about
@@ -42,11 +45,11 @@ module _ (costs headers limits depths : List ℕ) (deepest : ℕ) (firstSlots se
     pub second-slots : SlotsOf sets (t .loops) (t .headers) (t .seconds) secondSlots
 
   -- the loops deeper than d are done
-  pub record Remaking (values made weights kept : List ℕ) (d : ℕ) : Type 0 where
+  pub record Remaking (values : List ℤ) (made : List ℕ) (weights kept : List ℤ) (d : ℕ) : Type 0 where
     pub at-most : d ≤ deepest
     pub values-size : length values ≡ places
     pub values-low : Low values
-    pub empty : getD values nowhere 0 ≡ 0
+    pub empty : getD values nowhere (pos 0) ≡ noTail
     pub made-size : length made ≡ mostLoops
     pub made-low : (l : ℕ) → l < length headers → getD made l 0 ≤ 2 ^ 40
     pub weights-size : length weights ≡ mostBlocks
@@ -56,13 +59,13 @@ module _ (costs headers limits depths : List ℕ) (deepest : ℕ) (firstSlots se
     pub says : (t : Routine) (sets : List ℕ) → About t sets → Multiplying t made weights kept d
 
   module _ (Y : Readied costs headers limits deepest firstSlots secondSlots order) where
-    pub remaking-first : (made weights kept : List ℕ) → length made ≡ mostLoops → ((l : ℕ) → getD made l 0 ≡ 0) → length kept ≡ mostBlocks → Low kept
-        → HeadersClosed costs headers weights → Remaking (replicate places 0) made weights kept deepest
+    pub remaking-first : (made : List ℕ) (weights kept : List ℤ) → length made ≡ mostLoops → ((l : ℕ) → getD made l 0 ≡ 0) → length kept ≡ mostBlocks → Low kept
+        → HeadersClosed costs headers weights → Remaking (replicate places noTail) made weights kept deepest
     remaking-first made weights kept s z k low C = record {
       at-most = omega arith;
       values-size = refl;
-      values-low = λ i. omega (arith, zeros places i);
-      empty = zeros places nowhere;
+      values-low = none-low places;
+      empty = getD-replicate places nowhere noTail (pos 0) (omega arith);
       made-size = s;
       made-low = λ l b. omega (arith, z l);
       weights-size = C .size;
@@ -72,26 +75,26 @@ module _ (costs headers limits depths : List ℕ) (deepest : ℕ) (firstSlots se
       says = λ t sets A. multiplying-first t (A .rules) depths deepest (A .deep) made weights kept z (rw (sym (A .costs-same), sym (A .headers-same)) at C);
     }
 
-    module _ (values made weights kept : List ℕ) (d : ℕ) (some-depth : 0 < d) (M : Remaking values made weights kept d) (gated : List ℕ) (G : GatesSet costs headers depths d values gated) where
+    module _ (values : List ℤ) (made : List ℕ) (weights kept : List ℤ) (d : ℕ) (some-depth : 0 < d) (M : Remaking values made weights kept d) (gated : List ℤ) (G : GatesSet costs headers depths d values gated) where
       -- the gates are low
       pub gated-low : Low gated
       gated-low i = go (ltb i mostBlocks) (ltb i (mostBlocks + length headers)) refl refl
         where
-          go : (a b : Bool) → ltb i mostBlocks ≡ a → ltb i (mostBlocks + length headers) ≡ b → getD gated i 0 ≤ mostWord
+          go : (a b : Bool) → ltb i mostBlocks ≡ a → ltb i (mostBlocks + length headers) ≡ b → Word (getD gated i (pos 0))
           go true b p q = rw (G .rest i (ltb-true i mostBlocks p)) (M .values-low i)
           go false true p q =
               let l = i - mostBlocks in
               let e : mostBlocks + l ≡ i = omega (arith, ltb-false i mostBlocks p) in
               let c : l < length headers = omega (arith, ltb-true i (mostBlocks + length headers) q, ltb-false i mostBlocks p) in
-              let g : getD gated i 0 ≡ (if eqb (getD depths l 0) d then (if eqb l 0 then 1 else getD costs (getD headers l 0) 0 + 1) else 0) = rw e at (G .gate l c) in
+              let g : getD gated i (pos 0) ≡ (if eqb (getD depths l 0) d then (if eqb l 0 then pos 0 else pos (getD costs (getD headers l 0) 0)) else noTail) = rw e at (G .gate l c) in
               rw g (gate-low (eqb (getD depths l 0) d) (eqb l 0) (getD costs (getD headers l 0) 0) (Y .cost-most (getD headers l 0) (Y .header-block l c)))
           go false false p q = rw (G .after i (ltb-false i (mostBlocks + length headers) q)) (M .values-low i)
 
       pub gated-size : length gated ≡ places
       gated-size = G .size ∙ M .values-size
 
-      module _ (filled : List ℕ) (F : Filled weights firstSlots secondSlots order (length costs) gated filled) (kept′ : List ℕ) (K : TailsKept filled firstSlots secondSlots headers depths d kept kept′) where
-        still-empty : getD filled nowhere 0 ≡ 0
+      module _ (filled : List ℤ) (F : Filled weights firstSlots secondSlots order (length costs) gated filled) (kept′ : List ℤ) (K : TailsKept filled firstSlots secondSlots headers depths d kept kept′) where
+        still-empty : getD filled nowhere (pos 0) ≡ noTail
         still-empty = F .rest nowhere (omega (arith, Y .slotted .few)) ∙ G .after nowhere (omega (arith, Y .few-loops)) ∙ M .empty
 
         pub kept-again : Low kept′
@@ -116,7 +119,7 @@ module _ (costs headers limits depths : List ℕ) (deepest : ℕ) (firstSlots se
               multiplying-last t (A .rules) depths deepest (A .deep) (Y .deep) sets firstSlots secondSlots order (A .sets-around) (A .ordered) (A .first-slots) (A .second-slots) made weights kept d some-depth
               (M .at-most) (M .says t sets A) its-low values gated filled kept′ (M .empty) its-gates its-values its-tails
 
-          module _ (deep : 1 < d) (made′ weights′ : List ℕ) where
+          module _ (deep : 1 < d) (made′ : List ℕ) (weights′ : List ℤ) where
             its-over : RoundsTaken kept′ costs headers limits depths d made weights true made′ weights′ → MultipliedOf t true made′ weights′ kept′
             its-over T =
                 multiplied-over t (A .rules) depths deepest (A .deep) made′ weights′ kept′
@@ -146,7 +149,7 @@ module _ (costs headers limits depths : List ℕ) (deepest : ℕ) (firstSlots se
           says = λ t sets A. let z : d - 1 ≡ 0 = omega arith in rw z (its-last t sets A one);
         }
 
-        module _ (deep : 1 < d) (over : Bool) (made′ weights′ : List ℕ) (taken : RoundsTaken kept′ costs headers limits depths d made weights over made′ weights′) where
+        module _ (deep : 1 < d) (over : Bool) (made′ : List ℕ) (weights′ : List ℤ) (taken : RoundsTaken kept′ costs headers limits depths d made weights over made′ weights′) where
           pub remaking-next : over ≡ false → Remaking filled made′ weights′ kept′ (d - 1)
           remaking-next e = record {
             at-most = omega (arith, M .at-most);
@@ -178,7 +181,7 @@ module _ (costs headers limits depths : List ℕ) (deepest : ℕ) (firstSlots se
           }
 
   -- at depth 0 all are done
-  pub remaking-all : (values made weights kept : List ℕ) → Remaking values made weights kept 0 → Multiplied costs headers limits depths deepest firstSlots secondSlots order false made weights kept
+  pub remaking-all : (values : List ℤ) (made : List ℕ) (weights kept : List ℤ) → Remaking values made weights kept 0 → Multiplied costs headers limits depths deepest firstSlots secondSlots order false made weights kept
   remaking-all values made weights kept M = record {
     low = λ q. M .made-low;
     kept-low = M .kept-low;

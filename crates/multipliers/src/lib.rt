@@ -2,10 +2,11 @@
 // them the weights of the blocks, and for each loop the tails at its header, which the figures are made from.
 ghost use mathlib.Core.Path.{_≡_};
 ghost use Prim.Native.Nat.{ℕ, _+_, _*_, _-_, _^_, _≤_, _<_};
+ghost use lib.IntN.{pos};
 ghost use lib.ListN.{length, getD};
 ghost use Rattle.limits.specs.Limits.{mostBlocks, mostLoops, mostDepth};
 ghost use Rattle.optimum.specs.Columns.{orDefault};
-ghost use Rattle.tails.specs.Words.{wordOf, Low};
+ghost use Rattle.tails.specs.Words.{wordOf, Word, Low};
 ghost use Rattle.tails.specs.Slots.{places};
 ghost use Rattle.multipliers.specs.Columns.{CostWeights, HeadersClosed, TailsKept, RoundsTaken, Readied, Multiplied};
 use limits::MOST_BLOCKS;
@@ -14,11 +15,11 @@ use tails::NO_TAIL;
 use tails::PLACES;
 
 // For each block a weight or a tail, or none.
-type Words = [u64; MOST_BLOCKS];
+type Words = [i64; MOST_BLOCKS];
 
 type Slots = [u16; MOST_BLOCKS];
 
-type Values = [u64; PLACES];
+type Values = [i64; PLACES];
 
 // For each loop its multiplier.
 type Multipliers = [u64; MOST_LOOPS];
@@ -35,7 +36,7 @@ fn cost_weights(cost: &[u32]) -> Words
     let mut weights = [NO_TAIL; MOST_BLOCKS];
     let mut x = 0;
     while x < cost.len() {
-        weights[x] = cost[x] as u64 + 1;
+        weights[x] = cost[x] as i64;
         x += 1;
     }
     weights
@@ -57,23 +58,23 @@ pub fn first_weights(cost: &[u32], header: &[u16]) -> Words
 }
 
 // The weight of an edge to the header of a loop: all rounds that the limit allows after the first visit are charged where the loop is entered.
-fn entry_weight(cost: u32, multiplier: u64, limit: u32) -> u64
+fn entry_weight(cost: u32, multiplier: u64, limit: u32) -> i64
     requires { ⌜ (cost ≤ 1000000) × (multiplier ≤ 2 ^ 40) × (1 ≤ limit) × (limit ≤ 65535) ⌝ }
-    ensures { λ r. ⌜ (r ≡ cost + multiplier * (limit - 1)) × (r ≤ 2 ^ 57) ⌝ }
+    ensures { λ r. ⌜ (r ≡ pos (cost + multiplier * (limit - 1))) × Word r ⌝ }
 {
-    cost as u64 + multiplier * (limit as u64 - 1)
+    (cost as u64 + multiplier * (limit as u64 - 1)) as i64
 }
 
 // ---- rounds
 
 // A tail at a loop's header, 0 where there is none.
-fn round_of(w: u64) -> u64
+fn round_of(w: i64) -> u64
     ensures { λ r. ⌜ r ≡ orDefault 0 (wordOf w) ⌝ }
 {
-    if w == 0 {
+    if w < 0 {
         return 0;
     }
-    w - 1
+    w as u64
 }
 
 // Keeps the tails of the loops of depth d at the headers of the loops inside them, and of their own: 16 places for each loop, one for each depth.
@@ -124,7 +125,7 @@ fn take_rounds(
             }
             made[l] = k;
             let h = header[l] as usize;
-            weights[h] = entry_weight(cost[h], k, limit[l]) + 1;
+            weights[h] = entry_weight(cost[h], k, limit[l]);
         }
         l += 1;
     }

@@ -1,8 +1,10 @@
+use mir.Syntax.{w64}
+use mir.Facts.{toZ-pos}
 use native.Mathlib.Omega.{arith}
-use lib.ListN.{length}
-use Prim.Native.Nat.{_≤_, _-_}
+use lib.ListN.{length, getD}
+use Prim.Native.Nat.{_^_, _≤_, _<_, _-_}
 use mathlib.Core.Path.{_≡_, refl}
-use Rattle.multipliers.proofs.Weights.{Weighing, weighing-first, weighing-set, weighing-all}
+use Rattle.multipliers.proofs.Weights.{cost-word, Weighing, weighing-first, weighing-set, weighing-all}
 use borrow.Author.Needs.{needs}
 use Rattle.multipliers.proofs.cost_weights.Statement.{statement}
 use Rattle.multipliers.proofs.cost_weights.Tie as tie
@@ -27,14 +29,11 @@ shared-slice-read-weights c = search needs
 cast-weights : tie.Need-cast-weights Inv-loop μ-loop
 cast-weights c = omega (arith, c .shared-slice-known .given (c .before .before .loop .x))
 
-add-weights : tie.Need-add-weights Inv-loop μ-loop
-add-weights c = omega (arith, c .shared-slice-known .given (c .before .before .loop .x))
-
 mul-weights-2 : tie.Need-mul-weights-2 Inv-loop μ-loop
 mul-weights-2 c = search needs
 
-array-write-weights : tie.Need-array-write-weights Inv-loop μ-loop
-array-write-weights c = search needs
+array-set-from-weights : tie.Need-array-set-from-weights Inv-loop μ-loop
+array-set-from-weights c = search needs
 
 add-x : tie.Need-add-x Inv-loop μ-loop
 add-x c = search needs
@@ -43,7 +42,11 @@ loop-less : tie.Need-loop-less Inv-loop μ-loop
 loop-less c = search needs
 
 loop-again : tie.Need-loop-again Inv-loop μ-loop
-loop-again c = (omega arith, weighing-set _ (c .before .before .loop .weights) (c .before .before .loop .x) _ (c .before .before .loop .inv .1) (omega (arith, (c .before .before .before) .pre)) refl (omega (arith, c .shared-slice-known .given (c .before .before .loop .x))))
+loop-again c =
+    let loop = c .before .before .loop in
+    let low : getD ((c .before .before .before) .args .cost .now) (loop .x) 0 < 2 ^ 32 = omega (arith, c .shared-slice-known .given (loop .x)) in
+    rw (toZ-pos w64 {n = getD ((c .before .before .before) .args .cost .now) (loop .x) 0} (omega arith))
+    (omega arith, weighing-set _ (loop .weights) (loop .x) _ (loop .inv .1) (omega (arith, (c .before .before .before) .pre)) refl (cost-word _ low))
 
 returns : tie.Need-returns Inv-loop μ-loop
 returns c = let done : (c .before .loop .x) ≡ length ((c .before .before) .args .cost .now) = omega arith in weighing-all _ (c .before .loop .weights) (rw done at (c .before .loop .inv .1))
@@ -58,9 +61,8 @@ cost-weights-spec =
     mul-weights
     shared-slice-read-weights
     cast-weights
-    add-weights
     mul-weights-2
-    array-write-weights
+    array-set-from-weights
     add-x
     loop-less
     loop-again

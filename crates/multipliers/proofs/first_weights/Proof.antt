@@ -33,8 +33,8 @@ cast-h c = omega (arith, (c .before .before .before .before .before .before) .pr
 mul-weights : tie.Need-mul-weights Inv-loop μ-loop
 mul-weights c = omega (arith, (c .before .before .before .before .before .before) .pre .1 (c .before .before .loop .l) (omega arith))
 
-array-write-weights : tie.Need-array-write-weights Inv-loop μ-loop
-array-write-weights c = (c .before .before .before .before .before .before) .pre .1 (c .before .before .loop .l) (omega arith)
+array-set-of-weights : tie.Need-array-set-of-weights Inv-loop μ-loop
+array-set-of-weights c = (c .before .before .before .before .before .before) .pre .1 (c .before .before .loop .l) (omega arith)
 
 add-l : tie.Need-add-l Inv-loop μ-loop
 add-l c = search needs
@@ -60,7 +60,7 @@ first-weights-spec =
     shared-slice-read-h
     cast-h
     mul-weights
-    array-write-weights
+    array-set-of-weights
     add-l
     loop-less
     loop-again

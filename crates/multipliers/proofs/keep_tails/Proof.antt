@@ -1,3 +1,6 @@
+use mir.Syntax.{w64}
+use mir.Val.{SFits}
+use mir.Facts.{toZ-ofZ}
 use native.Mathlib.Omega.{arith}
 use lib.ListN.{length}
 use Prim.Native.Nat.{_≤_, _-_}
@@ -47,11 +50,11 @@ sub-at c = omega (arith, (c .before .before .before .before .before .before) .pr
 tail-of-requires : tie.Need-tail-of-requires Inv-loop μ-loop
 tail-of-requires c κs = (c .before .before .before .before .before .before) .pre .4 (c .before .before .before .before .loop .l) (omega arith)
 
-mul-kept : tie.Need-mul-kept Inv-loop μ-loop
-mul-kept c = omega (arith, (c .before .before .before .before .before .before .before) .pre .3, (c .before .before .before .before .before .before .before) .pre .2)
+mul-t16 : tie.Need-mul-t16 Inv-loop μ-loop
+mul-t16 c = omega (arith, (c .before .before .before .before .before .before .before) .pre .3, (c .before .before .before .before .before .before .before) .pre .2)
 
-element-write-kept : tie.Need-element-write-kept Inv-loop μ-loop
-element-write-kept c = omega (arith, (c .before .before .before .before .before .before .before) .pre .3, (c .before .before .before .before .before .before .before) .pre .2, (c .before .before .before .before .before .before .before) .pre .1)
+element-set-from-kept : tie.Need-element-set-from-kept Inv-loop μ-loop
+element-set-from-kept c = omega (arith, (c .before .before .before .before .before .before .before) .pre .3, (c .before .before .before .before .before .before .before) .pre .2, (c .before .before .before .before .before .before .before) .pre .1)
 
 add-l : tie.Need-add-l Inv-loop μ-loop
 add-l c = omega (arith, (c .before .before .before .before .before) .pre .3)
@@ -65,7 +68,7 @@ loop-again c =
     let loop = c .before .before .before .loop in (
       omega arith,
       ⊎-elim
-          (λ w. rw (w .3) (keeping-set _ _ _ _ _ _ _ (loop .kept) (loop .l) (loop .inv .1) (omega (arith, p .3)) (p .1) (p .2) _ (w .2 .ensures)))
+          (λ w. let f : SFits w64 (w .2 .result) = search needs in rw (w .3, toZ-ofZ f) (keeping-set _ _ _ _ _ _ _ (loop .kept) (loop .l) (loop .inv .1) (omega (arith, p .3)) (p .1) (p .2) _ (w .2 .ensures)))
           (λ w. rw (w .1) (keeping-skip _ _ _ _ _ _ _ (loop .kept) (loop .l) (loop .inv .1) (omega (arith, w .0 .left))))
           (c .if1 .came),
     )
@@ -89,8 +92,8 @@ keep-tails-spec =
     add-at
     sub-at
     tail-of-requires
-    mul-kept
-    element-write-kept
+    mul-t16
+    element-set-from-kept
     add-l
     loop-less
     loop-again

@@ -1,5 +1,10 @@
+use mir.Syntax.{w64}
+use mir.Val.{SFits}
+use mir.Facts.{toZ-ofZ}
 use native.Mathlib.Omega.{arith}
-use lib.ListN.{length}
+use lib.IntN.{pos}
+use lib.ListN.{length, getD}
+use Rattle.multipliers.specs.Columns.{keptAt}
 use Prim.Native.Nat.{_≤_, _-_}
 use mathlib.Core.Path.{_≡_}
 use mathlib.Core.Logic.{⊎-elim}
@@ -46,7 +51,10 @@ round-of-requires : tie.Need-round-of-requires Inv-loop μ-loop
 round-of-requires c κs = search needs
 
 returns : tie.Need-returns Inv-loop μ-loop
-returns c = taking-over _ _ _ _ _ _ _ _ (c .before .before .before .before .before .before .loop .made) (c .before .before .before .before .before .before .loop .weights) (c .before .before .before .before .before .before .loop .l) (c .before .before .before .before .before .before .loop .inv .1) (omega arith) (c .before .before .before .if1 .taken) _ (c .before .round-of .ensures) (c .if2 .taken)
+returns c =
+    let s = c .before .before .before .before .before .before .before .before .before .before in
+    let f : SFits w64 (getD (s .args .kept .now) (keptAt (c .before .before .before .before .before .before .loop .l) (s .args .d)) (pos 0)) = search needs in
+    taking-over _ _ _ _ _ _ _ _ (c .before .before .before .before .before .before .loop .made) (c .before .before .before .before .before .before .loop .weights) (c .before .before .before .before .before .before .loop .l) (c .before .before .before .before .before .before .loop .inv .1) (omega arith) (c .before .before .before .if1 .taken) _ (rw (toZ-ofZ f) at (c .before .round-of .ensures)) (c .if2 .taken)
 
 mul-made : tie.Need-mul-made Inv-loop μ-loop
 mul-made c = omega (arith, (c .before .before .before .before .before .before .before .before .before .before) .pre .4)
@@ -78,14 +86,11 @@ shared-slice-read-entry-weight-2 c = omega (arith, (c .before .before .before .b
 entry-weight-requires : tie.Need-entry-weight-requires Inv-loop μ-loop
 entry-weight-requires c κs = let p = (c .before .before .before .before .before .before .before .before .before .before .before .before .before) .pre .7 (c .before .before .before .before .before .before .before .before .before .loop .l) (omega arith) in ((c .before .before .before .before .before .before .before .before .before .before .before .before .before) .pre .8 _ (p .0), omega (arith, c .before .before .before .if2 .left), p .1, p .2)
 
-add-weights : tie.Need-add-weights Inv-loop μ-loop
-add-weights c = omega (arith, c .entry-weight .ensures .1)
+mul-t19 : tie.Need-mul-t19 Inv-loop μ-loop
+mul-t19 c = omega (arith, (c .before .before .before .before .before .before .before .before .before .before .before .before .before .before) .pre .7 (c .before .before .before .before .before .before .before .before .before .before .loop .l) (omega arith) .0, (c .before .before .before .before .before .before .before .before .before .before .before .before .before .before) .pre .6)
 
-mul-weights : tie.Need-mul-weights Inv-loop μ-loop
-mul-weights c = omega (arith, (c .before .before .before .before .before .before .before .before .before .before .before .before .before .before) .pre .7 (c .before .before .before .before .before .before .before .before .before .before .loop .l) (omega arith) .0, (c .before .before .before .before .before .before .before .before .before .before .before .before .before .before) .pre .6)
-
-element-write-weights : tie.Need-element-write-weights Inv-loop μ-loop
-element-write-weights c = omega (arith, (c .before .before .before .before .before .before .before .before .before .before .before .before .before .before) .pre .7 (c .before .before .before .before .before .before .before .before .before .before .loop .l) (omega arith) .0, (c .before .before .before .before .before .before .before .before .before .before .before .before .before .before) .pre .6)
+element-set-from-weights : tie.Need-element-set-from-weights Inv-loop μ-loop
+element-set-from-weights c = omega (arith, (c .before .before .before .before .before .before .before .before .before .before .before .before .before .before) .pre .7 (c .before .before .before .before .before .before .before .before .before .before .loop .l) (omega arith) .0, (c .before .before .before .before .before .before .before .before .before .before .before .before .before .before) .pre .6)
 
 add-l : tie.Need-add-l Inv-loop μ-loop
 add-l c = omega (arith, (c .before .before .before .before .before .before .before) .pre .4)
@@ -96,10 +101,14 @@ loop-less c = search needs
 loop-again : tie.Need-loop-again Inv-loop μ-loop
 loop-again c =
     let p = (c .before .before .before .before .before .before .before) .pre in
-    let loop = c .before .before .before .loop in (
+    let loop = c .before .before .before .loop in
+    let a = (c .before .before .before .before .before .before .before) .args in (
       omega arith,
       ⊎-elim
-          (λ w. rw (w .8, w .9) (taking-set _ _ _ _ _ _ _ _ (loop .made) (loop .weights) (loop .l) (loop .inv .1) (omega arith) (p .4) (omega (arith, p .7 (loop .l) (omega arith) .0, p .6)) (w .0 .taken) _ _ (w .2 .ensures) (omega (arith, w .3 .left)) (omega (arith, w .7 .ensures .0)) (omega (arith, w .7 .ensures .1))))
+          (λ w.
+          let f : SFits w64 (w .7 .result) = search needs in
+          let g : SFits w64 (getD (a .kept .now) (keptAt (loop .l) (a .d)) (pos 0)) = search needs in
+          rw (w .8, w .9, toZ-ofZ f) (taking-set _ _ _ _ _ _ _ _ (loop .made) (loop .weights) (loop .l) (loop .inv .1) (omega arith) (p .4) (omega (arith, p .7 (loop .l) (omega arith) .0, p .6)) (w .0 .taken) _ _ (rw (toZ-ofZ g) at (w .2 .ensures)) (omega (arith, w .3 .left)) (w .7 .ensures .0) (w .7 .ensures .1)))
           (λ w. rw (w .1, w .2) (taking-skip _ _ _ _ _ _ _ _ (loop .made) (loop .weights) (loop .l) (loop .inv .1) (omega arith) (w .0 .left)))
           (c .if1 .came),
     )
@@ -133,9 +142,8 @@ take-rounds-spec =
     mul-entry-weight-2
     shared-slice-read-entry-weight-2
     entry-weight-requires
-    add-weights
-    mul-weights
-    element-write-weights
+    mul-t19
+    element-set-from-weights
     add-l
     loop-less
     loop-again
