@@ -36,11 +36,12 @@ use Rattle.optimum.proofs.Structure.{first-edge, second-edge, target-loop, back
 use Rattle.optimum.proofs.Filled.{figure-least}
 use Rattle.optimum.proofs.Remade.{remultiplied-nested, made-figure}
 use Rattle.optimum.proofs.Edges.{asks, figure-exit, figure-most, figure-attained}
+use Rattle.tails.specs.Words.{greaterOf}
 use Rattle.tails.specs.Slots.{nowhere, slotBySets, SlotsOf}
 use Rattle.multipliers.specs.Columns.{MultipliedOf}
-use Rattle.figures.specs.Figures.{noFigure, greaterOf}
+use Rattle.figures.specs.Figures.{noFigure}
 use Rattle.figures.specs.Columns.{GatesOf, slotValue, Equations, FiguresFilled, FiguredOf}
-use Rattle.figures.proofs.Pass.{greater-first, greater-second}
+use Rattle.tails.proofs.Words.{greater-first, greater-second}
 
 -- one of two that is not below the other is the greater
 greatest : (f a b : ℤ) → a ≤ℤ f → b ≤ℤ f → (f ≡ a) ⊎ (f ≡ b) → f ≡ greaterOf a b
@@ -53,7 +54,7 @@ greatest f a b p q (inr e) = go (ltZ a b) refl
 
 module _ (t : Routine) (rules : AllHold (structureRules t)) (declared : undeclaredLoop t ≡ false) (paths : (u : ℕ) → u < blockCount t → PathToExit t u)
     (sets : List ℕ) (around-sets : sets ≡ setsAround (t .parents)) (order : List ℕ) (O : Topological t order)
-    (made weights kept : List ℕ) (M : MultipliedOf t false made weights kept) (gates : List ℤ) (G : GatesOf t false gates) where
+    (made : List ℕ) (weights kept : List ℤ) (M : MultipliedOf t false made weights kept) (gates : List ℤ) (G : GatesOf t false gates) where
   abbrev n : ℕ
   n = blockCount t
 
@@ -117,7 +118,7 @@ module _ (t : Routine) (rules : AllHold (structureRules t)) (declared : undeclar
     asked-on : backEdge t x v ≡ false → value v ≡ asks t x v
     unfolding asks
     asked-on r =
-        let w : getD weights v 0 - 1 ≡ weight (remultiplied t) v = omega (arith, M .weighed refl v c) in
+        let w : getD weights v (pos 0) ≡ pos (weight (remultiplied t) v) = M .weighed refl v c in
         rw (lt-ltb v n c, r, w) (omega (ints, sum (F v) (pos (weight (remultiplied t) v)), sum (pos (weight (remultiplied t) v)) (F v)))
 
     forward : backEdge t x v ≡ false → O .position x < O .position v

@@ -48,7 +48,7 @@ module _ (t : Routine) (rules : AllHold (structureRules t)) (declared : undeclar
     head-figure : HeadsFigured t false heads → (l : ℕ) → l < loopCount t → getD heads l (pos 0) ≡ getD (remadeFigures t) (header t l) (pos 0)
     head-figure H l b = figure-same (getD heads l (pos 0)) (getD (remadeFigures t) (header t l) (pos 0)) (H .same refl l b ∙ made-figure t N declared paths (header t l) (N .header-block l b))
 
-    gates-of : (made weights kept : List ℕ) → MultipliedOf t false made weights kept → HeadsFigured t false heads → (old gates : List ℤ) → GatesSet (t .costs) (t .headers) made heads old gates
+    gates-of : (made : List ℕ) (weights kept : List ℤ) → MultipliedOf t false made weights kept → HeadsFigured t false heads → (old gates : List ℤ) → GatesSet (t .costs) (t .headers) made heads old gates
         → getD old nowhere (pos 0) ≡ noFigure → GatesOf t false gates
     gates-of made weights kept M H old gates G empty = record {
       exit-gate = λ q. G .exit-gate;
@@ -59,7 +59,7 @@ module _ (t : Routine) (rules : AllHold (structureRules t)) (declared : undeclar
 
 -- ---- of every routine with these columns
 
-module _ (costs parents headers made kept depths : List ℕ) (deepest : ℕ) (heads old : List ℤ) (R : GatesReadied costs parents headers made kept depths deepest old) where
+module _ (costs parents headers made : List ℕ) (kept : List ℤ) (depths : List ℕ) (deepest : ℕ) (heads old : List ℤ) (R : GatesReadied costs parents headers made kept depths deepest old) where
   pub gates-high : HeadsOf parents kept made true heads → GatesOpened costs parents headers made kept true old
   gates-high K = record {
     size = R .unopened .size;

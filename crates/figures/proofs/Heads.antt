@@ -44,7 +44,7 @@ integers = record { same = λ a. omega ints; is-less = λ a b e. omega ints; not
 
 -- the header's figure is not far below 0
 abbrev Least : Option ℤ → Type 0
-Least g = (z : ℤ) → g ≡ some z → negℤ (pos (2 ^ 60)) ≤ℤ z
+Least g = (z : ℤ) → g ≡ some z → negℤ (pos (2 ^ 46)) ≤ℤ z
 
 module _ (k : ℕ) (low : k ≤ 2 ^ 40) (g : Option ℤ) (least : Least g) where
   -- what a turn gives by the capped tail it gives by the tail, or more
@@ -75,7 +75,7 @@ module _ (k : ℕ) (low : k ≤ 2 ^ 40) (g : Option ℤ) (least : Least g) where
       go none l h = refl
       go (some y) l h =
           let p : (pos (min mostTail a) -ℤ pos k +ℤ y) ≤ℤ pos (2 ^ 60) = h _ refl in
-          let r : negℤ (pos (2 ^ 60)) ≤ℤ y = l y refl in
+          let r : negℤ (pos (2 ^ 46)) ≤ℤ y = l y refl in
           let q : min mostTail a ≡ a = omega (ints, diff (pos (min mostTail a)) (pos k), sum (pos (min mostTail a) -ℤ pos k) y) in rw q
 
 -- ---- turns that a block cannot tell
@@ -119,7 +119,7 @@ pub record Standing (t : Routine) (heads : List ℤ) (d l : ℕ) : Type 0 where
   pub same : figureOf (getD heads l (pos 0)) ≡ headBy t upto l
 
 -- a routine with these tails and multipliers
-module _ (t : Routine) (kept made weights : List ℕ) (h : AllHold (structureRules t)) (M : MultipliedOf t false made weights kept)
+module _ (t : Routine) (kept : List ℤ) (made : List ℕ) (weights : List ℤ) (h : AllHold (structureRules t)) (M : MultipliedOf t false made weights kept)
     (low : (l : ℕ) → l < loopCount t → getD made l 0 ≤ 2 ^ 40) where
   abbrev t′ : Routine
   t′ = remultiplied t
@@ -217,7 +217,7 @@ module _ (t : Routine) (kept made weights : List ℕ) (h : AllHold (structureRul
                   less true r = omega (arith, S .inner k (omega (arith, chosen .0)) o (omega (arith, ltb-true (depth (t .parents) k) (suc d) r)))
                   less false r = omega (arith, deeper-above (t .parents) P y j k c i o (omega (arith, ltb-false (depth (t .parents) k) (suc d) r, chosen .2)))
 
-          kept-word : wordOf (getD kept (keptAt l (suc d)) 0) ≡ cap mostTail (tails t′ j (header t l))
+          kept-word : wordOf (getD kept (keptAt l (suc d)) (pos 0)) ≡ cap mostTail (tails t′ j (header t l))
           kept-word = rw (chosen .2) at (M .kept-tails refl l j b (chosen .0) (inside-around l j b ∙ chosen .1))
 
           by-words : filled l ≡ best ltZ before given
@@ -324,12 +324,12 @@ module _ (t : Routine) (kept made weights : List ℕ) (h : AllHold (structureRul
 -- ---- of every such routine
 
 -- the loops that are not deeper than d have had their turns
-pub record Filling (parents kept made : List ℕ) (heads : List ℤ) (d : ℕ) : Type 0 where
+pub record Filling (parents : List ℕ) (kept : List ℤ) (made : List ℕ) (heads : List ℤ) (d : ℕ) : Type 0 where
   pub size : length heads ≡ mostLoops
   pub bounded : (l : ℕ) → l < length parents → Bounded (2 ^ 40 * d) (getD heads l (pos 0))
-  pub each : (t : Routine) (weights : List ℕ) → t .parents ≡ parents → AllHold (structureRules t) → MultipliedOf t false made weights kept → (l : ℕ) → l < loopCount t → Standing t heads d l
+  pub each : (t : Routine) (weights : List ℤ) → t .parents ≡ parents → AllHold (structureRules t) → MultipliedOf t false made weights kept → (l : ℕ) → l < loopCount t → Standing t heads d l
 
-module _ (parents kept made depths : List ℕ) (deepest : ℕ) (R : HeadsReadied parents kept made depths deepest) where
+module _ (parents : List ℕ) (kept : List ℤ) (made depths : List ℕ) (deepest : ℕ) (R : HeadsReadied parents kept made depths deepest) where
   lows : (t : Routine) → t .parents ≡ parents → (l : ℕ) → l < loopCount t → getD made l 0 ≤ 2 ^ 40
   lows t e l b = R .multiplier-most l (rw e at b)
 

@@ -17,28 +17,11 @@ use mir.Val.{SFits}
 use Rattle.integers.proofs.Laws.{ints, sum, diff, size}
 use Rattle.limits.specs.Limits.{mostBlocks}
 use Rattle.lists.specs.Search.{if_then_else_}
+use Rattle.tails.specs.Words.{greaterOf}
 use Rattle.tails.specs.Slots.{places, nowhere, Slotted}
-use Rattle.figures.specs.Figures.{noFigure, HeadFits, ValuesFit, WeightFits, greaterOf}
+use Rattle.tails.proofs.Words.{greater-least}
+use Rattle.figures.specs.Figures.{noFigure, HeadFits, ValuesFit, WeightFits}
 use Rattle.figures.specs.Columns.{GatesSet, Unopened, slotValue, Equations, FiguresFilled}
-
--- ---- the greater of two
-
-pub greater-second : (a b : ℤ) → a <ℤ b → b ≡ greaterOf a b
-unfolding greaterOf
-greater-second a b h = let e : ltZ a b ≡ true = omega ints in rw e
-
-pub greater-first : (a b : ℤ) → b ≤ℤ a → a ≡ greaterOf a b
-unfolding greaterOf
-greater-first a b h = let e : ltZ a b ≡ false = omega ints in rw e
-
--- it is not below what neither is below
-greater-least : (a b z : ℤ) → z ≤ℤ a → z ≤ℤ b → z ≤ℤ greaterOf a b
-unfolding greaterOf
-greater-least a b z p q = go (ltZ a b)
-  where
-    go : (l : Bool) → z ≤ℤ (if l then b else a)
-    go true = q
-    go false = p
 
 -- ---- the gates
 
@@ -144,11 +127,11 @@ gates-fit costs headers made heads old new G fit known i = go (ltb i mostBlocks)
 -- ---- the pass
 
 -- the value of a block: its figure f and its weight w
-abbrev valueBy : ℤ → ℕ → ℤ
-valueBy f w = f +ℤ pos (w - 1)
+abbrev valueBy : ℤ → ℤ → ℤ
+valueBy f w = f +ℤ w
 
 -- the blocks from place i of the order up have their figures and values
-pub record Passing (weights firstSlots secondSlots order : List ℕ) (n : ℕ) (gates figures values : List ℤ) (i : ℕ) : Type 0 where
+pub record Passing (weights : List ℤ) (firstSlots secondSlots order : List ℕ) (n : ℕ) (gates figures values : List ℤ) (i : ℕ) : Type 0 where
   pub few : i ≤ n
   pub figures-size : length figures ≡ mostBlocks
   pub values-size : length values ≡ places
@@ -156,15 +139,15 @@ pub record Passing (weights firstSlots secondSlots order : List ℕ) (n : ℕ) (
   pub rest : (s : ℕ) → n ≤ s → getD values s (pos 0) ≡ getD gates s (pos 0)
   pub low : (F : ℕ → ℤ) → Equations F n weights firstSlots secondSlots order gates → (j : ℕ) → i ≤ j → j < n → F (getD order j 0) ≤ℤ pos (2 ^ 60)
   pub done : (F : ℕ → ℤ) → Equations F n weights firstSlots secondSlots order gates → (j : ℕ) → i ≤ j → j < n
-      → (getD figures (getD order j 0) (pos 0) ≡ F (getD order j 0)) × (getD values (getD order j 0) (pos 0) ≡ valueBy (F (getD order j 0)) (getD weights (getD order j 0) 0))
+      → (getD figures (getD order j 0) (pos 0) ≡ F (getD order j 0)) × (getD values (getD order j 0) (pos 0) ≡ valueBy (F (getD order j 0)) (getD weights (getD order j 0) (pos 0)))
 
-pub value-fits : (f : ℤ) (w : ℕ) → WeightFits w → negℤ (pos (2 ^ 62 + 2 ^ 41)) ≤ℤ f → f ≤ℤ pos (2 ^ 60) → SFits w64 (f +ℤ pos (w - 1))
+pub value-fits : (f w : ℤ) → WeightFits w → negℤ (pos (2 ^ 62 + 2 ^ 41)) ≤ℤ f → f ≤ℤ pos (2 ^ 60) → SFits w64 (f +ℤ w)
 value-fits f w W p q =
     let a = W .weight-least in
     let b = W .weight-most in
-    omega (ints, size (f +ℤ pos (w - 1)), sum f (pos (w - 1)), size f)
+    omega (ints, size (f +ℤ w), sum f w, size f)
 
-module _ (weights firstSlots secondSlots order : List ℕ) (n : ℕ) (gates : List ℤ) (S : Slotted n firstSlots secondSlots order) where
+module _ (weights : List ℤ) (firstSlots secondSlots order : List ℕ) (n : ℕ) (gates : List ℤ) (S : Slotted n firstSlots secondSlots order) where
   pub passing-first : (figures : List ℤ) → length figures ≡ mostBlocks → length gates ≡ places → ValuesFit gates → Passing weights firstSlots secondSlots order n gates figures gates n
   passing-first figures p q fit = record {
     few = omega arith;
@@ -192,7 +175,7 @@ module _ (weights firstSlots secondSlots order : List ℕ) (n : ℕ) (gates : Li
         in-slot : (s : ℕ) → (s < n → E .position x < E .position s) → getD values s (pos 0) ≡ slotValue F n weights gates s
         in-slot s later = go (ltb s n) refl
           where
-            go : (b : Bool) → ltb s n ≡ b → getD values s (pos 0) ≡ (if b then F s +ℤ pos (getD weights s 0 - 1) else getD gates s (pos 0))
+            go : (b : Bool) → ltb s n ≡ b → getD values s (pos 0) ≡ (if b then F s +ℤ getD weights s (pos 0) else getD gates s (pos 0))
             go false b = P .rest s (ltb-false s n b)
             go true b =
                 let h : s < n = ltb-true s n b in
@@ -209,8 +192,8 @@ module _ (weights firstSlots secondSlots order : List ℕ) (n : ℕ) (gates : Li
       pub passing-over : pos (2 ^ 60) <ℤ f → FiguresFilled weights firstSlots secondSlots order n gates true figures
       passing-over high = record { size = P .figures-size; says = λ F E. (λ q. absurd (true≢false q), λ q. (x, here, rw (same F E) at high)) }
 
-      pub passing-next : WeightFits (getD weights x 0) → f ≤ℤ pos (2 ^ 60)
-          → Passing weights firstSlots secondSlots order n gates (set figures x f) (set values x (f +ℤ pos (getD weights x 0 - 1))) (i - 1)
+      pub passing-next : WeightFits (getD weights x (pos 0)) → f ≤ℤ pos (2 ^ 60)
+          → Passing weights firstSlots secondSlots order n gates (set figures x f) (set values x (f +ℤ getD weights x (pos 0))) (i - 1)
       passing-next W most = record {
         few = omega (arith, P .few);
         figures-size = length-set figures x f ∙ P .figures-size;
@@ -222,7 +205,7 @@ module _ (weights firstSlots secondSlots order : List ℕ) (n : ℕ) (gates : Li
       }
         where
           value : ℤ
-          value = f +ℤ pos (getD weights x 0 - 1)
+          value = f +ℤ getD weights x (pos 0)
 
           in-values : getD (set values x value) x (pos 0) ≡ value
           in-values = getD-set-same values x value (pos 0) (omega (arith, here, S .few, P .values-size))
@@ -233,8 +216,9 @@ module _ (weights firstSlots secondSlots order : List ℕ) (n : ℕ) (gates : Li
           range : (negℤ (pos (2 ^ 62 + 2 ^ 41)) ≤ℤ value) × (value ≤ℤ pos (2 ^ 61))
           range =
               let a = W .weight-most in
+              let z = W .weight-least in
               let p = found-least in
-              (omega (ints, sum f (pos (getD weights x 0 - 1))), omega (ints, sum f (pos (getD weights x 0 - 1))))
+              (omega (ints, sum f (getD weights x (pos 0))), omega (ints, sum f (getD weights x (pos 0))))
 
           fit : (s : ℕ) → Dec (s ≡ x) → (negℤ (pos (2 ^ 62 + 2 ^ 41)) ≤ℤ getD (set values x value) s (pos 0)) × (getD (set values x value) s (pos 0) ≤ℤ pos (2 ^ 61))
           fit s (yes e) = rw (e, in-values) range
@@ -245,8 +229,8 @@ module _ (weights firstSlots secondSlots order : List ℕ) (n : ℕ) (gates : Li
           low F E j a b (no ne) = P .low F E j (omega arith) b
 
           done : (F : ℕ → ℤ) → Equations F n weights firstSlots secondSlots order gates → (j : ℕ) → i - 1 ≤ j → j < n → Dec (j ≡ i - 1)
-              → (getD (set figures x f) (getD order j 0) (pos 0) ≡ F (getD order j 0)) × (getD (set values x value) (getD order j 0) (pos 0) ≡ valueBy (F (getD order j 0)) (getD weights (getD order j 0) 0))
-          done F E j a b (yes e) = rw e (in-figures ∙ same F E, in-values ∙ ap (λ (f : ℤ). valueBy f (getD weights x 0)) (same F E))
+              → (getD (set figures x f) (getD order j 0) (pos 0) ≡ F (getD order j 0)) × (getD (set values x value) (getD order j 0) (pos 0) ≡ valueBy (F (getD order j 0)) (getD weights (getD order j 0) (pos 0)))
+          done F E j a b (yes e) = rw e (in-figures ∙ same F E, in-values ∙ ap (λ (f : ℤ). valueBy f (getD weights x (pos 0))) (same F E))
           done F E j a b (no ne) =
               let l : (getD order j 0 ≡ x → ⊥) = later F E j (omega arith) b in
               let d = P .done F E j (omega arith) b in

@@ -1,10 +1,9 @@
 -- Numbers that are figures or tails, and numbers that are none. Assumes nothing.
-use mathlib.Core.Path.{_≡_, refl}
+use mathlib.Core.Path.{_≡_, refl, _∙_}
 use mathlib.Core.Bool.{Bool, true, false}
-use mathlib.Core.Option.{none, some}
-use Prim.Native.Nat.{ℕ, zero, suc, _-_, _^_, _≤_}
-use borrow.Author.Tests.{eq-eqb, ne-eqb}
-use lib.IntN.{ℤ, pos, negℤ, _+ℤ_, _-ℤ_}
+use mathlib.Core.Option.{Option, none, some}
+use Prim.Native.Nat.{ℕ, zero, suc, _^_, _≤_}
+use lib.IntN.{ℤ, pos, negsuc, negℤ, _+ℤ_, _-ℤ_}
 use lib.Signed.{ltZ, _≤ℤ_, _<ℤ_}
 use mir.Syntax.{w64}
 use mir.Val.{SFits}
@@ -13,8 +12,10 @@ use Rattle.integers.proofs.Laws.{ints, sum, diff, size}
 use Rattle.lists.specs.Search.{if_then_else_}
 use Rattle.optimum.specs.Tails.{best}
 use Rattle.optimum.proofs.Tails.{none-some}
-use Rattle.tails.specs.Words.{mostTail, mostWord, wordOf}
-use Rattle.figures.specs.Figures.{figureOf, Known}
+use Rattle.optimum.specs.Columns.{fromExit, fromHeader}
+use Rattle.tails.specs.Words.{wordOf, Word}
+use Rattle.tails.proofs.Words.{no-word}
+use Rattle.figures.specs.Figures.{noFigure, figureOf, Known}
 
 -- the negative of a number
 pub record Minus (k : ℕ) (z : ℤ) : Type 0 where
@@ -24,18 +25,6 @@ pub record Minus (k : ℕ) (z : ℤ) : Type 0 where
 pub minus : (k : ℕ) → Minus k (negℤ (pos k))
 minus zero = record { up-part = refl; dn-part = refl }
 minus (suc k) = record { up-part = refl; dn-part = refl }
-
-pub no-word : (w : ℕ) → w ≡ 0 → wordOf w ≡ none
-unfolding wordOf
-no-word w e = rw (eq-eqb w 0 e)
-
-pub is-word : (w : ℕ) → (w ≡ 0 → ⊥) → wordOf w ≡ some (w - 1)
-unfolding wordOf
-is-word w ne = rw (ne-eqb w 0 ne)
-
--- the tail of a word, in signed numbers
-pub tail-signed : (w : ℕ) → (w ≡ 0 → ⊥) → (pos w -ℤ pos 1) ≡ pos (w - 1)
-tail-signed w ne = omega (ints, diff (pos w) (pos 1))
 
 pub is-figure : (z : ℤ) → negℤ (pos (2 ^ 61)) ≤ℤ z → figureOf z ≡ some z
 unfolding figureOf
@@ -76,22 +65,59 @@ higher-is a b = go (ltZ a b) (ltZ a (negℤ (pos (2 ^ 61)))) (ltZ b (negℤ (pos
     go false false true e f g = refl
     go false false false e f g = rw e
 
-pub one-fits : (w : ℕ) → w ≤ mostWord → SFits w64 (pos w -ℤ pos 1)
-one-fits w h = omega (ints, size (pos w -ℤ pos 1), diff (pos w) (pos 1))
-
-pub less-fits : (w k : ℕ) → w ≤ mostTail → k ≤ 2 ^ 40 → SFits w64 (pos w -ℤ pos k)
+pub less-fits : (w k : ℕ) → w ≤ 2 ^ 32 → k ≤ 2 ^ 40 → SFits w64 (pos w -ℤ pos k)
 less-fits w k h l = omega (ints, size (pos w -ℤ pos k), diff (pos w) (pos k))
 
-pub given-fits : (w k : ℕ) (z : ℤ) → w ≤ mostTail → k ≤ 2 ^ 40 → Known z → negℤ (pos (2 ^ 61)) ≤ℤ z → SFits w64 (pos w -ℤ pos k +ℤ z)
-given-fits w k z h l K p =
-    let q : negℤ (pos (2 ^ 60)) ≤ℤ z = K .least-figure p in
-    let r : z ≤ℤ pos (2 ^ 60) = K .most-figure in
-    omega (ints, size (pos w -ℤ pos k +ℤ z), diff (pos w) (pos k), sum (pos w -ℤ pos k) z, size z)
+-- ---- what a loop gives to the figure of a header
 
-pub given-figure : (w k : ℕ) (z : ℤ) → w ≤ mostTail → k ≤ 2 ^ 40 → Known z → negℤ (pos (2 ^ 61)) ≤ℤ z → negℤ (pos (2 ^ 61)) ≤ℤ (pos w -ℤ pos k +ℤ z)
-given-figure w k z h l K p =
-    let q : negℤ (pos (2 ^ 60)) ≤ℤ z = K .least-figure p in
-    omega (ints, diff (pos w) (pos k), sum (pos w -ℤ pos k) z)
+pub exit-none : (w : ℤ) → w <ℤ pos 0 → figureOf noFigure ≡ fromExit (wordOf w)
+unfolding fromExit
+exit-none w h = rw (no-word w h) (no-figure noFigure (omega ints))
+
+pub exit-some : (w : ℤ) → pos 0 ≤ℤ w → figureOf w ≡ fromExit (wordOf w)
+unfolding fromExit wordOf
+exit-some (pos a) h = is-figure (pos a) (omega ints)
+exit-some (negsuc a) h = absurd (omega ints)
+
+module _ (k : ℕ) (w : ℤ) where
+  pub header-none : (o : Option ℤ) → w <ℤ pos 0 → figureOf noFigure ≡ fromHeader k (wordOf w) o
+  unfolding fromHeader
+  header-none o h = rw (no-word w h) (no-figure noFigure (omega ints))
+
+  pub head-none : (head : ℤ) → head <ℤ negℤ (pos (2 ^ 61)) → figureOf noFigure ≡ fromHeader k (wordOf w) (figureOf head)
+  unfolding fromHeader
+  head-none head h = rw (no-figure head h, no-figure noFigure (omega ints)) (go (wordOf w))
+    where
+      go : (o : Option ℕ) → none ≡ fromHeader k o none
+      go none = refl
+      go (some a) = refl
+
+  module _ (h : pos 0 ≤ℤ w) (W : Word w) (l : k ≤ 2 ^ 40) where
+    pub taken-fits : SFits w64 (w -ℤ pos k)
+    taken-fits = let m = W .most in omega (ints, size (w -ℤ pos k), diff w (pos k), size w)
+
+    module _ (z : ℤ) (K : Known z) (p : negℤ (pos (2 ^ 61)) ≤ℤ z) where
+      pub given-fits : SFits w64 (w -ℤ pos k +ℤ z)
+      given-fits =
+          let m = W .most in
+          let q : negℤ (pos (2 ^ 60)) ≤ℤ z = K .least-figure p in
+          let r : z ≤ℤ pos (2 ^ 60) = K .most-figure in
+          omega (ints, size (w -ℤ pos k +ℤ z), diff w (pos k), sum (w -ℤ pos k) z, size z)
+
+      given-figure : negℤ (pos (2 ^ 61)) ≤ℤ (w -ℤ pos k +ℤ z)
+      given-figure =
+          let q : negℤ (pos (2 ^ 60)) ≤ℤ z = K .least-figure p in
+          omega (ints, diff w (pos k), sum (w -ℤ pos k) z)
+
+      pub header-some : figureOf (w -ℤ pos k +ℤ z) ≡ fromHeader k (wordOf w) (figureOf z)
+      unfolding fromHeader wordOf
+      header-some = rw (is-figure z p) (is-figure (w -ℤ pos k +ℤ z) given-figure ∙ go w h)
+        where
+          go : (w : ℤ) → pos 0 ≤ℤ w → some (w -ℤ pos k +ℤ z) ≡ fromHeader k (wordOf w) (some z)
+          go (pos a) h = refl
+          go (negsuc a) h = absurd (omega ints)
+
+-- ---- the greater of two figures
 
 pub higher-second : (a b : ℤ) → ltZ a b ≡ true → figureOf b ≡ best ltZ (figureOf a) (figureOf b)
 higher-second a b e = rw e at (higher-is a b)

@@ -55,13 +55,13 @@ module _ (b k : ℕ) (low : k ≤ 2 ^ 40) (y : ℤ) (B : Bounded b y) where
   turn-least false false tail f e = from-least tail f e
 
 -- the headers of the loops below l have had their turn
-pub record Turning (kept made level : List ℕ) (d : ℕ) (old new : List ℤ) (m l : ℕ) : Type 0 where
+pub record Turning (kept : List ℤ) (made level : List ℕ) (d : ℕ) (old new : List ℤ) (m l : ℕ) : Type 0 where
   pub size : length new ≡ mostLoops
   pub done : (y : ℕ) → y < l → y < m → figureOf (getD new y (pos 0)) ≡ filledBy kept made level d old y
   pub bounded : (y : ℕ) → y < l → y < m → Bounded (2 ^ 40 * d) (getD new y (pos 0))
   pub rest : (y : ℕ) → l ≤ y → getD new y (pos 0) ≡ getD old y (pos 0)
 
-module _ (kept made level : List ℕ) (d m : ℕ) (old : List ℤ) (A : Turnable made level d m old) where
+module _ (kept : List ℤ) (made level : List ℕ) (d m : ℕ) (old : List ℤ) (A : Turnable made level d m old) where
   pub turning-first : Turning kept made level d old old m 0
   turning-first = record { size = A .size; done = λ y b. absurd (omega arith); bounded = λ y b. absurd (omega arith); rest = λ y b. refl }
 
@@ -79,7 +79,7 @@ module _ (kept made level : List ℕ) (d m : ℕ) (old : List ℤ) (A : Turnable
       given : Dec (j ≡ noLoop) → turnBy kept made level d old l ≡ some f → negℤ (pos (2 ^ 40 * d)) ≤ℤ f
       given (yes q) p = none-some (rw (eq-eqb j noLoop q) at p)
       given (no ne) p =
-          let r : negℤ (pos (2 ^ 40 * (d - 1) + 2 ^ 40)) ≤ℤ f = turn-least (2 ^ 40 * (d - 1)) (getD made j 0) (A .multiplier-most j (A .chosen l c ne)) (getD old j (pos 0)) (A .bounded j (A .chosen l c ne)) (eqb j 0) (eqb l j) (wordOf (getD kept (keptAt l d) 0)) f (rw (ne-eqb j noLoop ne) at p) in
+          let r : negℤ (pos (2 ^ 40 * (d - 1) + 2 ^ 40)) ≤ℤ f = turn-least (2 ^ 40 * (d - 1)) (getD made j 0) (A .multiplier-most j (A .chosen l c ne)) (getD old j (pos 0)) (A .bounded j (A .chosen l c ne)) (eqb j 0) (eqb l j) (wordOf (getD kept (keptAt l d) (pos 0))) f (rw (ne-eqb j noLoop ne) at p) in
           omega (ints, minus (2 ^ 40 * (d - 1) + 2 ^ 40), minus (2 ^ 40 * d), r, A .deep .0)
 
       go : (figureOf (getD old l (pos 0)) ≡ some f) ⊎ (turnBy kept made level d old l ≡ some f) → negℤ (pos (2 ^ 40 * d)) ≤ℤ f
@@ -148,13 +148,13 @@ module _ (kept made level : List ℕ) (d m : ℕ) (old : List ℤ) (A : Turnable
         chosen-known = header-known j (A .chosen l c there)
 
         module _ (given f : ℤ)
-            (g : figureOf given ≡ turnOf (eqb j 0) (eqb l j) (getD made j 0) (wordOf (getD kept (keptAt l d) 0)) (figureOf (getD new j (pos 0))))
+            (g : figureOf given ≡ turnOf (eqb j 0) (eqb l j) (getD made j 0) (wordOf (getD kept (keptAt l d) (pos 0))) (figureOf (getD new j (pos 0))))
             (e : figureOf f ≡ best ltZ (figureOf (getD new l (pos 0))) (figureOf given)) where
           filled : figureOf f ≡ filledBy kept made level d old l
           unfolding filledBy
           filled =
               e ∙ rw (ne-eqb j noLoop there, T .rest l (omega arith))
-              (ap (best ltZ (figureOf (getD old l (pos 0)))) (g ∙ header-same j (A .chosen l c there) (A .own l c there) (eqb l j) (getD made j 0) (wordOf (getD kept (keptAt l d) 0))))
+              (ap (best ltZ (figureOf (getD old l (pos 0)))) (g ∙ header-same j (A .chosen l c there) (A .own l c there) (eqb l j) (getD made j 0) (wordOf (getD kept (keptAt l d) (pos 0)))))
 
           pub turning-next : getD new l (pos 0) ≤ℤ f → f ≤ℤ pos (2 ^ 60) → Turning kept made level d old (set new l f) m (l + 1)
           turning-next a b = record {

@@ -19,20 +19,20 @@ use Rattle.levels.specs.Levels.{noLoop, Deep}
 use Rattle.optimum.specs.Remade.{PathToExit}
 use Rattle.optimum.specs.Tails.{best}
 use Rattle.optimum.specs.Columns.{tails, figureBy, remadeMultipliers, remultiplied, remadeFigures}
-use Rattle.tails.specs.Words.{wordOf, Low}
+use Rattle.tails.specs.Words.{wordOf, greaterOf, Low}
 use Rattle.tails.specs.Slots.{places, nowhere}
 use Rattle.multipliers.specs.Columns.{keptAt, MultipliedOf}
-use Rattle.figures.specs.Figures.{noFigure, figureOf, turnOf, ValuesFit, greaterOf}
+use Rattle.figures.specs.Figures.{noFigure, figureOf, turnOf, ValuesFit}
 
 -- ---- the figures of the headers
 
 -- what a level of depth d gives to the figure of l's header, none where l is inside no loop of it; and the figure then
-abbrev pub turnBy : (kept made level : List ℕ) (d : ℕ) (heads : List ℤ) → ℕ → Option ℤ
+abbrev pub turnBy : (kept : List ℤ) (made level : List ℕ) (d : ℕ) (heads : List ℤ) → ℕ → Option ℤ
 turnBy kept made level d heads l =
     if eqb (getD level l 0) noLoop then none else
-    turnOf (eqb (getD level l 0) 0) (eqb l (getD level l 0)) (getD made (getD level l 0) 0) (wordOf (getD kept (keptAt l d) 0)) (figureOf (getD heads (getD level l 0) (pos 0)))
+    turnOf (eqb (getD level l 0) 0) (eqb l (getD level l 0)) (getD made (getD level l 0) 0) (wordOf (getD kept (keptAt l d) (pos 0))) (figureOf (getD heads (getD level l 0) (pos 0)))
 
-unfoldable pub filledBy : (kept made level : List ℕ) (d : ℕ) (heads : List ℤ) → ℕ → Option ℤ
+unfoldable pub filledBy : (kept : List ℤ) (made level : List ℕ) (d : ℕ) (heads : List ℤ) → ℕ → Option ℤ
 filledBy kept made level d heads l = best ltZ (figureOf (getD heads l (pos 0))) (turnBy kept made level d heads l)
 
 -- a figure is not below −b, if it is one, and not over 2^60; a word that is none is not below −2^62
@@ -53,13 +53,13 @@ pub record Turnable (made level : List ℕ) (d m : ℕ) (heads : List ℤ) : Typ
   pub bounded : (l : ℕ) → l < m → Bounded (2 ^ 40 * (d - 1)) (getD heads l (pos 0))
 
 -- the figures when the loops of a level have had their turn, unless one of them is over 2^60
-pub record Turned (kept made level : List ℕ) (d m : ℕ) (old : List ℤ) (over : Bool) (new : List ℤ) : Type 0 where
+pub record Turned (kept : List ℤ) (made level : List ℕ) (d m : ℕ) (old : List ℤ) (over : Bool) (new : List ℤ) : Type 0 where
   pub size : length new ≡ mostLoops
   pub same : over ≡ false → (l : ℕ) → l < m → figureOf (getD new l (pos 0)) ≡ filledBy kept made level d old l
   pub bounded : over ≡ false → (l : ℕ) → l < m → Bounded (2 ^ 40 * d) (getD new l (pos 0))
   pub high : over ≡ true → (l : ℕ) × (l < m) × ((f : ℤ) × (filledBy kept made level d old l ≡ some f) × (pos (2 ^ 60) <ℤ f))
 
-pub record HeadsReadied (parents kept made depths : List ℕ) (deepest : ℕ) : Type 0 where
+pub record HeadsReadied (parents : List ℕ) (kept : List ℤ) (made depths : List ℕ) (deepest : ℕ) : Type 0 where
   pub some-loop : 0 < length parents
   pub few-loops : length parents ≤ mostLoops
   pub parents-below : Parents parents
@@ -74,10 +74,10 @@ pub record HeadsFigured (t : Routine) (over : Bool) (heads : List ℤ) : Type 0 
   pub high : over ≡ true → (l : ℕ) × (l < loopCount t) × ((f : ℤ) × (figureBy (remultiplied t) (tails (remultiplied t)) (loopCount t) (header t l) ≡ some f) × (pos (2 ^ 60) <ℤ f))
 
 -- of every routine with these parents that passes 201 to 207 and has these tails and multipliers
-pub record HeadsOf (parents kept made : List ℕ) (over : Bool) (heads : List ℤ) : Type 0 where
+pub record HeadsOf (parents : List ℕ) (kept : List ℤ) (made : List ℕ) (over : Bool) (heads : List ℤ) : Type 0 where
   pub size : length heads ≡ mostLoops
   pub bounded : over ≡ false → (l : ℕ) → l < length parents → Bounded (2 ^ 40 * mostDepth) (getD heads l (pos 0))
-  pub says : (t : Routine) (weights : List ℕ) → t .parents ≡ parents → AllHold (structureRules t) → MultipliedOf t false made weights kept → HeadsFigured t over heads
+  pub says : (t : Routine) (weights : List ℤ) → t .parents ≡ parents → AllHold (structureRules t) → MultipliedOf t false made weights kept → HeadsFigured t over heads
 
 -- ---- the figures of all blocks
 
@@ -91,11 +91,11 @@ pub record GatesSet (costs headers made : List ℕ) (heads old new : List ℤ) :
   pub after : (i : ℕ) → mostBlocks + length headers ≤ i → mostBlocks < i → getD new i (pos 0) ≡ getD old i (pos 0)
 
 -- the value in slot s by the figures F: a block's figure and weight, or a gate
-abbrev pub slotValue : (F : ℕ → ℤ) (n : ℕ) (weights : List ℕ) (gates : List ℤ) → ℕ → ℤ
-slotValue F n weights gates s = if ltb s n then F s +ℤ pos (getD weights s 0 - 1) else getD gates s (pos 0)
+abbrev pub slotValue : (F : ℕ → ℤ) (n : ℕ) (weights gates : List ℤ) → ℕ → ℤ
+slotValue F n weights gates s = if ltb s n then F s +ℤ getD weights s (pos 0) else getD gates s (pos 0)
 
 -- F are figures of n blocks by these slots, and the slots of a block that are blocks stand after it in the order
-pub record Equations (F : ℕ → ℤ) (n : ℕ) (weights firstSlots secondSlots order : List ℕ) (gates : List ℤ) : Type 0 where
+pub record Equations (F : ℕ → ℤ) (n : ℕ) (weights : List ℤ) (firstSlots secondSlots order : List ℕ) (gates : List ℤ) : Type 0 where
   pub each : (x : ℕ) → x < n → F x ≡ greaterOf (slotValue F n weights gates (getD firstSlots x 0)) (slotValue F n weights gates (getD secondSlots x 0))
   pub position : ℕ → ℕ
   pub within : (u : ℕ) → u < n → position u < n
@@ -105,7 +105,7 @@ pub record Equations (F : ℕ → ℤ) (n : ℕ) (weights firstSlots secondSlots
   pub second-later : (x : ℕ) → x < n → getD secondSlots x 0 < n → position x < position (getD secondSlots x 0)
 
 -- a pass makes them, unless one of them is over 2^60
-pub record FiguresFilled (weights firstSlots secondSlots order : List ℕ) (n : ℕ) (gates : List ℤ) (over : Bool) (figures : List ℤ) : Type 0 where
+pub record FiguresFilled (weights : List ℤ) (firstSlots secondSlots order : List ℕ) (n : ℕ) (gates : List ℤ) (over : Bool) (figures : List ℤ) : Type 0 where
   pub size : length figures ≡ mostBlocks
   pub says : (F : ℕ → ℤ) → Equations F n weights firstSlots secondSlots order gates
       → (over ≡ false → (x : ℕ) → x < n → (getD figures x (pos 0) ≡ F x) × (F x ≤ℤ pos (2 ^ 60))) × (over ≡ true → (x : ℕ) × (x < n) × (pos (2 ^ 60) <ℤ F x))
@@ -117,7 +117,7 @@ pub record Unopened (values : List ℤ) : Type 0 where
   pub empty : getD values nowhere (pos 0) ≡ noFigure
 
 -- what the gates require: the columns of some routine that passes 201 to 207, and its tails and multipliers
-pub record GatesReadied (costs parents headers made kept depths : List ℕ) (deepest : ℕ) (old : List ℤ) : Type 0 where
+pub record GatesReadied (costs parents headers made : List ℕ) (kept : List ℤ) (depths : List ℕ) (deepest : ℕ) (old : List ℤ) : Type 0 where
   pub heads-readied : HeadsReadied parents kept made depths deepest
   pub headers-size : length headers ≡ length parents
   pub header-block : (l : ℕ) → l < length headers → getD headers l 0 < length costs
@@ -136,10 +136,10 @@ pub record GatesOf (t : Routine) (over : Bool) (gates : List ℤ) : Type 0 where
   pub high : over ≡ true → FigureHigh t
 
 -- of every routine with these three columns that passes 201 to 207, 209 and 401, if the multipliers and the tails are its own
-pub record GatesOpened (costs parents headers made kept : List ℕ) (over : Bool) (gates : List ℤ) : Type 0 where
+pub record GatesOpened (costs parents headers made : List ℕ) (kept : List ℤ) (over : Bool) (gates : List ℤ) : Type 0 where
   pub size : length gates ≡ places
   pub fit : over ≡ false → ValuesFit gates
-  pub says : (t : Routine) (weights : List ℕ) → t .costs ≡ costs → t .parents ≡ parents → t .headers ≡ headers → AllHold (structureRules t) → undeclaredLoop t ≡ false
+  pub says : (t : Routine) (weights : List ℤ) → t .costs ≡ costs → t .parents ≡ parents → t .headers ≡ headers → AllHold (structureRules t) → undeclaredLoop t ≡ false
       → ((u : ℕ) → u < blockCount t → PathToExit t u) → MultipliedOf t false made weights kept → GatesOf t over gates
 
 -- the remade figures of t, unless one of them is over 2^60

@@ -1,5 +1,5 @@
 -- Figures in signed words of 64 bits, none among them: what a word says, and what a loop gives to the figure of a header.
-use Prim.Native.Nat.{ℕ, _+_, _^_, _≤_}
+use Prim.Native.Nat.{ℕ, _+_, _^_}
 use mathlib.Core.Bool.{Bool}
 use mathlib.Core.List.{List}
 use mathlib.Core.Option.{Option, none, some}
@@ -37,10 +37,6 @@ pub record HeadFits (z : ℤ) : Type 0 where
 abbrev pub ValuesFit : List ℤ → Type 0
 ValuesFit values = (i : ℕ) → (negℤ (pos (2 ^ 62 + 2 ^ 41)) ≤ℤ getD values i (pos 0)) × (getD values i (pos 0) ≤ℤ pos (2 ^ 61))
 
-pub record WeightFits (w : ℕ) : Type 0 where
-  pub weight-least : 1 ≤ w
-  pub weight-most : w ≤ 2 ^ 57 + 1
-
--- the greater of two
-unfoldable pub greaterOf : ℤ → ℤ → ℤ
-greaterOf a b = if ltZ a b then b else a
+pub record WeightFits (w : ℤ) : Type 0 where
+  pub weight-least : pos 0 ≤ℤ w
+  pub weight-most : w ≤ℤ pos (2 ^ 57)

@@ -9,16 +9,16 @@ ghost use lib.Signed.{ltZ, _≤ℤ_};
 ghost use Rattle.limits.specs.Limits.{mostBlocks, mostLoops};
 ghost use Rattle.optimum.specs.Tails.{best};
 ghost use Rattle.optimum.specs.Columns.{fromExit, fromHeader};
-ghost use Rattle.tails.specs.Words.{mostWord, wordOf, Low};
+ghost use Rattle.tails.specs.Words.{wordOf, Word, Low};
 ghost use Rattle.tails.specs.Slots.{places, Slotted};
-ghost use Rattle.figures.specs.Figures.{noFigure, figureOf, Known, turnOf, HeadFits, ValuesFit, WeightFits, greaterOf};
+ghost use Rattle.figures.specs.Figures.{noFigure, figureOf, Known, turnOf, HeadFits, ValuesFit, WeightFits};
 ghost use Rattle.figures.specs.Columns.{Turnable, Turned, HeadsReadied, HeadsOf, GatesSet, GatesReadied, GatesOpened, FiguresFilled};
 use limits::MOST_BLOCKS;
 use limits::MOST_LOOPS;
 use tails::PLACES;
 
 // For each block a weight, or 16 tails for each loop.
-type Words = [u64; MOST_BLOCKS];
+type Words = [i64; MOST_BLOCKS];
 
 type Slots = [u16; MOST_BLOCKS];
 
@@ -40,28 +40,28 @@ pub const NO_FIGURE: i64 = -4611686018427387904;
 // ---- the figures of the headers
 
 // A figure by a tail to the exit.
-fn from_exit(w: u64) -> i64
-    requires { ⌜ w ≤ mostWord ⌝ }
+fn from_exit(w: i64) -> i64
+    requires { ⌜ Word w ⌝ }
     ensures { λ r. ⌜ figureOf r ≡ fromExit (wordOf w) ⌝ }
 {
-    if w == 0 {
+    if w < 0 {
         return NO_FIGURE;
     }
-    w as i64 - 1
+    w
 }
 
 // A figure by a tail of a loop with multiplier k, from the figure of the loop's header.
-fn from_header(k: u64, w: u64, head: i64) -> i64
-    requires { ⌜ (k ≤ 2 ^ 40) × (w ≤ mostWord) × Known head ⌝ }
+fn from_header(k: u64, w: i64, head: i64) -> i64
+    requires { ⌜ (k ≤ 2 ^ 40) × Word w × Known head ⌝ }
     ensures { λ r. ⌜ figureOf r ≡ fromHeader k (wordOf w) (figureOf head) ⌝ }
 {
-    if w == 0 {
+    if w < 0 {
         return NO_FIGURE;
     }
     if head < -2305843009213693952 {
         return NO_FIGURE;
     }
-    w as i64 - 1 - k as i64 + head
+    w - k as i64 + head
 }
 
 // The greater of two figures.
@@ -75,8 +75,8 @@ fn higher(a: i64, b: i64) -> i64
 }
 
 // What loop j, which is around loop l, gives to the figure of l's header, whose tail of j is w.
-fn turn_at(heads: &Heads, made: &Multipliers, j: usize, l: usize, w: u64) -> i64
-    requires { ⌜ (j < mostLoops) × (w ≤ mostWord) × (getD (now made) j 0 ≤ 2 ^ 40) × Known (getD (now heads) j (pos 0)) ⌝ }
+fn turn_at(heads: &Heads, made: &Multipliers, j: usize, l: usize, w: i64) -> i64
+    requires { ⌜ (j < mostLoops) × Word w × (getD (now made) j 0 ≤ 2 ^ 40) × Known (getD (now heads) j (pos 0)) ⌝ }
     ensures { λ r. ⌜ figureOf r ≡ turnOf (eqb j 0) (eqb l j) (getD (now (made .entry)) j 0) (wordOf w) (figureOf (getD (now (heads .entry)) j (pos 0))) ⌝ }
 {
     if j == 0 {
@@ -179,21 +179,6 @@ pub fn open_gates(
 
 // ---- the figures of all blocks
 
-// The figure of block x: the greater of the values in its slots.
-fn figure_of(values: &Values, firsts: &Slots, seconds: &Slots, x: usize) -> i64
-    requires { ⌜ (x < mostBlocks) × (getD (now firsts) x 0 < places) × (getD (now seconds) x 0 < places) ⌝ }
-    ensures { λ r. ⌜ r ≡ greaterOf (getD (now (values .entry)) (getD (now (firsts .entry)) x 0) (pos 0)) (getD (now (values .entry)) (getD (now (seconds .entry)) x 0) (pos 0)) ⌝ }
-{
-    let s = firsts[x] as usize;
-    let a = values[s];
-    let s = seconds[x] as usize;
-    let b = values[s];
-    if a < b {
-        return b;
-    }
-    a
-}
-
 // The figures of n blocks: from the last in a topological order to the first. The value of a block is its figure and its weight. Returns whether a
 // figure is over 2^60; then the others are not made.
 pub fn fill_figures(
@@ -205,19 +190,19 @@ pub fn fill_figures(
     order: &[u16; MOST_BLOCKS],
     n: usize,
 ) -> bool
-    requires { ⌜ (length (now figures) ≡ mostBlocks) × (length (now values) ≡ places) × ValuesFit (now values) × ((x : ℕ) → x < n → WeightFits (getD (now weights) x 0)) × Slotted n (now firsts) (now seconds) (now order) ⌝ }
+    requires { ⌜ (length (now figures) ≡ mostBlocks) × (length (now values) ≡ places) × ValuesFit (now values) × ((x : ℕ) → x < n → WeightFits (getD (now weights) x (pos 0))) × Slotted n (now firsts) (now seconds) (now order) ⌝ }
     ensures { λ r. ⌜ FiguresFilled (now (weights .entry)) (now (firsts .entry)) (now (seconds .entry)) (now (order .entry)) n (now (values .entry)) r (now (figures .exit)) ⌝ }
 {
     let mut i = n;
     while 0 < i {
         i -= 1;
         let x = order[i] as usize;
-        let f = figure_of(values, firsts, seconds, x);
+        let f = tails::tail_of(values, firsts, seconds, x);
         if 1152921504606846976 < f {
             return true;
         }
         figures[x] = f;
-        values[x] = f + (weights[x] - 1) as i64;
+        values[x] = f + weights[x];
     }
     false
 }

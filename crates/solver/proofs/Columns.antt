@@ -40,7 +40,7 @@ zeros (suc m) zero = refl
 zeros (suc m) (suc k) = zeros m k
 
 -- 402, as the code tests it
-module _ (t : Routine) (over : Bool) (made weights kept : List ℕ) (M : MultipliedOf t over made weights kept) where
+module _ (t : Routine) (over : Bool) (made : List ℕ) (weights kept : List ℤ) (M : MultipliedOf t over made weights kept) where
   tested : over ≡ multiplierOver (remade t)
   unfolding multiplierOver remade
   tested = M .tested
@@ -59,7 +59,7 @@ figure-over t H =
     any-at (blockCount t) (λ u. figureOutside (getD (remadeFigures t) u (pos 0))) (H .0) (H .1)
     (or-right (ltZ (getD (remadeFigures t) (H .0) (pos 0)) (negℤ (pos (2 ^ 60)))) high)
 
-module _ (t : Routine) (sets order : List ℕ) (S : Solvable t sets order) (made weights kept : List ℕ) (M : MultipliedOf t false made weights kept) where
+module _ (t : Routine) (sets order : List ℕ) (S : Solvable t sets order) (made : List ℕ) (weights kept : List ℤ) (M : MultipliedOf t false made weights kept) where
   open Solvable S using (rules, declared, paths)
 
   N : Nested t

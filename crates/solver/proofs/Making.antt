@@ -6,7 +6,7 @@ use mathlib.Core.Logic.{_⊎_, inl, inr}
 use Prim.Native.Nat.{ℕ, _≤_, _<_}
 use native.Mathlib.Omega.{arith}
 use denote.Enum.Declared.{tagOf}
-use lib.IntN.{ℤ}
+use lib.IntN.{ℤ, pos}
 use lib.ListN.{length, getD}
 use Rattle.limits.specs.Limits.{mostBlocks, mostLoops}
 use Rattle.wcet.specs.Table.{Routine, blockCount, header}
@@ -63,15 +63,15 @@ module _ (costs parents headers limits firstSlots secondSlots order : List ℕ) 
       = (R .sized .few-blocks, λ l b. omega (arith, R .header-below l (omega (arith, R .sized .headers)), R .sized .few-blocks)) in
       rw (columned .same-costs, columned .same-headers) at h
 
-  pub pass-ready : (made weights : List ℕ) (gates : List ℤ) → Gated t made weights gates → ((x : ℕ) → x < length costs → WeightFits (getD weights x 0)) × Slotted (length costs) firstSlots secondSlots order
+  pub pass-ready : (made : List ℕ) (weights gates : List ℤ) → Gated t made weights gates → ((x : ℕ) → x < length costs → WeightFits (getD weights x (pos 0))) × Slotted (length costs) firstSlots secondSlots order
   pass-ready made weights gates G =
-      let h : ((x : ℕ) → x < blockCount t → WeightFits (getD weights x 0)) × Slotted (blockCount t) firstSlots secondSlots order
+      let h : ((x : ℕ) → x < blockCount t → WeightFits (getD weights x (pos 0))) × Slotted (blockCount t) firstSlots secondSlots order
       = (weight-range t sets order S made weights (G .kept) (G .multiplied), slotted t (S .rules) sets firstSlots secondSlots order (S .ordered) (laid .first-slots) (laid .second-slots)) in
       rw (columned .same-costs) at h
 
 -- ---- the gates
 
-module _ (costs parents headers limits firstSlots secondSlots order : List ℕ) (r : Depths) (D : DepthsOf parents r) (over : Bool) (made weights kept : List ℕ)
+module _ (costs parents headers limits firstSlots secondSlots order : List ℕ) (r : Depths) (D : DepthsOf parents r) (over : Bool) (made : List ℕ) (weights kept : List ℤ)
     (M : rounds.Multiplied costs headers limits (r .each) (r .most) firstSlots secondSlots order over made weights kept) where
   multiplied : (t : Routine) (sets : List ℕ) → Columned t costs parents headers limits → Laid t sets firstSlots secondSlots order → rounds.MultipliedOf t over made weights kept
   multiplied t sets C L =
@@ -112,7 +112,7 @@ module _ (costs parents headers limits firstSlots secondSlots order : List ℕ) 
 
 -- ---- the figures
 
-module _ (t : Routine) (sets firstSlots secondSlots order : List ℕ) (L : Laid t sets firstSlots secondSlots order) (made weights : List ℕ) (gates : List ℤ) (G : Gated t made weights gates)
+module _ (t : Routine) (sets firstSlots secondSlots order : List ℕ) (L : Laid t sets firstSlots secondSlots order) (made : List ℕ) (weights gates : List ℤ) (G : Gated t made weights gates)
     (n : ℕ) (all : blockCount t ≡ n) (over : Bool) (figures : List ℤ) (P : fill.FiguresFilled weights firstSlots secondSlots order n gates over figures) where
   figured : fill.FiguredOf t over figures
   figured =

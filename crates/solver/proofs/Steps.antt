@@ -8,8 +8,9 @@ use native.Mathlib.Nat.{mul-le-mul}
 use native.Mathlib.Omega.{arith}
 use lib.Dec.{eqb}
 use borrow.Author.Tests.{eqb-false}
-use lib.IntN.{ℤ}
+use lib.IntN.{ℤ, pos}
 use lib.ListN.{length, getD}
+use Rattle.integers.proofs.Laws.{ints}
 use Rattle.limits.specs.Limits.{mostBlocks, mostDepth}
 use Rattle.lists.specs.Search.{if_then_else_}
 use Rattle.wcet.specs.Table.{Routine, blockCount, loopCount, missing, cost, loopOf, limit, isHeader}
@@ -83,7 +84,7 @@ pub deep-of : {parents : List ℕ} {r : Depths} → DepthsOf parents r → Deep 
 deep-of D = record { same = D .same; most = D .most }
 
 -- the gates, and the last pass
-module _ (t : Routine) (sets order : List ℕ) (S : Solvable t sets order) (made weights kept : List ℕ) (M : rounds.MultipliedOf t false made weights kept) where
+module _ (t : Routine) (sets order : List ℕ) (S : Solvable t sets order) (made : List ℕ) (weights kept : List ℤ) (M : rounds.MultipliedOf t false made weights kept) where
   Q : Ranged t
   Q = headed t (S .rules) .ranged
 
@@ -124,8 +125,8 @@ module _ (t : Routine) (sets order : List ℕ) (S : Solvable t sets order) (made
       go true = omega (arith, later, Q .cost-most x b)
       go false = omega (arith, Q .cost-most x b)
 
-  pub weight-range : (x : ℕ) → x < blockCount t → WeightFits (getD weights x 0)
+  pub weight-range : (x : ℕ) → x < blockCount t → WeightFits (getD weights x (pos 0))
   weight-range x b = record {
-    weight-least = omega (arith, M .weighed refl x b);
-    weight-most = omega (arith, M .weighed refl x b, weight-most x b);
+    weight-least = rw (M .weighed refl x b) (omega ints);
+    weight-most = rw (M .weighed refl x b) (omega (ints, weight-most x b));
   }

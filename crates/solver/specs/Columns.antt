@@ -62,8 +62,8 @@ OutcomeOf Multiplier t Done = multiplierOver (remade t) ≡ true
 OutcomeOf Figure t Done = (multiplierOver (remade t) ≡ false) × (figureOver (remade t) ≡ true)
 
 -- the last pass can start: the multipliers, the weights by them and the gates
-pub record Gated (t : Routine) (made weights : List ℕ) (gates : List ℤ) : Type 0 where
-  pub kept : List ℕ
+pub record Gated (t : Routine) (made : List ℕ) (weights gates : List ℤ) : Type 0 where
+  pub kept : List ℤ
   pub multiplied : MultipliedOf t false made weights kept
   pub size : length gates ≡ places
   pub fit : ValuesFit gates
@@ -71,13 +71,13 @@ pub record Gated (t : Routine) (made weights : List ℕ) (gates : List ℤ) : Ty
 
 -- both columns are made
 pub record ColumnsMade (t : Routine) (figures : List ℤ) (made : List ℕ) : Type 0 where
-  pub kept : List ℕ
-  pub weights : List ℕ
+  pub kept : List ℤ
+  pub weights : List ℤ
   pub multiplied : MultipliedOf t false made weights kept
   pub figured : FiguredOf t false figures
 
 -- so of every routine with these columns, slots and order
-abbrev pub GatedBy : (costs parents headers limits firstSlots secondSlots order : List ℕ) (r : Outcome) (made weights : List ℕ) (gates : List ℤ) → Type 0
+abbrev pub GatedBy : (costs parents headers limits firstSlots secondSlots order : List ℕ) (r : Outcome) (made : List ℕ) (weights gates : List ℤ) → Type 0
 GatedBy costs parents headers limits firstSlots secondSlots order r made weights gates =
     (t : Routine) (sets : List ℕ) → Columned t costs parents headers limits → Laid t sets firstSlots secondSlots order → OutcomeOf r t (Gated t made weights gates)
 

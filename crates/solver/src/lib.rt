@@ -92,7 +92,7 @@ enum Outcome {
 fn make_gates(
     gates: &mut [i64; PLACES],
     made: &mut [u64; MOST_LOOPS],
-    weights: &mut [u64; MOST_BLOCKS],
+    weights: &mut [i64; MOST_BLOCKS],
     cost: &[u32],
     parent: &[u16],
     header: &[u16],

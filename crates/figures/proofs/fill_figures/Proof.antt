@@ -1,5 +1,5 @@
-use mir.Val.{SFits, toZ}
-use mir.Facts.{toZ-ofZ, toZ-pos}
+use mir.Val.{SFits}
+use mir.Facts.{toZ-ofZ}
 use lib.IntN.{pos, _+ℤ_}
 use lib.Signed.{_≤ℤ_}
 use mir.Syntax.{w64}
@@ -15,7 +15,7 @@ use Rattle.figures.proofs.fill_figures.Statement.{statement}
 use Rattle.figures.proofs.fill_figures.Tie as tie
 use Rattle.figures.proofs.fill_figures.Reads as reads
 use Rattle.figures.proofs.fill_figures.Lts as lts
-use Rattle.figures.proofs.figure_of.Reads as figure-of-reads
+use Rattle.tails.proofs.tail_of.Reads as tail-of-reads
 
 abbrev Inv-loop : tie.InvT-loop
 Inv-loop figures₀ values₀ weights firsts seconds order n i₀ figures values i = Passing weights firsts seconds order n values₀ figures values i
@@ -34,7 +34,7 @@ module _ (s : tie.Start Inv-loop μ-loop) (i : ℕ) (b : 0 < i) (few : i ≤ s .
   low : x < 1024
   low = omega (arith, block, s .pre .4 .few)
 
-  weight : WeightFits (getD (s .args .weights .now) x 0)
+  weight : WeightFits (getD (s .args .weights .now) x (pos 0))
   weight = s .pre .3 x block
 
 loop-holds : tie.Need-loop-holds Inv-loop μ-loop
@@ -54,8 +54,8 @@ element-copy-out-x c = search needs
 cast-x : tie.Need-cast-x Inv-loop μ-loop
 cast-x c = omega (arith, low (c .before .before .before) (c .before .before .loop .i) (omega arith) (omega (arith, c .before .before .loop .inv .few)))
 
-figure-of-requires : tie.Need-figure-of-requires Inv-loop μ-loop
-figure-of-requires c κs =
+tail-of-requires : tie.Need-tail-of-requires Inv-loop μ-loop
+tail-of-requires c κs =
     let s = c .before .before .before .before in
     let i = c .before .before .before .loop .i in
     let b : 0 < i = omega arith in
@@ -67,7 +67,7 @@ returns c =
     let s = c .before .before .before .before .before .before in
     let a = s .args in
     let loop = c .before .before .before .before .before .loop in
-    let r = c .before .figure-of in
+    let r = c .before .tail-of in
     let f : SFits w64 (r .result) = search needs in
     let e = rw (toZ-ofZ f) at (c .if1 .taken) in
     passing-over (a .weights .now) (a .firsts .now) (a .seconds .now) (a .order .now) (a .n) (a .values .now) (s .pre .4) (loop .figures) (loop .values) (loop .i) (omega arith) (loop .inv) (r .result) (r .ensures) (omega (ints, e))
@@ -84,30 +84,24 @@ mul-values c = omega (arith, low (c .before .before .before .before .before .bef
 element-copy-out-values : tie.Need-element-copy-out-values Inv-loop μ-loop
 element-copy-out-values c = omega (arith, low (c .before .before .before .before .before .before) (c .before .before .before .before .before .loop .i) (omega arith) (omega (arith, c .before .before .before .before .before .loop .inv .few)))
 
-sub-values : tie.Need-sub-values Inv-loop μ-loop
-sub-values c = omega (arith, weight (c .before .before .before .before .before .before .before) (c .before .before .before .before .before .before .loop .i) (omega arith) (omega (arith, c .before .before .before .before .before .before .loop .inv .few)) .weight-least)
-
-cast-values : tie.Need-cast-values Inv-loop μ-loop
-cast-values c = let w = weight (c .before .before .before .before .before .before .before) (c .before .before .before .before .before .before .loop .i) (omega arith) (omega (arith, c .before .before .before .before .before .before .loop .inv .few)) in omega (arith, w .weight-most)
-
 add-values : tie.Need-add-values Inv-loop μ-loop
 add-values c =
     let s = c .before .before .before .before .before .before .before in
     let a = s .args in
     let loop = c .before .before .before .before .before .before .loop in
-    let r = c .before .before .figure-of in
+    let r = c .before .before .tail-of in
     let i = loop .i in
     let b : 0 < i = omega arith in
     let few : i ≤ s .args .n = loop .inv .few in
     let f : SFits w64 (r .result) = search needs in
     let e = rw (toZ-ofZ f) at (c .before .if1 .left) in
-    let w = getD (a .weights .now) (getD (a .order .now) (i - 1) 0) 0 in
+    let w = getD (a .weights .now) (getD (a .order .now) (i - 1) 0) (pos 0) in
     let W : WeightFits w = weight s i b few in
-    let g : toZ w64 (w - 1) ≡ pos (w - 1) = toZ-pos w64 {n = w - 1} (omega (arith, W .weight-most)) in
-    rw (toZ-ofZ f, g) (value-fits (r .result) w W (found-least (a .weights .now) (a .firsts .now) (a .seconds .now) (a .order .now) (a .n) (a .values .now) (s .pre .4) (loop .figures) (loop .values) i b (loop .inv) (r .result) (r .ensures)) (omega (ints, e)))
+    let g : SFits w64 w = search needs in
+    rw (toZ-ofZ f, toZ-ofZ g) (value-fits (r .result) w W (found-least (a .weights .now) (a .firsts .now) (a .seconds .now) (a .order .now) (a .n) (a .values .now) (s .pre .4) (loop .figures) (loop .values) i b (loop .inv) (r .result) (r .ensures)) (omega (ints, e)))
 
-mul-t25 : tie.Need-mul-t25 Inv-loop μ-loop
-mul-t25 c = omega (arith, low (c .before .before .before .before .before .before .before) (c .before .before .before .before .before .before .loop .i) (omega arith) (omega (arith, c .before .before .before .before .before .before .loop .inv .few)))
+mul-t23 : tie.Need-mul-t23 Inv-loop μ-loop
+mul-t23 c = omega (arith, low (c .before .before .before .before .before .before .before) (c .before .before .before .before .before .before .loop .i) (omega arith) (omega (arith, c .before .before .before .before .before .before .loop .inv .few)))
 
 element-set-from-values : tie.Need-element-set-from-values Inv-loop μ-loop
 element-set-from-values c = omega (arith, low (c .before .before .before .before .before .before .before) (c .before .before .before .before .before .before .loop .i) (omega arith) (omega (arith, c .before .before .before .before .before .before .loop .inv .few)))
@@ -120,18 +114,18 @@ loop-again c =
     let s = c .before .before .before .before .before .before .before in
     let a = s .args in
     let loop = c .before .before .before .before .before .before .loop in
-    let r = c .before .before .figure-of in
+    let r = c .before .before .tail-of in
     let i = loop .i in
     let b : 0 < i = omega arith in
     let few : i ≤ s .args .n = loop .inv .few in
     let f : SFits w64 (r .result) = search needs in
     let e = rw (toZ-ofZ f) at (c .before .if1 .left) in
-    let w = getD (a .weights .now) (getD (a .order .now) (i - 1) 0) 0 in
+    let w = getD (a .weights .now) (getD (a .order .now) (i - 1) 0) (pos 0) in
     let W : WeightFits w = weight s i b few in
-    let g : toZ w64 (w - 1) ≡ pos (w - 1) = toZ-pos w64 {n = w - 1} (omega (arith, W .weight-most)) in
+    let g : SFits w64 w = search needs in
     let low : r .result ≤ℤ pos (2 ^ 60) = omega (ints, e) in
-    let v : SFits w64 (r .result +ℤ pos (w - 1)) = value-fits (r .result) w W (found-least (a .weights .now) (a .firsts .now) (a .seconds .now) (a .order .now) (a .n) (a .values .now) (s .pre .4) (loop .figures) (loop .values) i b (loop .inv) (r .result) (r .ensures)) low in
-    rw (toZ-ofZ f, g, toZ-ofZ v) (passing-next (a .weights .now) (a .firsts .now) (a .seconds .now) (a .order .now) (a .n) (a .values .now) (s .pre .4) (loop .figures) (loop .values) i b (loop .inv) (r .result) (r .ensures) W low)
+    let v : SFits w64 (r .result +ℤ w) = value-fits (r .result) w W (found-least (a .weights .now) (a .firsts .now) (a .seconds .now) (a .order .now) (a .n) (a .values .now) (s .pre .4) (loop .figures) (loop .values) i b (loop .inv) (r .result) (r .ensures)) low in
+    rw (toZ-ofZ f, toZ-ofZ g, toZ-ofZ v) (passing-next (a .weights .now) (a .firsts .now) (a .seconds .now) (a .order .now) (a .n) (a .values .now) (s .pre .4) (loop .figures) (loop .values) i b (loop .inv) (r .result) (r .ensures) W low)
 
 returns-2 : tie.Need-returns-2 Inv-loop μ-loop
 returns-2 c =
@@ -151,16 +145,14 @@ fill-figures-spec =
     mul-x
     element-copy-out-x
     cast-x
-    figure-of-requires
+    tail-of-requires
     returns
     mul-f
     element-set-from-f
     mul-values
     element-copy-out-values
-    sub-values
-    cast-values
     add-values
-    mul-t25
+    mul-t23
     element-set-from-values
     loop-less
     loop-again

@@ -8,6 +8,7 @@ use mir.Facts.{toZ-ofZ}
 use lib.IntN.{pos}
 use lib.ListN.{getD}
 use Rattle.integers.proofs.Laws.{ints}
+use Rattle.multipliers.specs.Columns.{keptAt}
 use Rattle.figures.proofs.Turns.{Turning, turning-first, turning-skip, chosen-known, turning-next, turning-over, turning-all}
 use borrow.Author.Needs.{needs}
 use Rattle.figures.proofs.take_turns.Statement.{statement}
@@ -65,7 +66,9 @@ turn-at-requires c κs =
     let loop = c .before .before .before .before .before .loop in
     let l = loop .l in
     let h : l < a .m = omega arith in
-    let m : getD (a .level .now) l 0 < a .m = s .pre .0 .chosen l h (c .before .before .if1 .taken) in (
+    let m : getD (a .level .now) l 0 < a .m = s .pre .0 .chosen l h (c .before .before .if1 .taken) in
+    let f : SFits w64 (getD (a .kept .now) (keptAt l (a .d)) (pos 0)) = search needs in
+    rw (toZ-ofZ f) (
       omega (arith, s .pre .0 .few),
       s .pre .1 _,
       s .pre .0 .multiplier-most _ m,
@@ -90,8 +93,9 @@ returns c =
     let vf : SFits w64 (getD (loop .heads) l (pos 0)) = search needs in
     let gf : SFits w64 (c .before .before .before .turn-at .result) = search needs in
     let ff : SFits w64 (c .before .higher .result) = search needs in
+    let wf : SFits w64 (getD (a .kept .now) (keptAt l (a .d)) (pos 0)) = search needs in
     turning-over (a .kept .now) (a .made .now) (a .level .now) (a .d) (a .m) (a .heads .now) (s .pre .0) (loop .heads) l (loop .inv .1) (omega arith) (c .before .before .before .before .before .before .if1 .taken) (c .before .before .before .turn-at .result) (c .before .higher .result)
-    (c .before .before .before .turn-at .ensures) (rw (toZ-ofZ vf, toZ-ofZ gf) at (c .before .higher .ensures .0)) (let e = rw (toZ-ofZ ff) at (c .if2 .taken) in omega (ints, e))
+    (rw (toZ-ofZ wf) at (c .before .before .before .turn-at .ensures)) (rw (toZ-ofZ vf, toZ-ofZ gf) at (c .before .higher .ensures .0)) (let e = rw (toZ-ofZ ff) at (c .if2 .taken) in omega (ints, e))
 
 mul-f : tie.Need-mul-f Inv-loop μ-loop
 mul-f c = omega (arith, loop (c .before .before .before .before .before .before .before .before .before .before) (c .before .before .before .before .before .before .before .before .before .loop .l) (omega arith))
@@ -116,9 +120,10 @@ loop-again c =
           let vf : SFits w64 (getD (loop .heads) l (pos 0)) = search needs in
           let gf : SFits w64 (w .3 .result) = search needs in
           let ff : SFits w64 (w .5 .result) = search needs in
+          let wf : SFits w64 (getD (a .kept .now) (keptAt l (a .d)) (pos 0)) = search needs in
           let e = rw (toZ-ofZ vf, toZ-ofZ gf) at (w .5 .ensures) in
           rw (w .7, toZ-ofZ ff) (turning-next (a .kept .now) (a .made .now) (a .level .now) (a .d) (a .m) (a .heads .now) (s .pre .0) (loop .heads) l (loop .inv .1) (omega arith) (w .0 .taken) (w .3 .result) (w .5 .result)
-          (w .3 .ensures) (e .0) (e .1) (let e = rw (toZ-ofZ ff) at (w .6 .left) in omega (ints, e)))) (λ w.
+          (rw (toZ-ofZ wf) at (w .3 .ensures)) (e .0) (e .1) (let e = rw (toZ-ofZ ff) at (w .6 .left) in omega (ints, e)))) (λ w.
           rw (w .1) (turning-skip (a .kept .now) (a .made .now) (a .level .now) (a .d) (a .m) (a .heads .now) (s .pre .0) (loop .heads) l (loop .inv .1) (omega arith) (w .0 .left))) (c .if1 .came),
     )
 

@@ -16,13 +16,13 @@ use Rattle.figures.proofs.from_exit.Reads as from-exit-reads
 use Rattle.figures.proofs.from_header.Reads as from-header-reads
 
 from-exit-requires : tie.Need-from-exit-requires
-from-exit-requires c κs = (c .before) .pre .1
+from-exit-requires c κs = rw (toZ-ofZ ((c .before) .fits .w)) ((c .before) .pre .1)
 
 returns : tie.Need-returns
 unfolding turnOf
 returns c =
     let f : SFits w64 (c .from-exit .result) = search needs in
-    rw (toZ-ofZ f, eq-eqb _ _ (c .before .if1 .taken)) (c .from-exit .ensures)
+    rw (toZ-ofZ f, eq-eqb _ _ (c .before .if1 .taken)) (rw (toZ-ofZ (c .before .before .fits .w)) at (c .from-exit .ensures))
 
 returns-2 : tie.Need-returns-2
 unfolding turnOf
@@ -44,7 +44,7 @@ from-header-requires : tie.Need-from-header-requires
 from-header-requires c κs =
     let s = c .before .before .before .before in
     let f : SFits w64 (getD (s .args .heads .now) (s .args .j) (pos 0)) = search needs in
-    rw (toZ-ofZ f) (s .pre .2, s .pre .1, s .pre .3)
+    rw (toZ-ofZ f, toZ-ofZ (s .fits .w)) (s .pre .2, s .pre .1, s .pre .3)
 
 returns-3 : tie.Need-returns-3
 unfolding turnOf
@@ -52,7 +52,7 @@ returns-3 c =
     let s = c .before .before .before .before .before in
     let f : SFits w64 (c .from-header .result) = search needs in
     let g : SFits w64 (getD (s .args .heads .now) (s .args .j) (pos 0)) = search needs in
-    rw (toZ-ofZ f, ne-eqb _ _ (c .before .before .before .before .if1 .left), ne-eqb _ _ (c .before .before .before .if2 .left)) (rw (toZ-ofZ g) at (c .from-header .ensures))
+    rw (toZ-ofZ f, ne-eqb _ _ (c .before .before .before .before .if1 .left), ne-eqb _ _ (c .before .before .before .if2 .left)) (rw (toZ-ofZ g, toZ-ofZ (s .fits .w)) at (c .from-header .ensures))
 
 pub turn-at-spec : {M : Type 1} → statement M
 turn-at-spec =

@@ -1,6 +1,5 @@
 use mathlib.Core.Path.{refl}
-use native.Mathlib.Omega.{arith}
-use Rattle.solver.proofs.Columns.{zeros}
+use Rattle.multipliers.proofs.Weights.{none-low}
 use Rattle.solver.proofs.Making.{depths-ready, rounds-ready, gated-multiplier, gates-ready, gated-figure, gated-made}
 use borrow.Author.Needs.{needs}
 use Rattle.solver.proofs.make_gates.Statement.{statement}
@@ -21,7 +20,7 @@ remake-multipliers-requires : tie.Need-remake-multipliers-requires
 remake-multipliers-requires c κs =
     let s = c .before .before .before .before .before .before .before .before .before .before in
     let a = s .args in
-    (rounds-ready (a .cost .now) (a .parent .now) (a .header .now) (a .limit .now) (a .firsts .now) (a .seconds .now) (a .order .now) (s .pre .0) _ (c .before .before .before .before .before .depths-of .ensures), s .pre .2, s .pre .3, refl, λ i. omega (arith, zeros 1024 i), s .pre .4)
+    (rounds-ready (a .cost .now) (a .parent .now) (a .header .now) (a .limit .now) (a .firsts .now) (a .seconds .now) (a .order .now) (s .pre .0) _ (c .before .before .before .before .before .depths-of .ensures), s .pre .2, s .pre .3, refl, none-low 1024, s .pre .4)
 
 returns : tie.Need-returns
 returns c =
