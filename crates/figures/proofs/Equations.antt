@@ -54,7 +54,7 @@ greatest f a b p q (inr e) = go (ltZ a b) refl
 
 module _ (t : Routine) (rules : AllHold (structureRules t)) (declared : undeclaredLoop t ≡ false) (paths : (u : ℕ) → u < blockCount t → PathToExit t u)
     (sets : List ℕ) (around-sets : sets ≡ setsAround (t .parents)) (order : List ℕ) (O : Topological t order)
-    (made : List ℕ) (weights kept : List ℤ) (M : MultipliedOf t false made weights kept) (gates : List ℤ) (G : GatesOf t false gates) where
+    (made : List ℕ) (weights kept : List ℤ) (M : MultipliedOf t false made weights kept) (gates : List ℤ) (G : GatesOf t gates) where
   abbrev n : ℕ
   n = blockCount t
 
@@ -81,10 +81,10 @@ module _ (t : Routine) (rules : AllHold (structureRules t)) (declared : undeclar
   at-gate s h = rw (le-ltb s n (omega (arith, few-blocks)))
 
   at-nowhere : value nowhere ≡ noFigure
-  at-nowhere = at-gate nowhere (omega arith) ∙ G .empty refl
+  at-nowhere = at-gate nowhere (omega arith) ∙ G .empty
 
   at-exit-gate : value mostBlocks ≡ pos 0
-  at-exit-gate = at-gate mostBlocks (omega arith) ∙ G .exit-gate refl
+  at-exit-gate = at-gate mostBlocks (omega arith) ∙ G .exit-gate
 
   low : (l : ℕ) → l < loopCount t → getD (remadeMultipliers t) l 0 ≤ 2 ^ 40
   unfolding multiplierOver
@@ -113,7 +113,7 @@ module _ (t : Routine) (rules : AllHold (structureRules t)) (declared : undeclar
     asked-back r =
         let p : (0 < loopOf t v) × (header t (loopOf t v) ≡ v) × (inside t x (loopOf t v) ≡ true) = back-to t N x v b e r in
         let k : loopOf t v < loopCount t = target-loop t N x v b e in
-        at-gate (mostBlocks + loopOf t v) (omega arith) ∙ G .gate refl (loopOf t v) (p .0) k ∙ rw (r, p .1)
+        at-gate (mostBlocks + loopOf t v) (omega arith) ∙ G .gate (loopOf t v) (p .0) k ∙ rw (r, p .1)
 
     asked-on : backEdge t x v ≡ false → value v ≡ asks t x v
     unfolding asks

@@ -18,10 +18,10 @@ use Rattle.integers.proofs.Laws.{ints, sum, diff, size}
 use Rattle.limits.specs.Limits.{mostBlocks}
 use Rattle.lists.specs.Search.{if_then_else_}
 use Rattle.tails.specs.Words.{greaterOf}
-use Rattle.tails.specs.Slots.{places, nowhere, Slotted}
+use Rattle.tails.specs.Slots.{places, Slotted}
 use Rattle.tails.proofs.Words.{greater-least}
 use Rattle.figures.specs.Figures.{noFigure, HeadFits, ValuesFit, WeightFits}
-use Rattle.figures.specs.Columns.{GatesSet, Unopened, slotValue, Equations, FiguresFilled}
+use Rattle.figures.specs.Columns.{GatesSet, slotValue, Equations, FiguresFilled}
 
 -- ---- the gates
 
@@ -90,7 +90,7 @@ module _ (costs headers made : List ℕ) (heads old : List ℤ) where
   }
 
 -- a pass can start with no figure anywhere
-none-fit : (k : ℕ) → ValuesFit (replicate k noFigure)
+pub none-fit : (k : ℕ) → ValuesFit (replicate k noFigure)
 none-fit k i = go (ltb i k) refl
   where
     go : (a : Bool) → ltb i k ≡ a → (negℤ (pos (2 ^ 62 + 2 ^ 41)) ≤ℤ getD (replicate k noFigure) i (pos 0)) × (getD (replicate k noFigure) i (pos 0) ≤ℤ pos (2 ^ 61))
@@ -98,9 +98,6 @@ none-fit k i = go (ltb i k) refl
     go false a =
         let e : length (replicate k noFigure) ≤ i = rw (length-replicate k noFigure) (ltb-false i k a) in
         rw (List·getD-eq-default (replicate k noFigure) (pos 0) e) (omega ints, omega ints)
-
-pub none-unopened : Unopened (replicate places noFigure)
-none-unopened = record { size = length-replicate places noFigure; fit = none-fit places; empty = getD-replicate places nowhere noFigure (pos 0) (omega arith) }
 
 -- with these gates
 pub gates-fit : (costs headers made : List ℕ) (heads old new : List ℤ) → GatesSet costs headers made heads old new → ValuesFit old

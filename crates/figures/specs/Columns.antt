@@ -11,18 +11,16 @@ use lib.Signed.{ltZ, _≤ℤ_, _<ℤ_}
 use Rattle.limits.specs.Limits.{mostBlocks, mostLoops, mostDepth}
 use Rattle.lists.specs.Search.{if_then_else_}
 use Rattle.wcet.specs.Table.{Routine, blockCount, loopCount, cost, header}
-use Rattle.wcet.specs.Cycles.{undeclaredLoop}
 use Rattle.wcet.specs.Rules.{structureRules}
 use Rattle.wcet.specs.Claim.{AllHold}
 use Rattle.loopsets.specs.Sets.{Parents}
 use Rattle.levels.specs.Levels.{noLoop, Deep}
-use Rattle.optimum.specs.Remade.{PathToExit}
 use Rattle.optimum.specs.Tails.{best}
 use Rattle.optimum.specs.Columns.{tails, figureBy, remadeMultipliers, remultiplied, remadeFigures}
 use Rattle.tails.specs.Words.{wordOf, greaterOf, Low}
-use Rattle.tails.specs.Slots.{places, nowhere}
+use Rattle.tails.specs.Slots.{nowhere}
 use Rattle.multipliers.specs.Columns.{keptAt, MultipliedOf}
-use Rattle.figures.specs.Figures.{noFigure, figureOf, turnOf, ValuesFit}
+use Rattle.figures.specs.Figures.{noFigure, figureOf, turnOf}
 
 -- ---- the figures of the headers
 
@@ -110,37 +108,16 @@ pub record FiguresFilled (weights : List ℤ) (firstSlots secondSlots order : Li
   pub says : (F : ℕ → ℤ) → Equations F n weights firstSlots secondSlots order gates
       → (over ≡ false → (x : ℕ) → x < n → (getD figures x (pos 0) ≡ F x) × (F x ≤ℤ pos (2 ^ 60))) × (over ≡ true → (x : ℕ) × (x < n) × (pos (2 ^ 60) <ℤ F x))
 
--- values that a pass can start from when its gates are open
-pub record Unopened (values : List ℤ) : Type 0 where
-  pub size : length values ≡ places
-  pub fit : ValuesFit values
-  pub empty : getD values nowhere (pos 0) ≡ noFigure
-
--- what the gates require: the columns of some routine that passes 201 to 207, and its tails and multipliers
-pub record GatesReadied (costs parents headers made : List ℕ) (kept : List ℤ) (depths : List ℕ) (deepest : ℕ) (old : List ℤ) : Type 0 where
-  pub heads-readied : HeadsReadied parents kept made depths deepest
-  pub headers-size : length headers ≡ length parents
-  pub header-block : (l : ℕ) → l < length headers → getD headers l 0 < length costs
-  pub unopened : Unopened old
-
 -- some remade figure of t is over 2^60
 abbrev pub FigureHigh : Routine → Type 0
 FigureHigh t = (x : ℕ) × (x < blockCount t) × (pos (2 ^ 60) <ℤ getD (remadeFigures t) x (pos 0))
 
--- the gates of t by its remade columns, unless a figure is over 2^60: what a back edge to the header of each loop asks for, and 0 for the exit
-pub record GatesOf (t : Routine) (over : Bool) (gates : List ℤ) : Type 0 where
-  pub exit-gate : over ≡ false → getD gates mostBlocks (pos 0) ≡ pos 0
-  pub gate : over ≡ false → (l : ℕ) → 0 < l → l < loopCount t
+-- the gates of t by its remade columns: what a back edge to the header of each loop asks for, and 0 for the exit
+pub record GatesOf (t : Routine) (gates : List ℤ) : Type 0 where
+  pub exit-gate : getD gates mostBlocks (pos 0) ≡ pos 0
+  pub gate : (l : ℕ) → 0 < l → l < loopCount t
       → getD gates (mostBlocks + l) (pos 0) ≡ pos (cost t (header t l)) -ℤ pos (getD (remadeMultipliers t) l 0) +ℤ getD (remadeFigures t) (header t l) (pos 0)
-  pub empty : over ≡ false → getD gates nowhere (pos 0) ≡ noFigure
-  pub high : over ≡ true → FigureHigh t
-
--- of every routine with these three columns that passes 201 to 207, 209 and 401, if the multipliers and the tails are its own
-pub record GatesOpened (costs parents headers made : List ℕ) (kept : List ℤ) (over : Bool) (gates : List ℤ) : Type 0 where
-  pub size : length gates ≡ places
-  pub fit : over ≡ false → ValuesFit gates
-  pub says : (t : Routine) (weights : List ℤ) → t .costs ≡ costs → t .parents ≡ parents → t .headers ≡ headers → AllHold (structureRules t) → undeclaredLoop t ≡ false
-      → ((u : ℕ) → u < blockCount t → PathToExit t u) → MultipliedOf t false made weights kept → GatesOf t over gates
+  pub empty : getD gates nowhere (pos 0) ≡ noFigure
 
 -- the remade figures of t, unless one of them is over 2^60
 pub record FiguredOf (t : Routine) (over : Bool) (figures : List ℤ) : Type 0 where

@@ -12,7 +12,7 @@ ghost use Rattle.optimum.specs.Columns.{fromExit, fromHeader};
 ghost use Rattle.tails.specs.Words.{wordOf, Word, Low};
 ghost use Rattle.tails.specs.Slots.{places, Slotted};
 ghost use Rattle.figures.specs.Figures.{noFigure, figureOf, Known, turnOf, HeadFits, ValuesFit, WeightFits};
-ghost use Rattle.figures.specs.Columns.{Turnable, Turned, HeadsReadied, HeadsOf, GatesSet, GatesReadied, GatesOpened, FiguresFilled};
+ghost use Rattle.figures.specs.Columns.{Turnable, Turned, HeadsReadied, HeadsOf, GatesSet, FiguresFilled};
 use limits::MOST_BLOCKS;
 use limits::MOST_LOOPS;
 use tails::PLACES;
@@ -117,7 +117,8 @@ fn take_turns(
 }
 
 // The figures of the headers: depth by depth, loop 0 first, since the figure of a header inside a loop can come from that of the loop's header.
-fn head_figures(
+// Returns whether one is over 2^60; then the others are not made.
+pub fn head_figures(
     heads: &mut Heads,
     parent: &[u16],
     kept: &Words,
@@ -139,10 +140,16 @@ fn head_figures(
     false
 }
 
-// ---- the gates
+// ---- the figures of all blocks
 
 // The gates: what a back edge to the header of each loop asks for, and 0 at the gate of loop 0, the slot of the exit.
-fn set_gates(values: &mut Values, cost: &[u32], header: &[u16], made: &Multipliers, heads: &Heads)
+pub fn set_gates(
+    values: &mut Values,
+    cost: &[u32],
+    header: &[u16],
+    made: &Multipliers,
+    heads: &Heads,
+)
     requires { ⌜ (length (now values) ≡ places) × (length (now header) ≤ mostLoops) × ((l : ℕ) → l < length (now header) → (getD (now header) l 0 < length (now cost)) × (getD (now made) l 0 ≤ 2 ^ 40) × HeadFits (getD (now heads) l (pos 0))) ⌝ }
     ensures { λ _. ⌜ GatesSet (now (cost .entry)) (now (header .entry)) (now (made .entry)) (now (heads .entry)) (now (values .entry)) (now (values .exit)) ⌝ }
 {
@@ -154,30 +161,6 @@ fn set_gates(values: &mut Values, cost: &[u32], header: &[u16], made: &Multiplie
         l += 1;
     }
 }
-
-// Opens the gates for the last pass, by the figures of the headers. Returns whether one of these is over 2^60; then no gate is open.
-pub fn open_gates(
-    gates: &mut Values,
-    cost: &[u32],
-    parent: &[u16],
-    header: &[u16],
-    made: &Multipliers,
-    kept: &Words,
-    depths: &Depths,
-    deepest: u16,
-) -> bool
-    requires { ⌜ GatesReadied (now cost) (now parent) (now header) (now made) (now kept) (now depths) deepest (now gates) ⌝ }
-    ensures { λ r. ⌜ GatesOpened (now (cost .entry)) (now (parent .entry)) (now (header .entry)) (now (made .entry)) (now (kept .entry)) r (now (gates .exit)) ⌝ }
-{
-    let mut heads = [NO_FIGURE; MOST_LOOPS];
-    if head_figures(&mut heads, parent, kept, made, depths, deepest) {
-        return true;
-    }
-    set_gates(gates, cost, header, made, &heads);
-    false
-}
-
-// ---- the figures of all blocks
 
 // The figures of n blocks: from the last in a topological order to the first. The value of a block is its figure and its weight. Returns whether a
 // figure is over 2^60; then the others are not made.

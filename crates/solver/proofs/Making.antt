@@ -3,29 +3,31 @@ use mathlib.Core.Path.{_≡_, refl}
 use mathlib.Core.Bool.{Bool, true, false}
 use mathlib.Core.List.{List}
 use mathlib.Core.Logic.{_⊎_, inl, inr}
-use Prim.Native.Nat.{ℕ, _≤_, _<_}
+use Prim.Native.Nat.{ℕ, _^_, _≤_, _<_}
 use native.Mathlib.Omega.{arith}
 use denote.Enum.Declared.{tagOf}
 use lib.IntN.{ℤ, pos}
-use lib.ListN.{length, getD}
+use lib.ListN.{length, getD, replicate, getD-replicate}
 use Rattle.limits.specs.Limits.{mostBlocks, mostLoops}
-use Rattle.wcet.specs.Table.{Routine, blockCount, header}
+use Rattle.wcet.specs.Table.{Routine, blockCount, loopCount, header}
 use Rattle.loopsets.specs.Sets.{Parents}
 use Rattle.nesting.specs.Columns.{Ranged}
 use Rattle.nesting.proofs.Stages.{headed}
 use Rattle.levels.specs.Levels.{DepthsOf}
 use Rattle.levels.specs.declared.Depths.{Depths}
-use Rattle.tails.specs.Slots.{Slotted}
+use Rattle.tails.specs.Slots.{places, nowhere, Slotted}
 use Rattle.multipliers.specs.Columns as rounds
-use Rattle.figures.specs.Figures.{WeightFits}
+use Rattle.figures.specs.Figures.{noFigure, HeadFits, ValuesFit, WeightFits}
 use Rattle.figures.specs.Columns as fill
+use Rattle.figures.proofs.Pass.{none-fit, gates-fit}
+use Rattle.figures.proofs.Gates.{head-high, gates-of as by-heads}
 use Rattle.figures.proofs.Equations as equations
 use Rattle.solver.specs.declared.Outcome.{Outcome}
 use Rattle.solver.specs.declared.Outcome.the-variants.{Made, Multiplier, Figure}
-use Rattle.solver.specs.Columns.{Solvable, Laid, Columned, Makeable, OutcomeOf, Gated, ColumnsMade, GatedBy, MadeBy}
+use Rattle.solver.specs.Columns.{Solvable, Laid, Columned, Makeable, OutcomeOf, Headed, ColumnsMade, HeadedBy, MadeBy}
 use Rattle.solver.proofs.Outcome.{the-type}
-use Rattle.solver.proofs.Columns.{multiplier-over, multipliers-fit, figure-over}
-use Rattle.solver.proofs.Steps.{slotted, rounds-readied, deep-of, gates-readied, weight-range}
+use Rattle.solver.proofs.Columns.{multiplier-over, multipliers-fit, made-most, figure-over}
+use Rattle.solver.proofs.Steps.{slotted, rounds-readied, deep-of, heads-readied, weight-range}
 
 -- ---- outcomes
 
@@ -63,13 +65,29 @@ module _ (costs parents headers limits firstSlots secondSlots order : List ℕ) 
       = (R .sized .few-blocks, λ l b. omega (arith, R .header-below l (omega (arith, R .sized .headers)), R .sized .few-blocks)) in
       rw (columned .same-costs, columned .same-headers) at h
 
-  pub pass-ready : (made : List ℕ) (weights gates : List ℤ) → Gated t made weights gates → ((x : ℕ) → x < length costs → WeightFits (getD weights x (pos 0))) × Slotted (length costs) firstSlots secondSlots order
-  pass-ready made weights gates G =
-      let h : ((x : ℕ) → x < blockCount t → WeightFits (getD weights x (pos 0))) × Slotted (blockCount t) firstSlots secondSlots order
-      = (weight-range t sets order S made weights (G .kept) (G .multiplied), slotted t (S .rules) sets firstSlots secondSlots order (S .ordered) (laid .first-slots) (laid .second-slots)) in
-      rw (columned .same-costs) at h
+  pub loops-ready : length headers ≤ mostLoops
+  loops-ready = let h : length (t .headers) ≤ mostLoops = omega (arith, R .sized .headers, R .sized .few-loops) in rw (columned .same-headers) at h
 
--- ---- the gates
+  -- with the multipliers and the figures of the headers
+  module _ (made : List ℕ) (weights heads : List ℤ) (G : Headed t made weights heads) where
+    -- what a gate is made of is in range
+    pub gate-ready : (l : ℕ) → l < length headers → (getD headers l 0 < length costs) × (getD made l 0 ≤ 2 ^ 40) × HeadFits (getD heads l (pos 0))
+    gate-ready l b =
+        let h : l < length (t .headers) = rw (columned .same-headers) b in
+        let m : l < loopCount t = omega (arith, R .sized .headers) in
+        let p : header t l < blockCount t = R .header-below l m in
+        (rw (columned .same-headers, columned .same-costs) at p, made-most t sets order S made weights (G .kept) (G .multiplied) l m, G .fit l m)
+
+    pub gates-ready : (gates : List ℤ) → fill.GatesSet costs headers made heads (replicate places noFigure) gates → ((i : ℕ) → getD costs i 0 < 2 ^ 32) → ValuesFit gates
+    gates-ready gates X word = gates-fit costs headers made heads (replicate places noFigure) gates X (none-fit places) (λ l b. let g = gate-ready l b in (word (getD headers l 0), g .1, g .2))
+
+    pub weight-ready : (x : ℕ) → x < length costs → WeightFits (getD weights x (pos 0))
+    weight-ready x b = weight-range t sets order S made weights (G .kept) (G .multiplied) x (rw (columned .same-costs) b)
+
+  pub slots-ready : Slotted (length costs) firstSlots secondSlots order
+  slots-ready = rw (columned .same-costs) at (slotted t (S .rules) sets firstSlots secondSlots order (S .ordered) (laid .first-slots) (laid .second-slots))
+
+-- ---- the multipliers and the figures of the headers
 
 module _ (costs parents headers limits firstSlots secondSlots order : List ℕ) (r : Depths) (D : DepthsOf parents r) (over : Bool) (made : List ℕ) (weights kept : List ℤ)
     (M : rounds.Multiplied costs headers limits (r .each) (r .most) firstSlots secondSlots order over made weights kept) where
@@ -78,46 +96,53 @@ module _ (costs parents headers limits firstSlots secondSlots order : List ℕ) 
       let S = L .solvable in
       M .says t sets (C .same-costs) (C .same-headers) (C .same-limits) (S .rules) (S .sets-around) (rw (C .same-parents) (deep-of D)) (S .ordered) (L .first-slots) (L .second-slots)
 
-  pub gated-multiplier : over ≡ true → (gates : List ℤ) → GatedBy costs parents headers limits firstSlots secondSlots order Multiplier made weights gates
-  gated-multiplier o gates t sets C L = multiplier-over t over made weights kept (multiplied t sets C L) o
+  pub headed-multiplier : over ≡ true → (heads : List ℤ) → HeadedBy costs parents headers limits firstSlots secondSlots order Multiplier made weights heads
+  headed-multiplier o heads t sets C L = multiplier-over t over made weights kept (multiplied t sets C L) o
 
   module _ (o : over ≡ false) where
     multiplied-all : (t : Routine) (sets : List ℕ) → Columned t costs parents headers limits → Laid t sets firstSlots secondSlots order → rounds.MultipliedOf t false made weights kept
     multiplied-all t sets C L = rw o at (multiplied t sets C L)
 
-    pub gates-ready : Makeable costs parents headers limits firstSlots secondSlots order → (old : List ℤ) → fill.Unopened old → fill.GatesReadied costs parents headers made kept (r .each) (r .most) old
-    gates-ready P old U =
+    pub heads-ready : Makeable costs parents headers limits firstSlots secondSlots order → fill.HeadsReadied parents kept made (r .each) (r .most)
+    heads-ready P =
         let C = P .columned in
-        rw (C .same-costs, C .same-parents, C .same-headers) at
-        (gates-readied (P .t) (P .sets) order (P .laid .solvable) made weights kept (multiplied-all (P .t) (P .sets) C (P .laid)) (r .each) (r .most) (rw (C .same-parents) (deep-of D))
-        (rounds-ready costs parents headers limits firstSlots secondSlots order P r D .deep) (M .kept-low) old U)
+        rw (C .same-parents) at
+        (heads-readied (P .t) (P .sets) order (P .laid .solvable) made weights kept (multiplied-all (P .t) (P .sets) C (P .laid)) (r .each) (r .most) (rw (C .same-parents) (deep-of D))
+        (rounds-ready costs parents headers limits firstSlots secondSlots order P r D .deep) (M .kept-low))
 
-    module _ (high : Bool) (gates : List ℤ) (G : fill.GatesOpened costs parents headers made kept high gates) where
-      gates-of : (t : Routine) (sets : List ℕ) → Columned t costs parents headers limits → Laid t sets firstSlots secondSlots order → fill.GatesOf t high gates
-      gates-of t sets C L =
+    module _ (high : Bool) (heads : List ℤ) (H : fill.HeadsOf parents kept made high heads) where
+      heads-figured : (t : Routine) (sets : List ℕ) → Columned t costs parents headers limits → Laid t sets firstSlots secondSlots order → fill.HeadsFigured t high heads
+      heads-figured t sets C L = H .says t weights (C .same-parents) (L .solvable .rules) (multiplied-all t sets C L)
+
+      pub headed-figure : high ≡ true → HeadedBy costs parents headers limits firstSlots secondSlots order Figure made weights heads
+      headed-figure h t sets C L =
           let S = L .solvable in
-          G .says t weights (C .same-costs) (C .same-parents) (C .same-headers) (S .rules) (S .declared) (S .paths) (multiplied-all t sets C L)
+          (multipliers-fit t false made weights kept (multiplied-all t sets C L) refl, figure-over t (head-high t (S .rules) (S .declared) (S .paths) heads (rw h at (heads-figured t sets C L))))
 
-      pub gated-figure : high ≡ true → GatedBy costs parents headers limits firstSlots secondSlots order Figure made weights gates
-      gated-figure h t sets C L = (multipliers-fit t false made weights kept (multiplied-all t sets C L) refl, figure-over t (gates-of t sets C L .high h))
-
-      pub gated-made : high ≡ false → GatedBy costs parents headers limits firstSlots secondSlots order Made made weights gates
-      gated-made h t sets C L = record {
+      pub headed-made : high ≡ false → HeadedBy costs parents headers limits firstSlots secondSlots order Made made weights heads
+      headed-made h t sets C L = record {
         kept = kept;
         multiplied = multiplied-all t sets C L;
-        size = G .size;
-        fit = G .fit h;
-        gates-of = rw h at (gates-of t sets C L);
+        heads-figured = rw h at (heads-figured t sets C L);
+        fit = λ l b. let B = H .bounded h l (rw (C .same-parents) at b) in record { head-least = B .least; head-most = B .most };
       }
 
 -- ---- the figures
 
-module _ (t : Routine) (sets firstSlots secondSlots order : List ℕ) (L : Laid t sets firstSlots secondSlots order) (made : List ℕ) (weights gates : List ℤ) (G : Gated t made weights gates)
-    (n : ℕ) (all : blockCount t ≡ n) (over : Bool) (figures : List ℤ) (P : fill.FiguresFilled weights firstSlots secondSlots order n gates over figures) where
+module _ (costs parents headers limits : List ℕ) (t : Routine) (C : Columned t costs parents headers limits) (sets firstSlots secondSlots order : List ℕ) (L : Laid t sets firstSlots secondSlots order)
+    (made : List ℕ) (weights heads : List ℤ) (G : Headed t made weights heads) (gates : List ℤ) (X : fill.GatesSet costs headers made heads (replicate places noFigure) gates)
+    (over : Bool) (figures : List ℤ) (P : fill.FiguresFilled weights firstSlots secondSlots order (length costs) gates over figures) where
+  gates-of : fill.GatesOf t gates
+  gates-of =
+      let S = L .solvable in
+      by-heads t (S .rules) (S .declared) (S .paths) heads made weights (G .kept) (G .multiplied) (G .heads-figured) (replicate places noFigure) gates
+      (rw (C .same-costs, C .same-headers) X) (getD-replicate places nowhere noFigure (pos 0) (omega arith))
+
   figured : fill.FiguredOf t over figures
   figured =
       let S = L .solvable in
-      equations.figured t (S .rules) (S .declared) (S .paths) sets (S .sets-around) order (S .ordered) made weights (G .kept) (G .multiplied) gates (G .gates-of) firstSlots secondSlots (L .first-slots) (L .second-slots) over figures (rw all P)
+      equations.figured t (S .rules) (S .declared) (S .paths) sets (S .sets-around) order (S .ordered) made weights (G .kept) (G .multiplied) gates gates-of firstSlots secondSlots (L .first-slots) (L .second-slots) over figures
+      (rw (C .same-costs) P)
 
   pub figure-high : over ≡ true → OutcomeOf Figure t (ColumnsMade t figures made)
   figure-high o = (multipliers-fit t false made weights (G .kept) (G .multiplied) refl, figure-over t (figured .high o))

@@ -83,26 +83,20 @@ module _ (t : Routine) (h : AllHold (structureRules t)) where
 pub deep-of : {parents : List ℕ} {r : Depths} → DepthsOf parents r → Deep parents (r .each) (r .most)
 deep-of D = record { same = D .same; most = D .most }
 
--- the gates, and the last pass
+-- the figures of the headers, and the last pass
 module _ (t : Routine) (sets order : List ℕ) (S : Solvable t sets order) (made : List ℕ) (weights kept : List ℤ) (M : rounds.MultipliedOf t false made weights kept) where
   Q : Ranged t
   Q = headed t (S .rules) .ranged
 
-  pub gates-readied : (depths : List ℕ) (deepest : ℕ) → Deep (t .parents) depths deepest → deepest ≤ mostDepth → Low kept → (old : List ℤ) → fill.Unopened old
-      → fill.GatesReadied (t .costs) (t .parents) (t .headers) made kept depths deepest old
-  gates-readied depths deepest D few K old U = record {
-    heads-readied = record {
-      some-loop = Q .sized .some-loop;
-      few-loops = Q .sized .few-loops;
-      parents-below = Q .parents;
-      deep = D;
-      few-depths = few;
-      kept-low = K;
-      multiplier-most = made-most t sets order S made weights kept M;
-    };
-    headers-size = Q .sized .headers;
-    header-block = λ l b. Q .header-below l (omega (arith, Q .sized .headers));
-    unopened = U;
+  pub heads-readied : (depths : List ℕ) (deepest : ℕ) → Deep (t .parents) depths deepest → deepest ≤ mostDepth → Low kept → fill.HeadsReadied (t .parents) kept made depths deepest
+  heads-readied depths deepest D few K = record {
+    some-loop = Q .sized .some-loop;
+    few-loops = Q .sized .few-loops;
+    parents-below = Q .parents;
+    deep = D;
+    few-depths = few;
+    kept-low = K;
+    multiplier-most = made-most t sets order S made weights kept M;
   }
 
   -- a weight by the remade multipliers

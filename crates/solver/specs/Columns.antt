@@ -5,7 +5,7 @@ use mathlib.Core.Bool.{true, false}
 use mathlib.Core.List.{List}
 use lib.IntN.{ℤ, pos}
 use lib.ListN.{length, getD}
-use Rattle.wcet.specs.Table.{Routine, blockCount}
+use Rattle.wcet.specs.Table.{Routine, blockCount, loopCount}
 use Rattle.wcet.specs.Cycles.{undeclaredLoop}
 use Rattle.wcet.specs.Rules.{structureRules, bound}
 use Rattle.wcet.specs.Claim.{AllHold}
@@ -15,10 +15,10 @@ use Rattle.certificate.specs.Columns.{priceColumns}
 use Rattle.optimum.specs.Remade.{PathToExit}
 use Rattle.optimum.specs.Columns.{remade}
 use Rattle.optimum.specs.Replies.{multiplierOver, figureOver}
-use Rattle.tails.specs.Slots.{places, SlotsOf}
+use Rattle.tails.specs.Slots.{SlotsOf}
 use Rattle.multipliers.specs.Columns.{MultipliedOf}
-use Rattle.figures.specs.Figures.{ValuesFit}
-use Rattle.figures.specs.Columns.{GatesOf, FiguredOf}
+use Rattle.figures.specs.Figures.{HeadFits}
+use Rattle.figures.specs.Columns.{HeadsFigured, FiguredOf}
 use Rattle.solver.specs.declared.Outcome.{Outcome}
 use Rattle.solver.specs.declared.Outcome.the-variants.{Made, Multiplier, Figure}
 
@@ -61,13 +61,12 @@ OutcomeOf Made t Done = Done
 OutcomeOf Multiplier t Done = multiplierOver (remade t) ≡ true
 OutcomeOf Figure t Done = (multiplierOver (remade t) ≡ false) × (figureOver (remade t) ≡ true)
 
--- the last pass can start: the multipliers, the weights by them and the gates
-pub record Gated (t : Routine) (made : List ℕ) (weights gates : List ℤ) : Type 0 where
+-- the last pass can start: the multipliers, the weights by them and the figures of the headers
+pub record Headed (t : Routine) (made : List ℕ) (weights heads : List ℤ) : Type 0 where
   pub kept : List ℤ
   pub multiplied : MultipliedOf t false made weights kept
-  pub size : length gates ≡ places
-  pub fit : ValuesFit gates
-  pub gates-of : GatesOf t false gates
+  pub heads-figured : HeadsFigured t false heads
+  pub fit : (l : ℕ) → l < loopCount t → HeadFits (getD heads l (pos 0))
 
 -- both columns are made
 pub record ColumnsMade (t : Routine) (figures : List ℤ) (made : List ℕ) : Type 0 where
@@ -77,9 +76,9 @@ pub record ColumnsMade (t : Routine) (figures : List ℤ) (made : List ℕ) : Ty
   pub figured : FiguredOf t false figures
 
 -- so of every routine with these columns, slots and order
-abbrev pub GatedBy : (costs parents headers limits firstSlots secondSlots order : List ℕ) (r : Outcome) (made : List ℕ) (weights gates : List ℤ) → Type 0
-GatedBy costs parents headers limits firstSlots secondSlots order r made weights gates =
-    (t : Routine) (sets : List ℕ) → Columned t costs parents headers limits → Laid t sets firstSlots secondSlots order → OutcomeOf r t (Gated t made weights gates)
+abbrev pub HeadedBy : (costs parents headers limits firstSlots secondSlots order : List ℕ) (r : Outcome) (made : List ℕ) (weights heads : List ℤ) → Type 0
+HeadedBy costs parents headers limits firstSlots secondSlots order r made weights heads =
+    (t : Routine) (sets : List ℕ) → Columned t costs parents headers limits → Laid t sets firstSlots secondSlots order → OutcomeOf r t (Headed t made weights heads)
 
 abbrev pub MadeBy : (costs parents headers limits firstSlots secondSlots order : List ℕ) (r : Outcome) (figures : List ℤ) (made : List ℕ) → Type 0
 MadeBy costs parents headers limits firstSlots secondSlots order r figures made =

@@ -13,10 +13,10 @@ ghost use Rattle.nesting.specs.Columns.{routine};
 ghost use Rattle.nesting.specs.Answers.{StructureChecked};
 ghost use Rattle.certificate.specs.Columns.{priceColumns, Priced};
 ghost use Rattle.multipliers.specs.Columns.{HeadersClosed};
-ghost use Rattle.figures.specs.Columns.{Unopened};
+ghost use Rattle.figures.specs.Figures.{noFigure};
 ghost use Rattle.optimum.specs.Replies.{Solved};
 ghost use Rattle.solver.specs.Answers.{solveMeaning};
-ghost use Rattle.solver.specs.Columns.{Written, Solvable, Makeable, GatedBy, MadeBy, Ended};
+ghost use Rattle.solver.specs.Columns.{Written, Solvable, Makeable, HeadedBy, MadeBy, Ended};
 use figures::NO_FIGURE;
 use limits::MOST_BLOCKS;
 use limits::MOST_LOOPS;
@@ -88,9 +88,9 @@ enum Outcome {
     Figure,
 }
 
-// All that goes by nesting depth: the multipliers, the weights by them, and the gates for the last pass.
-fn make_gates(
-    gates: &mut [i64; PLACES],
+// All that goes by nesting depth: the multipliers, the weights by them, and the figures of the headers.
+fn make_heads(
+    heads: &mut [i64; MOST_LOOPS],
     made: &mut [u64; MOST_LOOPS],
     weights: &mut [i64; MOST_BLOCKS],
     cost: &[u32],
@@ -101,8 +101,8 @@ fn make_gates(
     seconds: &[u16; MOST_BLOCKS],
     order: &[u16; MOST_BLOCKS],
 ) -> Outcome
-    requires { ⌜ Makeable (now cost) (now parent) (now header) (now limit) (now firsts) (now seconds) (now order) × Unopened (now gates) × (length (now made) ≡ mostLoops) × ((l : ℕ) → getD (now made) l 0 ≡ 0) × HeadersClosed (now cost) (now header) (now weights) ⌝ }
-    ensures { λ r. ⌜ GatedBy (now (cost .entry)) (now (parent .entry)) (now (header .entry)) (now (limit .entry)) (now (firsts .entry)) (now (seconds .entry)) (now (order .entry)) r (now (made .exit)) (now (weights .exit)) (now (gates .exit)) ⌝ }
+    requires { ⌜ Makeable (now cost) (now parent) (now header) (now limit) (now firsts) (now seconds) (now order) × (length (now heads) ≡ mostLoops) × ((l : ℕ) → l < mostLoops → getD (now heads) l (pos 0) ≡ noFigure) × (length (now made) ≡ mostLoops) × ((l : ℕ) → getD (now made) l 0 ≡ 0) × HeadersClosed (now cost) (now header) (now weights) ⌝ }
+    ensures { λ r. ⌜ HeadedBy (now (cost .entry)) (now (parent .entry)) (now (header .entry)) (now (limit .entry)) (now (firsts .entry)) (now (seconds .entry)) (now (order .entry)) r (now (made .exit)) (now (weights .exit)) (now (heads .exit)) ⌝ }
 {
     let depths = levels::depths_of(parent);
     let each = depths.each;
@@ -123,7 +123,7 @@ fn make_gates(
     ) {
         return Outcome::Multiplier;
     }
-    if figures::open_gates(gates, cost, parent, header, made, &kept, &each, most) {
+    if figures::head_figures(heads, parent, &kept, made, &each, most) {
         return Outcome::Figure;
     }
     Outcome::Made
@@ -146,9 +146,9 @@ fn make(
 {
     let n = cost.len();
     let mut weights = multipliers::first_weights(cost, header);
-    let mut gates = [NO_FIGURE; PLACES];
-    let outcome = make_gates(
-        &mut gates,
+    let mut heads = [NO_FIGURE; MOST_LOOPS];
+    let outcome = make_heads(
+        &mut heads,
         made,
         &mut weights,
         cost,
@@ -160,7 +160,9 @@ fn make(
         order,
     );
     if let Outcome::Made = outcome {
-        if figures::fill_figures(figures, &mut gates, &weights, firsts, seconds, order, n) {
+        let mut values = [NO_FIGURE; PLACES];
+        figures::set_gates(&mut values, cost, header, made, &heads);
+        if figures::fill_figures(figures, &mut values, &weights, firsts, seconds, order, n) {
             return Outcome::Figure;
         }
     }
