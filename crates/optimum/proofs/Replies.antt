@@ -3,26 +3,28 @@
 use mathlib.Core.Path.{_≡_, refl, sym, _∙_, ap}
 use mathlib.Core.Logic.{_↔_}
 use mathlib.Core.Bool.{Bool, true, false, true≢false}
-use mathlib.Core.List.{List, [], _∷_}
+use mathlib.Core.List.{List, [], _∷_, _++_}
 use Prim.Native.Nat.{ℕ, _^_, _≤_, _<_}
 use native.Mathlib.Omega.{arith}
-use borrow.Author.Tests.{ltb-false}
+use lib.Dec.{ltb}
+use borrow.Author.Tests.{ltb-true, ltb-false, lt-ltb}
 use lib.IntN.{ℤ, pos, negℤ}
 use lib.ListN.{getD}
 use lib.Signed.{ltZ, _≤ℤ_}
 use Rattle.lists.proofs.Tests.{or-false}
-use Rattle.lists.proofs.Search.{Lowest, none-of}
+use Rattle.lists.proofs.Search.{Lowest, none-of, any-at, some-at}
 use Rattle.integers.proofs.Laws.{ints}
 use Rattle.wcet.specs.Table.{Routine, blockCount, loopCount}
-use Rattle.wcet.specs.Cycles.{undeclaredLoop}
-use Rattle.wcet.specs.Rules.{Reply, accepted, refused, structureRules, undeclaredRule, bound}
+use Rattle.wcet.specs.Cycles.{undeclaredLoop, ClosedWalk}
+use Rattle.wcet.specs.Rules.{Reply, accepted, refused, Rule, figureOutside, structureRules, undeclaredRule, bound}
 use Rattle.wcet.specs.Run.{runCost}
 use Rattle.wcet.specs.Claim.{AllHold, FinishedRun}
 use Rattle.wcet.proofs.Nesting.{Nested, nested}
-use Rattle.wcet.proofs.Replies.{decides, all-append, past-all, accepted-exactly, refused-exactly, Unnumbered, numbered-broken}
-use Rattle.optimum.specs.Remade.{PathToExit}
+use Rattle.wcet.proofs.Cycles.{closed-exactly}
+use Rattle.wcet.proofs.Replies.{decides, all-append, append-all, past-all, accepted-exactly, refused-exactly, Unnumbered, numbered-broken, once-exactly}
+use Rattle.optimum.specs.Remade.{RemadeColumns, PathToExit, AllPaths}
 use Rattle.optimum.specs.Columns.{remadeMultipliers, remadeFigures, remade}
-use Rattle.optimum.specs.Replies.{noPath, multiplierOver, figureOver, givenRules, solveRules, solveReply, figuresAfter, multipliersAfter, SolvesExactly, Optimum, Solved}
+use Rattle.optimum.specs.Replies.{noPath, multiplierOver, figureOver, givenRules, solveRules, solveReply, figuresAfter, multipliersAfter, MultiplierPasses, FigurePasses, SolvesExactly, Optimum, Solved}
 use Rattle.optimum.proofs.Paths.{path-exactly}
 use Rattle.optimum.proofs.Optimal.{no-less}
 use Rattle.optimum.proofs.Remade.{remade-columns, remade-run, only-remade, remade-accepted}
@@ -50,43 +52,136 @@ module _ (t : Routine) where
       let q : ltZ (pos (2 ^ 60)) f ≡ false = or-false (ltZ f (negℤ (pos (2 ^ 60)))) (ltZ (pos (2 ^ 60)) f) (none-of (blockCount t) _ e u b) .1 in
       omega ints
 
--- 401, in the words of document 02
-no-path-exactly : (t : Routine) (u : ℕ)
-    → (solveReply t ≡ refused 401 u) ↔ (AllHold (givenRules t) × (u < blockCount t) × (PathToExit t u → ⊥) × ((y : ℕ) → y < u → PathToExit t y))
-unfolding solveReply solveRules structureRules
-no-path-exactly t u = (
-  λ e.
-      let q : AllHold (givenRules t) × Lowest (blockCount t) (noPath t) u = numbered-broken 401 (givenRules t) _ _ (bound (remade t)) u numbers (λ z. omega arith, (λ z. omega arith, tt)) e in
-      let l : Lowest (blockCount t) (noPath t) u = q .1 in
-      let N : Nested t = nested t (given t (q .0) .0) in
-      (q .0, l .below, λ p. true≢false (sym (l .passes) ∙ path-exactly t N u (l .below) .1 p), λ y h. path-exactly t N y (omega (arith, l .below)) .0 (l .lower y h)),
-  λ h.
-      let N : Nested t = nested t (given t (h .0) .0) in
-      past-all (givenRules t) _ (accepted (bound (remade t))) (h .0)
-      ∙ decides _ _ (accepted (bound (remade t))) u (record {
-        below = h .1;
-        passes = broken (noPath t u) (λ e. h .2 (path-exactly t N u (h .1) .0 e));
-        lower = λ y b. path-exactly t N y (omega (arith, h .1)) .1 (h .3 y b);
-      }),
-)
-  where
-    numbers : Unnumbered 401 (givenRules t)
-    numbers = (λ e. omega arith, (λ e. omega arith, (λ e. omega arith, (λ e. omega arith, (λ e. omega arith, (λ e. omega arith, (λ e. omega arith, (λ e. omega arith, tt))))))))
+-- ---- 209 and 401 to 403, in the words of document 02
 
-    broken : (b : Bool) → (b ≡ false → ⊥) → b ≡ true
-    broken true h = refl
-    broken false h = absurd (h refl)
+module _ (t : Routine) where
+  abbrev pathRule : Rule
+  pathRule = record { number = 401; places = blockCount t; broken = noPath t }
+
+  abbrev multiplierRule : Rule
+  multiplierRule = record { number = 402; places = 1; broken = λ _. multiplierOver (remade t) }
+
+  abbrev figureRule : Rule
+  figureRule = record { number = 403; places = 1; broken = λ _. figureOver (remade t) }
+
+  undeclared-exactly : (p : ℕ) → (solveReply t ≡ refused 209 p) ↔ ((p ≡ 0) × AllHold (structureRules t) × ClosedWalk t)
+  unfolding solveReply solveRules structureRules
+  undeclared-exactly p =
+      let once = once-exactly 209 (structureRules t) (undeclaredLoop t) (pathRule ∷ multiplierRule ∷ figureRule ∷ []) (bound (remade t)) p before (λ e. omega arith, (λ e. omega arith, (λ e. omega arith, tt))) in
+      (λ e. let q = once .0 e in (q .0, q .1, closed-exactly t (nested t (q .1) .target) .0 (q .2)), λ h. once .1 (h .0, h .1, closed-exactly t (nested t (h .1) .target) .1 (h .2)))
+    where
+      before : Unnumbered 209 (structureRules t)
+      before = (λ e. omega arith, (λ e. omega arith, (λ e. omega arith, (λ e. omega arith, (λ e. omega arith, (λ e. omega arith, (λ e. omega arith, tt)))))))
+
+  broken : (b : Bool) → (b ≡ false → ⊥) → b ≡ true
+  broken true h = refl
+  broken false h = absurd (h refl)
+
+  unbroken : (b : Bool) → (b ≡ true → ⊥) → b ≡ false
+  unbroken true h = absurd (h refl)
+  unbroken false h = refl
+
+  no-path-exactly : (u : ℕ) → (solveReply t ≡ refused 401 u) ↔ (AllHold (givenRules t) × (u < blockCount t) × (PathToExit t u → ⊥) × ((y : ℕ) → y < u → PathToExit t y))
+  unfolding solveReply solveRules structureRules
+  no-path-exactly u = (
+    λ e.
+        let q : AllHold (givenRules t) × Lowest (blockCount t) (noPath t) u = numbered-broken 401 (givenRules t) pathRule (multiplierRule ∷ figureRule ∷ []) (bound (remade t)) u before (λ z. omega arith, (λ z. omega arith, tt)) e in
+        let l : Lowest (blockCount t) (noPath t) u = q .1 in
+        let N : Nested t = nested t (given t (q .0) .0) in
+        (q .0, l .below, λ p. true≢false (sym (l .passes) ∙ path-exactly t N u (l .below) .1 p), λ y h. path-exactly t N y (omega (arith, l .below)) .0 (l .lower y h)),
+    λ h.
+        let N : Nested t = nested t (given t (h .0) .0) in
+        past-all (givenRules t) (pathRule ∷ multiplierRule ∷ figureRule ∷ []) (accepted (bound (remade t))) (h .0)
+        ∙ decides pathRule (multiplierRule ∷ figureRule ∷ []) (accepted (bound (remade t))) u (record {
+          below = h .1;
+          passes = broken (noPath t u) (λ e. h .2 (path-exactly t N u (h .1) .0 e));
+          lower = λ y b. path-exactly t N y (omega (arith, h .1)) .1 (h .3 y b);
+        }),
+  )
+    where
+      before : Unnumbered 401 (givenRules t)
+      before = (λ e. omega arith, (λ e. omega arith, (λ e. omega arith, (λ e. omega arith, (λ e. omega arith, (λ e. omega arith, (λ e. omega arith, (λ e. omega arith, tt))))))))
+
+  -- the rules before 402: those that are given, and 401
+  paths-hold : AllHold (givenRules t ++ pathRule ∷ []) ↔ (AllHold (givenRules t) × AllPaths t)
+  paths-hold = (
+    λ h.
+        let q : AllHold (givenRules t) × AllHold (pathRule ∷ []) = all-append (givenRules t) (pathRule ∷ []) h in
+        let N : Nested t = nested t (given t (q .0) .0) in
+        (q .0, λ u b. path-exactly t N u b .0 (q .1 .0 u b)),
+    λ h. let N : Nested t = nested t (given t (h .0) .0) in append-all (givenRules t) (pathRule ∷ []) (h .0) (λ u b. path-exactly t N u b .1 (h .1 u b), tt),
+  )
+
+  -- the remade columns, where these hold
+  module _ (h : AllHold (givenRules t)) (paths : AllPaths t) where
+    made : RemadeColumns t (remadeFigures t) (remadeMultipliers t)
+    made = let g = given t h in remade-columns t (nested t (g .0)) (g .1) paths
+
+    only : (fs : List ℤ) (ks : List ℕ) → RemadeColumns t fs ks → (fs ≡ remadeFigures t) × (ks ≡ remadeMultipliers t)
+    only fs ks R = let g = given t h in only-remade t (nested t (g .0)) (g .1) paths fs ks R
+
+  multiplier-passes : (multiplierOver (remade t) ≡ true) ↔ MultiplierPasses t (remadeMultipliers t)
+  unfolding multiplierOver remade
+  multiplier-passes = (
+    λ e. let s = some-at (loopCount t) (λ l. ltb (2 ^ 40) (getD (remadeMultipliers t) l 0)) e in (s .0, s .1, ltb-true (2 ^ 40) (getD (remadeMultipliers t) (s .0) 0) (s .2)),
+    λ h. any-at (loopCount t) (λ l. ltb (2 ^ 40) (getD (remadeMultipliers t) l 0)) (h .0) (h .1) (lt-ltb (2 ^ 40) (getD (remadeMultipliers t) (h .0) 0) (h .2)),
+  )
+
+  figure-passes : (figureOver (remade t) ≡ true) ↔ FigurePasses t (remadeFigures t)
+  unfolding figureOver remade
+  figure-passes = (
+    some-at (blockCount t) (λ u. figureOutside (getD (remadeFigures t) u (pos 0))),
+    λ h. any-at (blockCount t) (λ u. figureOutside (getD (remadeFigures t) u (pos 0))) (h .0) (h .1) (h .2),
+  )
+
+  multiplier-exactly : (p : ℕ) → (solveReply t ≡ refused 402 p)
+      ↔ ((p ≡ 0) × AllHold (givenRules t) × AllPaths t × ((fs : List ℤ) × (ks : List ℕ) × RemadeColumns t fs ks × MultiplierPasses t ks))
+  unfolding solveReply solveRules structureRules
+  multiplier-exactly p =
+      let once = once-exactly 402 (givenRules t ++ pathRule ∷ []) (multiplierOver (remade t)) (figureRule ∷ []) (bound (remade t)) p before (λ e. omega arith, tt) in (
+        λ e.
+            let q = once .0 e in
+            let r = paths-hold .0 (q .1) in
+            (q .0, r .0, r .1, (remadeFigures t, remadeMultipliers t, made (r .0) (r .1), multiplier-passes .0 (q .2))),
+        λ h.
+            let C = h .3 in
+            once .1 (h .0, paths-hold .1 (h .1, h .2), multiplier-passes .1 (rw (only (h .1) (h .2) (C .0) (C .1) (C .2) .1) at (C .3))),
+      )
+    where
+      before : Unnumbered 402 (givenRules t ++ pathRule ∷ [])
+      before = (λ e. omega arith, (λ e. omega arith, (λ e. omega arith, (λ e. omega arith, (λ e. omega arith, (λ e. omega arith, (λ e. omega arith, (λ e. omega arith, (λ e. omega arith, tt)))))))))
+
+  figure-exactly : (p : ℕ) → (solveReply t ≡ refused 403 p)
+      ↔ ((p ≡ 0) × AllHold (givenRules t) × AllPaths t × ((fs : List ℤ) × (ks : List ℕ) × RemadeColumns t fs ks × (MultiplierPasses t ks → ⊥) × FigurePasses t fs))
+  unfolding solveReply solveRules structureRules
+  figure-exactly p =
+      let once = once-exactly 403 (givenRules t ++ pathRule ∷ multiplierRule ∷ []) (figureOver (remade t)) [] (bound (remade t)) p before tt in (
+        λ e.
+            let q = once .0 e in
+            let s : AllHold (givenRules t ++ pathRule ∷ []) × AllHold (multiplierRule ∷ []) = all-append (givenRules t ++ pathRule ∷ []) (multiplierRule ∷ []) (q .1) in
+            let r = paths-hold .0 (s .0) in
+            (q .0, r .0, r .1, (remadeFigures t, remadeMultipliers t, made (r .0) (r .1), λ m. true≢false (sym (multiplier-passes .1 m) ∙ s .1 .0 0 (omega arith)), figure-passes .0 (q .2))),
+        λ h.
+            let C = h .3 in
+            let same = only (h .1) (h .2) (C .0) (C .1) (C .2) in
+            let low : multiplierOver (remade t) ≡ false = unbroken (multiplierOver (remade t)) (λ e. C .3 (rw (same .1) (multiplier-passes .0 e))) in
+            once .1 (h .0, append-all (givenRules t ++ pathRule ∷ []) (multiplierRule ∷ []) (paths-hold .1 (h .1, h .2)) (λ i b. low, tt), figure-passes .1 (rw (same .0) at (C .4))),
+      )
+    where
+      before : Unnumbered 403 (givenRules t ++ pathRule ∷ multiplierRule ∷ [])
+      before = (λ e. omega arith, (λ e. omega arith, (λ e. omega arith, (λ e. omega arith, (λ e. omega arith, (λ e. omega arith, (λ e. omega arith, (λ e. omega arith, (λ e. omega arith, (λ e. omega arith, tt))))))))))
 
 pub solves-exactly : (t : Routine) → SolvesExactly t
 unfolding solveReply
 solves-exactly t = record {
   accepts = accepted-exactly (solveRules t) (bound (remade t));
   refuses = refused-exactly (solveRules t) (bound (remade t));
+  undeclared = undeclared-exactly t;
   path = λ h. path-exactly t (nested t h);
   no-path = no-path-exactly t;
-  columns = λ h paths fs ks.
-      let g : AllHold (structureRules t) × (undeclaredLoop t ≡ false) = given t h in
-      (only-remade t (nested t (g .0)) (g .1) paths fs ks, λ e. rw (e .0, e .1) (remade-columns t (nested t (g .0)) (g .1) paths));
+  multiplier-over = multiplier-exactly t;
+  figure-over = figure-exactly t;
+  columns = λ h paths fs ks. (only t h paths fs ks, λ e. rw (e .0, e .1) (made t h paths));
   run = λ h paths. let g : AllHold (structureRules t) × (undeclaredLoop t ≡ false) = given t h in remade-run t (nested t (g .0)) (g .1) paths;
 }
 

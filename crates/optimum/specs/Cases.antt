@@ -1,6 +1,6 @@
 -- Document 02, §3, on routine A of document 01 with its figures and multipliers set to 0, and on other small routines.
--- `proofs/Cases.antt` computes them.
-use Prim.Native.Nat.{ℕ}
+-- `proofs/Cases.antt` computes them. A table that gets 403 has some fifty blocks, too many to compute here: `examples/` and `suite` have one.
+use Prim.Native.Nat.{ℕ, _+_, _^_}
 use mathlib.Core.Path.{_≡_}
 use mathlib.Core.List.{List, [], _∷_, map}
 use lib.IntN.{ℤ, pos, negℤ}
@@ -58,12 +58,16 @@ twoLoops limit2 =
     (1 ∷ 2 ∷ 3 ∷ 2 ∷ 1 ∷ missing ∷ []) (missing ∷ 5 ∷ 4 ∷ missing ∷ missing ∷ missing ∷ [])
     (0 ∷ 0 ∷ 1 ∷ []) (0 ∷ 1 ∷ 2 ∷ []) (1 ∷ 4 ∷ limit2 ∷ [])
 
--- three loops inside one another at the greatest cost and limit: the outermost's multiplier passes 2^40
-abbrev pub threeLoops : Routine
-threeLoops =
-    unsolved (1000000 ∷ 1000000 ∷ 1000000 ∷ 1000000 ∷ 1000000 ∷ []) (0 ∷ 1 ∷ 2 ∷ 3 ∷ 0 ∷ [])
+-- three loops inside one another, with these costs and limits: a round of the outermost costs 2^40 and the cost of block 1
+abbrev pub threeLoops : ℕ → Routine
+threeLoops cost1 =
+    unsolved (1 ∷ cost1 ∷ 0 ∷ 32768 ∷ 0 ∷ []) (0 ∷ 1 ∷ 2 ∷ 3 ∷ 0 ∷ [])
     (1 ∷ 2 ∷ 3 ∷ 3 ∷ missing ∷ []) (missing ∷ 4 ∷ 1 ∷ 2 ∷ missing ∷ [])
-    (0 ∷ 0 ∷ 1 ∷ 2 ∷ []) (0 ∷ 1 ∷ 2 ∷ 3 ∷ []) (1 ∷ 65535 ∷ 65535 ∷ 65535 ∷ [])
+    (0 ∷ 0 ∷ 1 ∷ 2 ∷ []) (0 ∷ 1 ∷ 2 ∷ 3 ∷ []) (1 ∷ 2 ∷ 1025 ∷ 32768 ∷ [])
+
+-- block 1 leads to itself, and no loop is declared
+abbrev pub undeclared : Routine
+undeclared = oneLoop (1 ∷ 1 ∷ 1 ∷ []) (1 ∷ 1 ∷ missing ∷ []) (missing ∷ 2 ∷ missing ∷ []) (pos 2 ∷ pos 1 ∷ pos 0 ∷ [])
 
 -- a case: what is asked, and the reply and the columns after the call
 pub record Case : Type 0 where
@@ -88,7 +92,12 @@ cases =
     ∷ solvedCase itself (pos 13 ∷ pos 3 ∷ pos 0 ∷ []) (0 ∷ 2 ∷ []) (pos 14)
     ∷ solvedCase (twoLoops 1) (pos 38 ∷ pos 6 ∷ pos 3 ∷ negℤ (pos 1) ∷ negℤ (pos 2) ∷ pos 0 ∷ []) (0 ∷ 10 ∷ 7 ∷ []) (pos 39)
     ∷ solvedCase (twoLoops 3) (pos 80 ∷ pos 6 ∷ negℤ (pos 11) ∷ negℤ (pos 15) ∷ negℤ (pos 16) ∷ pos 0 ∷ []) (0 ∷ 24 ∷ 7 ∷ []) (pos 81)
-    ∷ refusedCase threeLoops 402 0
+    ∷ solvedCase (threeLoops 0) (pos (2 ^ 40) ∷ pos 0 ∷ negℤ (pos (2 ^ 40)) ∷ negℤ (pos (2 ^ 40 + 2 ^ 30)) ∷ pos 0 ∷ []) (0 ∷ 2 ^ 40 ∷ 2 ^ 30 ∷ 2 ^ 15 ∷ []) (pos (2 ^ 40 + 1))
+    ∷ refusedCase (threeLoops 1) 402 0
+    ∷ refusedCase undeclared 209 0
+    -- the figures and multipliers that are given are held to 202 and 203
+    ∷ refusedCase (withColumns A (A .figures) (0 ∷ (2 ^ 40 + 1) ∷ [])) 202 1
+    ∷ refusedCase (withColumns A (pos 28 ∷ pos 1 ∷ negℤ (pos (2 ^ 60 + 1)) ∷ pos 0 ∷ []) (A .multipliers)) 203 2
     ∷ []
 
 -- the one claim: the definitions give each case this reply and these columns

@@ -53,3 +53,6 @@ pub record PathToExit (t : Routine) (u : ℕ) : Type 0 where
   pub blocks : List ℕ
   pub follows : path t u blocks ≡ true
   pub at-exit : getD (u ∷ blocks) (length blocks) 0 ≡ exit t
+
+abbrev pub AllPaths : Routine → Type 0
+AllPaths t = (u : ℕ) → u < blockCount t → PathToExit t u

@@ -5,12 +5,12 @@ use mathlib.Core.Logic.{_↔_, _⊎_, inl, inr, ⊎-elim}
 use mathlib.Core.List.{List, [], _∷_, _++_, append-assoc}
 use mathlib.Core.Option.{Option, none, some}
 use Prim.Native.Nat.{ℕ, _<_}
-use mathlib.Core.Bool.{true}
+use mathlib.Core.Bool.{Bool, true}
 use native.Mathlib.Omega.{arith}
 use Rattle.lists.specs.Search.{firstBelow}
 use Rattle.lists.proofs.Search.{Lowest, not-found, none-found, found, found-lowest}
 use Rattle.wcet.specs.Table.{Routine, blockCount, edge}
-use Rattle.wcet.specs.Cycles.{ClosedWalk}
+use Rattle.wcet.specs.Cycles.{undeclaredLoop, ClosedWalk}
 use Rattle.wcet.specs.Rules.{Reply, accepted, refused, Rule, refusedAt, check, inequalityRule, undeclaredRule, structureRules, tableRules, bound, tableReply}
 use Rattle.wcet.specs.Claim.{Holds, AllHold, FirstBroken, RepliesExactly}
 use Rattle.wcet.proofs.Nesting.{nested}
@@ -163,22 +163,30 @@ module _ (n : ℕ) where
       go (some i) f e rest = absurd (u .0 cc)
       go none f e rest = let s = rest e in ((not-found (q .places) (q .broken) f, s .0), s .1)
 
+  -- and the rule has one place
+  pub once-exactly : {A : Type 0} (rs : List Rule) (b : Bool) (qs : List Rule) (a : A) (p : ℕ) → Unnumbered rs → Unnumbered qs
+      → (check (rs ++ record { number = n; places = 1; broken = λ _. b } ∷ qs) (accepted a) ≡ refused n p) ↔ ((p ≡ 0) × AllHold rs × (b ≡ true))
+  once-exactly rs b qs a p u v = (
+    λ e.
+        let q = numbered-broken rs rule qs a p u v e in
+        let l = q .1 .below in
+        (omega arith, q .0, q .1 .passes),
+    λ h.
+        let z : p ≡ 0 = h .0 in
+        rw z (past-all rs (rule ∷ qs) (accepted a) (h .1) ∙ decides rule qs (accepted a) 0 (record { below = omega arith; passes = h .2; lower = λ j b. absurd (omega arith) })),
+  )
+    where
+      rule : Rule
+      rule = record { number = n; places = 1; broken = λ _. b }
+
 -- ---- the two tables
 
 -- 209, in the words of document 02
 undeclared-exactly : (t : Routine) (p : ℕ) → (tableReply t ≡ refused 209 p) ↔ ((p ≡ 0) × AllHold (structureRules t ++ inequalityRule t ∷ []) × ClosedWalk t)
 unfolding tableReply tableRules structureRules
-undeclared-exactly t p = (
-  λ e.
-      let q = numbered-broken 209 (structureRules t ++ inequalityRule t ∷ []) (undeclaredRule t) [] (bound t) p numbers tt e in
-      let l = q .1 .below in
-      (omega arith, q .0, closed-exactly t (target (q .0)) .0 (q .1 .passes)),
-  λ h.
-      let z : p ≡ 0 = h .0 in
-      rw z
-      (past-all (structureRules t ++ inequalityRule t ∷ []) (undeclaredRule t ∷ []) (accepted (bound t)) (h .1)
-      ∙ decides (undeclaredRule t) [] (accepted (bound t)) 0 (record { below = omega arith; passes = closed-exactly t (target (h .1)) .1 (h .2); lower = λ j b. absurd (omega arith) })),
-)
+undeclared-exactly t p =
+    let once = once-exactly 209 (structureRules t ++ inequalityRule t ∷ []) (undeclaredLoop t) [] (bound t) p numbers tt in
+    (λ e. let q = once .0 e in (q .0, q .1, closed-exactly t (target (q .1)) .0 (q .2)), λ h. once .1 (h .0, h .1, closed-exactly t (target (h .1)) .1 (h .2)))
   where
     numbers : Unnumbered 209 (structureRules t ++ inequalityRule t ∷ [])
     numbers = (λ e. omega arith, (λ e. omega arith, (λ e. omega arith, (λ e. omega arith, (λ e. omega arith, (λ e. omega arith, (λ e. omega arith, (λ e. omega arith, tt))))))))
