@@ -153,7 +153,7 @@ const LOWEST: i64 = -(1 << 62);
 const RETURNS: usize = 1024;
 const NOWHERE: usize = RETURNS + 64;
 
-// A pass fills values from the last block to the first; `values[x]` is the weight of x and of the best way on from it. A weight is what a
+// A pass fills values from the last block to the first; `values[x]` is the weight of x and of the best path on from it. A weight is what a
 // forward edge to the block costs, NONE at a header whose multiplier is not made: no way passes there.
 struct Solver<'a> {
     t: &'a Routine,
@@ -166,13 +166,13 @@ struct Solver<'a> {
 }
 
 impl Solver<'_> {
-    // The best way on from block x.
+    // The best path on from block x.
     fn tail(&self, x: usize) -> i64 {
         let [first, second] = self.places[x];
         self.values[first as usize].max(self.values[second as usize])
     }
 
-    // All loops of depth d at once: the ways stay inside the loop and return to its header at their end; at depth 1 they end at the exit.
+    // All loops of depth d at once: the paths stay inside the loop and return to its header at their end; at depth 1 they end at the exit.
     fn tails(&mut self, d: usize) {
         for (l, &h) in self.t.loops.header.iter().enumerate() {
             let cost = if l == 0 { 0 } else { i64::from(self.t.blocks.cost[h as usize]) };
@@ -276,7 +276,7 @@ fn places(t: &Routine, around: &[u64; 64], onward: &mut Onward) -> [[u16; 2]; 10
             }
         }
     }
-    // no edge returns to loop 0's header: that place is the end of a way at the exit
+    // no edge returns to loop 0's header: that place is the end of a path at the exit
     places[n - 1] = [RETURNS as u16; 2];
     places
 }

@@ -1,9 +1,9 @@
 /*
- * Rolkeyda: the importer and the final checker of a worst-case execution time (WCET) analysis, proved. For C11 and C++11.
+ * Rolkeyda: the importer, the final checker and a solver for a worst-case execution time (WCET) analysis, proved. For C11 and C++11.
  *
  * Every function takes any input, checks it and returns a rolkeyda_reply by value. No function allocates, keeps a pointer or fails in
- * another way. A column is a pointer to its first value and then its length, a count of values (of bytes for a text). Columns that a
- * function writes must not overlap each other or the text. A column of length 0 may have any pointer that is not NULL.
+ * another way. A column is a pointer to its first value and then its length, a count of values (of bytes for a text). A column that a
+ * function writes must not overlap any other column of the call, nor the text. A column of length 0 may have any pointer that is not NULL.
  *
  * Build the library with `rt staticlib rolkeyda`.
  */
@@ -49,7 +49,7 @@ extern "C" {
 #define ROLKEYDA_STACK_READ_LOOPS 12288u
 #define ROLKEYDA_STACK_CHECK 16384u
 #define ROLKEYDA_STACK_WALK 8192u
-#define ROLKEYDA_STACK_SOLVE 65536u
+#define ROLKEYDA_STACK_SOLVE 81920u
 
 /*
  * The reply of every function (`Reply` in the crate).
@@ -137,7 +137,7 @@ rolkeyda_reply rolkeyda_walk(
 
 /*
  * Remakes the figures and the multipliers of a pair of tables that keep rules 201 to 207 and 209. The given ones must be in the ranges of 202 and
- * 203; apart from that they are not read, and 208 is not checked. Accepted: both columns hold the remade certificate, rolkeyda_check accepts it
+ * 203 (0 for loop 0's multiplier); apart from that they are not read, and 208 is not checked. Accepted: both columns hold the remade certificate, rolkeyda_check accepts it
  * with the bound `value`, some counted run from block 0 to the last block costs exactly that, and so no certificate gives less. Refused: neither
  * column is changed. 401 at the lowest block that has no path to the last block, 402 where a multiplier would be over 2^40, 403 where a figure
  * would be outside -2^60 to 2^60. Stack: ROLKEYDA_STACK_SOLVE.

@@ -30,7 +30,7 @@ use Rattle.optimum.specs.Tails.{weight}
 use Rattle.optimum.proofs.Local.{LocallyMade, Ranked}
 use Rattle.optimum.proofs.Structure.{target-loop, enters-above}
 use Rattle.optimum.proofs.Joined.{end-last, copies, cost-joined, cost-copies, path-joined}
-use Rattle.optimum.proofs.Tails.{along-ways}
+use Rattle.optimum.proofs.Tails.{along-paths}
 use Rattle.optimum.proofs.Figures.{feasible}
 use Rattle.optimum.proofs.Rounds.{InnerKept}
 use Rattle.optimum.proofs.Stretch.{Stretch, at-rest, joined, one-edge, turn-others, all-rounds}
@@ -85,11 +85,11 @@ module _ (t : Routine) (N : Nested t) (M : LocallyMade t) (K : Ranked t) where
             let q : header t k ≡ v = eqb-true (header t k) v h in
             rw q at (into x k bk (enters-above t N x v bx e l bl ix iv h r) bx ix (rw q iv) (rw q e) (rw q r))
 
-    -- along the ways
+    -- along the paths
     from : (x c : ℕ) → x < blockCount t → inside t x l ≡ true → M .tail l x ≡ some c → Arrives t l x c
     unfolding runCost
     from =
-        along-ways t N K (M .tail) (M .tails) l bl (Arrives t l)
+        along-paths t N K (M .tail) (M .tails) l bl (Arrives t l)
         (λ x b i z e. record { blocks = []; last = x; way = at-rest t l x b i; home = λ p. absurd (omega arith); out = λ p. (e, refl) })
         (λ x b i nz e. record { blocks = []; last = x; way = at-rest t l x b i; home = λ p. (e, omega arith); out = λ p. absurd (nz p) })
         (λ x v a b i e j r A.

@@ -1,6 +1,6 @@
 -- Locally made columns keep the inequality of every edge, with 0 at the exit (`feasible`); and no figures that keep the inequalities with
--- the made multipliers, with 0 at the exit, are below the made ones (`smallest`): a tail is the weight of a way, along which such figures
--- fall, and the ways are followed by rank. Assumes nothing.
+-- the made multipliers, with 0 at the exit, are below the made ones (`smallest`): a tail is the weight of a path, along which such figures
+-- fall, and the paths are followed by rank. Assumes nothing.
 use mathlib.Core.Path.{_≡_, refl, sym, _∙_, ap}
 use mathlib.Core.Bool.{Bool, true, false, not, _&&_, true≢false}
 use mathlib.Core.List.{List}
@@ -23,7 +23,7 @@ use Rattle.optimum.specs.Remade.{withColumns, Feasible, SmallestFigures}
 use Rattle.optimum.specs.Tails.{weight}
 use Rattle.optimum.proofs.Local.{FigureFrom, LocallyMade, Ranked}
 use Rattle.optimum.proofs.Structure.{inside-whole, inside-highest, stays-inside, target-loop, back-to}
-use Rattle.optimum.proofs.Tails.{AtLeast, Comes, ends, back, on, comes, along-ways, tail-forward, tail-back}
+use Rattle.optimum.proofs.Tails.{AtLeast, Comes, ends, back, on, comes, along-paths, tail-forward, tail-back}
 
 -- ---- the inequality of a forward edge, by its weight, and of a back edge
 
@@ -148,10 +148,10 @@ module _ (t : Routine) (N : Nested t) (fs : List ℤ) (F : Feasible (withColumns
     abbrev beyond : ℕ → ℤ
     beyond l = if eqb l 0 then pos 0 else other (header t l) -ℤ pos (multiplier t l)
 
-    -- a way falls by its weight
+    -- the figures fall along a path by its weight
     tail-least : (l x k : ℕ) → l < loopCount t → x < blockCount t → inside t x l ≡ true → tail l x ≡ some k → (pos k +ℤ beyond l) ≤ℤ other x
     tail-least l x k m =
-        along-ways t N K tail tails l m (λ x k. (pos k +ℤ beyond l) ≤ℤ other x)
+        along-paths t N K tail tails l m (λ x k. (pos k +ℤ beyond l) ≤ℤ other x)
         (λ x b i z e. let w : other (exit t) ≡ pos 0 = F .at-exit in rw (z, e, w) (omega ints))
         (λ x b i z d.
         rw (ne-eqb l 0 z)

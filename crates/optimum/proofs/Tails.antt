@@ -1,4 +1,4 @@
--- The tails along an edge: a block's tail is what one of its edges gives (`comes`), so that a tail stands for a way (`along-ways`), and is
+-- The tails along an edge: a block's tail is what one of its edges gives (`comes`), so that a tail stands for a path (`along-paths`), and is
 -- no less than what each of them gives (`tail-forward`, `tail-back`). Assumes nothing.
 use mathlib.Core.Path.{_≡_, refl, sym, _∙_}
 use mathlib.Core.Bool.{Bool, true, false, not, _&&_, _||_, and-false, not-and-self, false≢true}
@@ -110,7 +110,7 @@ module _ (t : Routine) (l : ℕ) (tail : ℕ → Option ℕ) (x c : ℕ) where
           ends (eqb-true l 0 (p .0)) (eqb-true x (exit t) (p .1)) (cc)
       go false b q = ⊎-elim (by (first t x) (first-edge t x)) (by (second t x) (second-edge t x)) (best-one ltb (via t l tail x (first t x)) (via t l tail x (second t x)) c q)
 
--- So what passes back along the ways of loop l holds wherever l has a tail: the ways are followed by rank.
+-- So what passes back along the paths of loop l holds wherever l has a tail: the paths are followed by rank.
 module _ (t : Routine) (N : Nested t) (K : Ranked t) (tail : (l x : ℕ) → Option ℕ) (E : Tailed t tail) (l : ℕ) (m : l < loopCount t) (P : ℕ → ℕ → Type 0)
     (at-exit : (x : ℕ) → x < blockCount t → inside t x l ≡ true → l ≡ 0 → x ≡ exit t → P x 0)
     (going-back : (x : ℕ) → x < blockCount t → inside t x l ≡ true → (l ≡ 0 → ⊥) → edge t x (header t l) ≡ true → P x (cost t (header t l)))
@@ -127,8 +127,8 @@ module _ (t : Routine) (N : Nested t) (K : Ranked t) (tail : (l x : ℕ) → Opt
           let f : K .rank v < K .rank x = K .falls x v b (unfold forwardEdge in rw (d, q)) in
           rw (← p) (going-on x v j b i d s q (rest v j (omega arith) (N .target x v b d) s a))
 
-  pub along-ways : (x k : ℕ) → x < blockCount t → inside t x l ≡ true → tail l x ≡ some k → P x k
-  along-ways x k = by-rank (suc (K .rank x)) x k (omega arith)
+  pub along-paths : (x k : ℕ) → x < blockCount t → inside t x l ≡ true → tail l x ≡ some k → P x k
+  along-paths x k = by-rank (suc (K .rank x)) x k (omega arith)
 
 -- ---- what an edge gives
 

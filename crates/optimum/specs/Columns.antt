@@ -18,7 +18,7 @@ unfoldable pub orDefault : {A : Type 0} → A → Option A → A
 orDefault d none = d
 orDefault d (some a) = a
 
--- the tails of t: where 209 passes, forward edges come to no block twice, so a way has fewer forward edges than there are blocks
+-- the tails of t: where 209 is not broken, forward edges come to no block twice, so a path has fewer of them than there are blocks
 abbrev pub tails : Routine → (l x : ℕ) → Option ℕ
 tails t = tailBy t (blockCount t)
 
@@ -42,7 +42,7 @@ fromHeader m none h = none
 fromHeader m (some k) none = none
 fromHeader m (some k) (some f) = some (pos k -ℤ pos m +ℤ f)
 
--- What x's figure must be at least, by the ways whose first back edge returns to l's header; for l = 0, by the ways to the exit without a
+-- What x's figure must be at least, by the paths whose first back edge returns to l's header; for l = 0, by the paths to the exit without a
 -- back edge. Loop l gives this in its turn, when the figure of its header is h.
 unfoldable pub turn : Routine → ((l x : ℕ) → Option ℕ) → ℕ → ℕ → Option ℤ → Option ℤ
 turn t tail l x h =

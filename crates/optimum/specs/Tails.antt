@@ -1,6 +1,6 @@
--- How the columns are computed. The tail of loop l at a block x inside l: the greatest weight of a way from x to l's header that stays inside
+-- How the columns are computed. The tail of loop l at a block x inside l: the greatest weight of a path from x to l's header that stays inside
 -- l, by forward edges up to the one back edge at its end. Block x does not count, and the header at the end counts with its cost only. The
--- tail is none where there is no way. Loop 0 has no back edge: its tails lead to the exit.
+-- tail is none where there is no path. Loop 0 has no back edge: its tails lead to the exit.
 use Prim.Native.Nat.{ℕ, zero, suc, _+_, _*_, _-_}
 use mathlib.Core.Bool.{Bool, not, _&&_}
 use mathlib.Core.Option.{Option, none, some}
@@ -38,7 +38,7 @@ unfoldable pub tailAt : Routine → ℕ → (ℕ → Option ℕ) → ℕ → Opt
 tailAt t l tail x =
     if eqb l 0 && eqb x (exit t) then some 0 else best ltb (via t l tail x (first t x)) (via t l tail x (second t x))
 
--- the tail of loop l at x, by ways of fewer than d forward edges
+-- the tail of loop l at x, by paths of fewer than d forward edges
 unfoldable pub tailBy : Routine → ℕ → ℕ → ℕ → Option ℕ
 tailBy t zero l x = none
 tailBy t (suc d) l x = tailAt t l (tailBy t d l) x

@@ -1,5 +1,5 @@
 // The solver: remakes the figure and multiplier columns of a pair of tables, so that no certificate gives a smaller bound, or replies the first
-// reason why it cannot: 201 to 207, 209, 401 to 403. The columns are made in arrays, and written only when all of both is in range.
+// reason why it cannot: 201 to 207, 209, 401 to 403. Both columns are made in arrays, and written only when every value is in range.
 ghost use mathlib.Core.Path.{_≡_};
 ghost use mathlib.Core.List.{List};
 ghost use Prim.Native.Nat.{ℕ, _≤_, _<_};
@@ -286,7 +286,7 @@ fn solve_checked(
 }
 
 // The bound of the remade columns, which are then in place of the figures and multipliers; or the first broken rule, and both columns stay as
-// they were. With it comes what the columns and the bound mean.
+// they were. The contract also says what the columns and the bound mean (`Optimum`).
 pub fn solve(
     cost: &[u32],
     loops: &[u16],

@@ -1,5 +1,5 @@
 // The tails of all loops of one nesting depth, in words that stop at a cap, by one pass over the blocks. The tail of a loop at a block inside it
-// is the greatest weight of a way from there to the loop's header; of loop 0, to the exit.
+// is the greatest weight of a path from there to the loop's header; of loop 0, to the exit.
 //
 // Each edge has a slot, the place where its value stands: that of its target, or for a back edge the gate of the loop that it returns to. A pass
 // opens the gates of the loops of its depth only, and nothing passes the header of a loop whose multiplier is not made yet: its weight is none.
