@@ -24,7 +24,7 @@ use Rattle.optimum.specs.Columns.{figureBy}
 use Rattle.optimum.proofs.Local.{Tailed, Ranked, HasFigure}
 use Rattle.optimum.proofs.Structure.{inside-whole, stays-inside, target-loop, back-to}
 use Rattle.optimum.proofs.Paths.{exit-path, path-on}
-use Rattle.optimum.proofs.Tails.{AtLeast, along-ways, tail-forward, tail-back}
+use Rattle.optimum.proofs.Tails.{AtLeast, along-paths, tail-forward, tail-back}
 use Rattle.optimum.proofs.Filled.{Gives, to-exit, by-header, given, exit-over, header-over, along-turns, final}
 
 module _ (t : Routine) (N : Nested t) (tail : (l x : ℕ) → Option ℕ) (E : Tailed t tail) where
@@ -96,7 +96,7 @@ module _ (t : Routine) (N : Nested t) (tail : (l x : ℕ) → Option ℕ) (E : T
     tail-path : (l x k : ℕ) → l < loopCount t → x < blockCount t → inside t x l ≡ true → tail l x ≡ some k
         → PathToExit t (if eqb l 0 then exit t else header t l) → PathToExit t x
     tail-path l x k m b i e p =
-        along-ways t N K tail E l m (λ x k. PathToExit t x)
+        along-paths t N K tail E l m (λ x k. PathToExit t x)
         (λ x b i z q. rw q (exit-path t))
         (λ x b i z d. path-on t x (header t l) d (rw (ne-eqb l 0 z) at p))
         (λ x v a b i d s r q. path-on t x v d q) x k b i e
