@@ -1,34 +1,31 @@
 -- The remade figures are figures by the slots: with the gates of the remade columns, the greater of the values in a block's slots is its remade
--- figure, so that a pass makes the remade figures (`figured`). Assumes nothing.
+-- figure (`remade-equations`). Assumes nothing.
 use mathlib.Core.Path.{_≡_, refl, sym, _∙_, ap}
 use mathlib.Core.Bool.{Bool, true, false, not, _&&_, true≢false}
 use mathlib.Core.List.{List}
 use mathlib.Core.Logic.{_⊎_, inl, inr}
-use Prim.Native.Nat.{ℕ, _+_, _-_, _*_, _^_, _≤_, _<_}
+use Prim.Native.Nat.{ℕ, _+_, _*_, _^_, _≤_, _<_}
 use native.Mathlib.Decide.{ℕ-discrete}
 use native.Mathlib.Omega.{arith}
 use lib.Dec.{eqb, ltb}
 use borrow.Author.Tests.{eqb-true, not-true, lt-ltb, ltb-false, le-ltb}
 use lib.IntN.{ℤ, pos, _+ℤ_}
-use lib.ListN.{length, getD}
+use lib.ListN.{getD}
 use lib.Signed.{ltZ, _≤ℤ_}
 use Rattle.integers.proofs.Laws.{ints, sum}
 use Rattle.limits.specs.Limits.{mostBlocks, mostLoops}
-use Rattle.lists.specs.Search.{if_then_else_}
 use Rattle.lists.proofs.Tests.{either, and-true}
 use Rattle.lists.proofs.Search.{none-of}
-use Rattle.wcet.specs.Table.{Routine, blockCount, loopCount, exit, missing, loopOf, first, second, header, someEdge, edge, inside, isHeader}
-use Rattle.wcet.specs.Cycles.{backEdge, forwardEdge, undeclaredLoop}
+use Rattle.wcet.specs.Table.{Routine, blockCount, loopCount, exit, missing, loopOf, first, second, header, someEdge, edge, inside}
+use Rattle.wcet.specs.Cycles.{backEdge, undeclaredLoop}
 use Rattle.wcet.specs.Rules.{structureRules}
 use Rattle.wcet.specs.Claim.{AllHold}
 use Rattle.wcet.proofs.Nesting.{Nested, nested}
 use Rattle.loopsets.specs.Sets.{setsAround}
-use Rattle.loopsets.proofs.Laws.{member-around}
 use Rattle.nesting.specs.Columns.{Headed}
 use Rattle.nesting.proofs.Stages.{headed}
-use Rattle.order.specs.Edges.{backBySets}
 use Rattle.order.specs.Ordering.{Topological}
-use Rattle.optimum.specs.Remade.{PathToExit}
+use Rattle.optimum.specs.Remade.{AllPaths}
 use Rattle.optimum.specs.Tails.{weight}
 use Rattle.optimum.specs.Columns.{tails, remadeMultipliers, remultiplied, remadeFigures}
 use Rattle.optimum.specs.Replies.{multiplierOver}
@@ -37,11 +34,12 @@ use Rattle.optimum.proofs.Filled.{figure-least}
 use Rattle.optimum.proofs.Remade.{remultiplied-nested, made-figure}
 use Rattle.optimum.proofs.Edges.{asks, figure-exit, figure-most, figure-attained}
 use Rattle.tails.specs.Words.{greaterOf}
-use Rattle.tails.specs.Slots.{nowhere, slotBySets, SlotsOf}
+use Rattle.tails.specs.Slots.{nowhere, SlotsOf}
+use Rattle.tails.proofs.Words.{greater-first, greater-second}
 use Rattle.multipliers.specs.Columns.{MultipliedOf}
 use Rattle.figures.specs.Figures.{noFigure}
-use Rattle.figures.specs.Columns.{GatesOf, slotValue, Equations, FiguresFilled, FiguredOf}
-use Rattle.tails.proofs.Words.{greater-first, greater-second}
+use Rattle.figures.specs.Columns.{GatesOf, slotValue, Equations}
+use Rattle.figures.proofs.Slots.{Slot, slot, slot-exit}
 
 -- one of two that is not below the other is the greater
 greatest : (f a b : ℤ) → a ≤ℤ f → b ≤ℤ f → (f ≡ a) ⊎ (f ≡ b) → f ≡ greaterOf a b
@@ -52,7 +50,7 @@ greatest f a b p q (inr e) = go (ltZ a b) refl
     go true l = e ∙ greater-second a b (omega ints)
     go false l = let d : f ≡ a = omega ints in d ∙ greater-first a b (omega ints)
 
-module _ (t : Routine) (rules : AllHold (structureRules t)) (declared : undeclaredLoop t ≡ false) (paths : (u : ℕ) → u < blockCount t → PathToExit t u)
+module _ (t : Routine) (rules : AllHold (structureRules t)) (declared : undeclaredLoop t ≡ false) (paths : AllPaths t)
     (sets : List ℕ) (around-sets : sets ≡ setsAround (t .parents)) (order : List ℕ) (O : Topological t order)
     (made : List ℕ) (weights kept : List ℤ) (M : MultipliedOf t false made weights kept) (gates : List ℤ) (G : GatesOf t gates) where
   abbrev n : ℕ
@@ -97,11 +95,6 @@ module _ (t : Routine) (rules : AllHold (structureRules t)) (declared : undeclar
       = figure-least (remultiplied t) (remultiplied-nested t N declared) (tails (remultiplied t)) (2 ^ 40) low (loopCount t) x (F x) (omega arith) b (made-figure t N declared paths x b) in
       omega (ints, few-loops, sum (F x) (pos (2 ^ 40 * loopCount t)))
 
-  back-same : (u v : ℕ) → u < n → v < n → backBySets sets (t .loops) (t .headers) u v ≡ backEdge t u v
-  unfolding backBySets backEdge inside
-  back-same u v b c =
-      ap (λ (i : Bool). isHeader t v && i) (member-around (t .parents) sets around-sets few-loops (loopOf t u) (loopOf t v) (N .innermost u b) (omega (arith, N .innermost v c, few-loops)))
-
   -- ---- one edge
 
   module _ (x v : ℕ) (b : x < n) (e : edge t x v ≡ true) where
@@ -121,66 +114,28 @@ module _ (t : Routine) (rules : AllHold (structureRules t)) (declared : undeclar
         let w : getD weights v (pos 0) ≡ pos (weight (remultiplied t) v) = M .weighed refl v c in
         rw (lt-ltb v n c, r, w) (omega (ints, sum (F v) (pos (weight (remultiplied t) v)), sum (pos (weight (remultiplied t) v)) (F v)))
 
-    forward : backEdge t x v ≡ false → O .position x < O .position v
-    forward r = O .rises x v b (unfold forwardEdge in rw (e, r))
-
   -- ---- the slots of a column of successors
 
   module _ (next slots : List ℕ) (S : SlotsOf sets (t .loops) (t .headers) next slots)
       (edges : (x : ℕ) → eqb (getD next x 0) missing ≡ false → edge t x (getD next x 0) ≡ true) where
-    -- the slot s of x's edge is that of a back edge, or of a forward edge; or there is no edge
-    abbrev EdgeSlot : ℕ → ℕ → Type 0
-    EdgeSlot x s =
-        ((backEdge t x (getD next x 0) ≡ true) × (s ≡ mostBlocks + loopOf t (getD next x 0))) ⊎ ((backEdge t x (getD next x 0) ≡ false) × (s ≡ getD next x 0))
-
-    abbrev Slot : ℕ → ℕ → Type 0
-    Slot x s = ((eqb (getD next x 0) missing ≡ true) × (s ≡ nowhere)) ⊎ ((edge t x (getD next x 0) ≡ true) × EdgeSlot x s)
-
-    slot-exit : getD slots (exit t) 0 ≡ mostBlocks
-    slot-exit = let q : length (t .loops) - 1 ≡ exit t = ap (λ (k : ℕ). k - 1) (H′ .ranged .sized .loops) in rw q at (S .at-exit)
-
-    slot : (x : ℕ) → x < n → (x ≡ exit t → ⊥) → Slot x (getD slots x 0)
-    unfolding slotBySets
-    slot x b ne = go (eqb v missing) refl (S .each x (omega (arith, H′ .ranged .sized .loops)) (λ q. ne (omega (arith, H′ .ranged .sized .loops))))
-      where
-        v : ℕ
-        v = getD next x 0
-
-        go : (m : Bool) → eqb v missing ≡ m → getD slots x 0 ≡ (if m then nowhere else if backBySets sets (t .loops) (t .headers) x v then mostBlocks + loopOf t v else v) → Slot x (getD slots x 0)
-        go true m q = inl (m, q)
-        go false m q = inr (edges x m, by (backEdge t x v) refl (rw (back-same x v b (c x v b (edges x m))) at q))
-          where
-            by : (r : Bool) → backEdge t x v ≡ r → getD slots x 0 ≡ (if r then mostBlocks + loopOf t v else v) → EdgeSlot x (getD slots x 0)
-            by true r q = inl (r, q)
-            by false r q = inr (r, q)
+    slot-of : (x : ℕ) → x < n → (x ≡ exit t → ⊥) → Slot t x (getD next x 0) (getD slots x 0)
+    slot-of = slot t rules sets around-sets order O next slots S edges
 
     slot-most : (x : ℕ) → x < n → (x ≡ exit t → ⊥) → value (getD slots x 0) ≤ℤ F x
-    slot-most x b ne = go (slot x b ne)
+    slot-most x b ne = go (slot-of x b ne)
       where
-        go : Slot x (getD slots x 0) → value (getD slots x 0) ≤ℤ F x
+        go : Slot t x (getD next x 0) (getD slots x 0) → value (getD slots x 0) ≤ℤ F x
         go (inl p) = rw (p .1, at-nowhere) (over-none x b)
         go (inr (e, inl p)) = rw (p .1, asked-back x (getD next x 0) b e (p .0)) (figure-most t N declared paths x (getD next x 0) b e)
         go (inr (e, inr p)) = rw (p .1, asked-on x (getD next x 0) b e (p .0)) (figure-most t N declared paths x (getD next x 0) b e)
 
     slot-attained : (x : ℕ) → x < n → (x ≡ exit t → ⊥) → eqb (getD next x 0) missing ≡ false → value (getD slots x 0) ≡ asks t x (getD next x 0)
-    slot-attained x b ne there = go (slot x b ne)
+    slot-attained x b ne there = go (slot-of x b ne)
       where
-        go : Slot x (getD slots x 0) → value (getD slots x 0) ≡ asks t x (getD next x 0)
+        go : Slot t x (getD next x 0) (getD slots x 0) → value (getD slots x 0) ≡ asks t x (getD next x 0)
         go (inl p) = absurd (true≢false (sym (p .0) ∙ there))
         go (inr (e, inl p)) = rw (p .1) (asked-back x (getD next x 0) b e (p .0))
         go (inr (e, inr p)) = rw (p .1) (asked-on x (getD next x 0) b e (p .0))
-
-    slot-later : (x : ℕ) → x < n → getD slots x 0 < n → O .position x < O .position (getD slots x 0)
-    slot-later x b h = at (ℕ-discrete x (exit t))
-      where
-        at : Dec (x ≡ exit t) → O .position x < O .position (getD slots x 0)
-        at (yes q) = absurd (omega (arith, few-blocks, ap (λ (y : ℕ). getD slots y 0) q ∙ slot-exit))
-        at (no ne) = go (slot x b ne)
-          where
-            go : Slot x (getD slots x 0) → O .position x < O .position (getD slots x 0)
-            go (inl p) = absurd (omega (arith, few-blocks, p .1))
-            go (inr (e, inl p)) = absurd (omega (arith, few-blocks, p .1))
-            go (inr (e, inr p)) = rw (p .1) (forward x (getD next x 0) b e (p .0))
 
   -- ---- both slots
 
@@ -201,32 +156,15 @@ module _ (t : Routine) (rules : AllHold (structureRules t)) (declared : undeclar
             let r = and-true (not (eqb (second t x) missing)) (eqb (second t x) v) p in
             inr (q ∙ ap (asks t x) (sym (eqb-true (second t x) v (r .1))) ∙ sym (slot-attained (t .seconds) secondSlots S₂ (second-edge t) x b ne (not-true (eqb (second t x) missing) (r .0))))
 
-    each : (x : ℕ) → x < n → F x ≡ greaterOf (value (getD firstSlots x 0)) (value (getD secondSlots x 0))
-    each x b = at (ℕ-discrete x (exit t))
+    pub remade-equations : Equations (λ x. getD (remadeFigures t) x (pos 0)) (blockCount t) weights firstSlots secondSlots gates
+    remade-equations x b = at (ℕ-discrete x (exit t))
       where
         at : Dec (x ≡ exit t) → F x ≡ greaterOf (value (getD firstSlots x 0)) (value (getD secondSlots x 0))
         at (yes q) =
-            rw (q, slot-exit (t .firsts) firstSlots S₁ (first-edge t), slot-exit (t .seconds) secondSlots S₂ (second-edge t), at-exit-gate)
+            rw (q, slot-exit t rules sets around-sets order O (t .firsts) firstSlots S₁ (first-edge t), slot-exit t rules sets around-sets order O (t .seconds) secondSlots S₂ (second-edge t), at-exit-gate)
             (figure-exit t N declared paths ∙ greater-first (pos 0) (pos 0) (omega ints))
         at (no ne) =
             let f = figure-attained t N declared paths x b ne in
             greatest (F x) (value (getD firstSlots x 0)) (value (getD secondSlots x 0))
             (slot-most (t .firsts) firstSlots S₁ (first-edge t) x b ne) (slot-most (t .seconds) secondSlots S₂ (second-edge t) x b ne)
             (attained x (f .0) b ne (f .1) (f .2))
-
-    remade-equations : Equations (λ x. getD (remadeFigures t) x (pos 0)) (blockCount t) weights firstSlots secondSlots order gates
-    remade-equations = record {
-      each = each;
-      position = O .position;
-      within = O .within;
-      there = O .there;
-      index = O .index;
-      first-later = slot-later (t .firsts) firstSlots S₁ (first-edge t);
-      second-later = slot-later (t .seconds) secondSlots S₂ (second-edge t);
-    }
-
-    -- a pass over these gates makes the remade figures
-    pub figured : (over : Bool) (figures : List ℤ) → FiguresFilled weights firstSlots secondSlots order (blockCount t) gates over figures → FiguredOf t over figures
-    figured over figures P =
-        let r = P .says (λ x. getD (remadeFigures t) x (pos 0)) remade-equations in
-        record { same = λ q x b. r .0 q x b .0; low = λ q x b. r .0 q x b .1; high = r .1 }

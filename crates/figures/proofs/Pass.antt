@@ -3,7 +3,7 @@
 use mathlib.Core.Path.{_≡_, refl, sym, _∙_, ap}
 use mathlib.Core.Bool.{Bool, true, false, true≢false}
 use mathlib.Core.List.{List}
-use Prim.Native.Nat.{ℕ, _+_, _-_, _^_, _≤_, _<_}
+use Prim.Native.Nat.{ℕ, zero, suc, _+_, _-_, _^_, _≤_, _<_}
 use native.Mathlib.Decide.{ℕ-discrete}
 use native.Mathlib.Omega.{arith}
 use lib.Dec.{ltb}
@@ -17,11 +17,13 @@ use mir.Val.{SFits}
 use Rattle.integers.proofs.Laws.{ints, sum, diff, size}
 use Rattle.limits.specs.Limits.{mostBlocks}
 use Rattle.lists.specs.Search.{if_then_else_}
+use Rattle.lists.proofs.Tests.{neither}
+use Rattle.wcet.specs.Rules.{figureOutside}
 use Rattle.tails.specs.Words.{greaterOf}
 use Rattle.tails.specs.Slots.{places, Slotted}
 use Rattle.tails.proofs.Words.{greater-least}
 use Rattle.figures.specs.Figures.{noFigure, HeadFits, ValuesFit, WeightFits}
-use Rattle.figures.specs.Columns.{GatesSet, slotValue, Equations, FiguresFilled}
+use Rattle.figures.specs.Columns.{GatesSet, slotValue, Equations, Forward, FiguresFilled}
 
 -- ---- the gates
 
@@ -123,22 +125,22 @@ gates-fit costs headers made heads old new G fit known i = go (ltb i mostBlocks)
 
 -- ---- the pass
 
--- the value of a block: its figure f and its weight w
-abbrev valueBy : ℤ → ℤ → ℤ
-valueBy f w = f +ℤ w
+-- block x has its figure and its value
+pub record Done (weights : List ℤ) (firstSlots secondSlots : List ℕ) (figures values : List ℤ) (x : ℕ) : Type 0 where
+  pub within : figureOutside (getD figures x (pos 0)) ≡ false
+  pub made : getD figures x (pos 0) ≡ greaterOf (getD values (getD firstSlots x 0) (pos 0)) (getD values (getD secondSlots x 0) (pos 0))
+  pub valued : getD values x (pos 0) ≡ getD figures x (pos 0) +ℤ getD weights x (pos 0)
 
--- the blocks from place i of the order up have their figures and values
+-- so have the blocks from place i of the order up
 pub record Passing (weights : List ℤ) (firstSlots secondSlots order : List ℕ) (n : ℕ) (gates figures values : List ℤ) (i : ℕ) : Type 0 where
   pub few : i ≤ n
   pub figures-size : length figures ≡ mostBlocks
   pub values-size : length values ≡ places
   pub fit : ValuesFit values
   pub rest : (s : ℕ) → n ≤ s → getD values s (pos 0) ≡ getD gates s (pos 0)
-  pub low : (F : ℕ → ℤ) → Equations F n weights firstSlots secondSlots order gates → (j : ℕ) → i ≤ j → j < n → F (getD order j 0) ≤ℤ pos (2 ^ 60)
-  pub done : (F : ℕ → ℤ) → Equations F n weights firstSlots secondSlots order gates → (j : ℕ) → i ≤ j → j < n
-      → (getD figures (getD order j 0) (pos 0) ≡ F (getD order j 0)) × (getD values (getD order j 0) (pos 0) ≡ valueBy (F (getD order j 0)) (getD weights (getD order j 0) (pos 0)))
+  pub done : Forward n firstSlots secondSlots order → (j : ℕ) → i ≤ j → j < n → Done weights firstSlots secondSlots figures values (getD order j 0)
 
-pub value-fits : (f w : ℤ) → WeightFits w → negℤ (pos (2 ^ 62 + 2 ^ 41)) ≤ℤ f → f ≤ℤ pos (2 ^ 60) → SFits w64 (f +ℤ w)
+pub value-fits : (f w : ℤ) → WeightFits w → negℤ (pos (2 ^ 60)) ≤ℤ f → f ≤ℤ pos (2 ^ 60) → SFits w64 (f +ℤ w)
 value-fits f w W p q =
     let a = W .weight-least in
     let b = W .weight-most in
@@ -152,95 +154,149 @@ module _ (weights : List ℤ) (firstSlots secondSlots order : List ℕ) (n : ℕ
     values-size = q;
     fit = fit;
     rest = λ s b. refl;
-    low = λ F E j a b. absurd (omega arith);
-    done = λ F E j a b. absurd (omega arith);
+    done = λ W j a b. absurd (omega arith);
   }
 
-  module _ (figures values : List ℤ) (i : ℕ) (z : 0 < i) (P : Passing weights firstSlots secondSlots order n gates figures values i) where
-    abbrev x : ℕ
-    x = getD order (i - 1) 0
-
-    here : x < n
-    here = S .block (i - 1) (omega (arith, P .few))
-
-    module _ (f : ℤ) (found : f ≡ greaterOf (getD values (getD firstSlots x 0) (pos 0)) (getD values (getD secondSlots x 0) (pos 0))) where
-      pub found-least : negℤ (pos (2 ^ 62 + 2 ^ 41)) ≤ℤ f
-      found-least = rw found (greater-least _ _ _ (P .fit (getD firstSlots x 0) .0) (P .fit (getD secondSlots x 0) .0))
-
-      module _ (F : ℕ → ℤ) (E : Equations F n weights firstSlots secondSlots order gates) where
-        -- the value in a slot that is a gate, or a block that stands later
-        in-slot : (s : ℕ) → (s < n → E .position x < E .position s) → getD values s (pos 0) ≡ slotValue F n weights gates s
-        in-slot s later = go (ltb s n) refl
-          where
-            go : (b : Bool) → ltb s n ≡ b → getD values s (pos 0) ≡ (if b then F s +ℤ getD weights s (pos 0) else getD gates s (pos 0))
-            go false b = P .rest s (ltb-false s n b)
-            go true b =
-                let h : s < n = ltb-true s n b in
-                let q : getD order (E .position s) 0 ≡ s = E .there s h in
-                rw q at (P .done F E (E .position s) (omega (arith, later h, E .index (i - 1) (omega (arith, P .few)))) (E .within s h) .1)
-
-        same : f ≡ F x
-        same =
-            found ∙ rw (in-slot (getD firstSlots x 0) (E .first-later x here), in-slot (getD secondSlots x 0) (E .second-later x here)) (sym (E .each x here))
-
-        later : (j : ℕ) → i ≤ j → j < n → (getD order j 0 ≡ x → ⊥)
-        later j a b e = let p : j ≡ i - 1 = sym (E .index j b) ∙ ap (E .position) e ∙ E .index (i - 1) (omega (arith, P .few)) in omega arith
-
-      pub passing-over : pos (2 ^ 60) <ℤ f → FiguresFilled weights firstSlots secondSlots order n gates true figures
-      passing-over high = record { size = P .figures-size; says = λ F E. (λ q. absurd (true≢false q), λ q. (x, here, rw (same F E) at high)) }
-
-      pub passing-next : WeightFits (getD weights x (pos 0)) → f ≤ℤ pos (2 ^ 60)
-          → Passing weights firstSlots secondSlots order n gates (set figures x f) (set values x (f +ℤ getD weights x (pos 0))) (i - 1)
-      passing-next W most = record {
-        few = omega (arith, P .few);
-        figures-size = length-set figures x f ∙ P .figures-size;
-        values-size = length-set values x value ∙ P .values-size;
-        fit = λ s. fit s (ℕ-discrete s x);
-        rest = λ s b. getD-set-other values x s value (pos 0) (λ e. omega (arith, here)) ∙ P .rest s b;
-        low = λ F E j a b. low F E j a b (ℕ-discrete j (i - 1));
-        done = λ F E j a b. done F E j a b (ℕ-discrete j (i - 1));
-      }
+  module _ (figures values : List ℤ) (i : ℕ) (P : Passing weights firstSlots secondSlots order n gates figures values i) where
+    module _ (W : Forward n firstSlots secondSlots order) where
+      -- the value in a slot that is a gate, or a block that has its figure
+      in-slot : (s : ℕ) → (s < n → i ≤ W .position s) → getD values s (pos 0) ≡ slotValue (λ x. getD figures x (pos 0)) n weights gates s
+      in-slot s later = go (ltb s n) refl
         where
-          value : ℤ
-          value = f +ℤ getD weights x (pos 0)
+          go : (b : Bool) → ltb s n ≡ b → getD values s (pos 0) ≡ (if b then getD figures s (pos 0) +ℤ getD weights s (pos 0) else getD gates s (pos 0))
+          go false b = P .rest s (ltb-false s n b)
+          go true b =
+              let h : s < n = ltb-true s n b in
+              rw (W .there s h) at (P .done W (W .position s) (later h) (W .within s h) .valued)
 
-          in-values : getD (set values x value) x (pos 0) ≡ value
-          in-values = getD-set-same values x value (pos 0) (omega (arith, here, S .few, P .values-size))
+      -- the figures so far are those of any solution of the equations
+      module _ (F : ℕ → ℤ) (E : Equations F n weights firstSlots secondSlots gates) where
+        slot-same : (s : ℕ) → (s < n → i ≤ W .position s) → (s < n → getD figures s (pos 0) ≡ F s) → getD values s (pos 0) ≡ slotValue F n weights gates s
+        slot-same s later same = in-slot s later ∙ go (ltb s n) refl
+          where
+            go : (b : Bool) → ltb s n ≡ b → (if b then getD figures s (pos 0) +ℤ getD weights s (pos 0) else getD gates s (pos 0)) ≡ (if b then F s +ℤ getD weights s (pos 0) else getD gates s (pos 0))
+            go false b = refl
+            go true b = ap (λ (f : ℤ). f +ℤ getD weights s (pos 0)) (same (ltb-true s n b))
 
-          in-figures : getD (set figures x f) x (pos 0) ≡ f
-          in-figures = getD-set-same figures x f (pos 0) (omega (arith, here, S .few, P .figures-size))
+        -- a block is right if the later ones are
+        step : (j : ℕ) → i ≤ j → j < n → ((y : ℕ) → j < y → y < n → getD figures (getD order y 0) (pos 0) ≡ F (getD order y 0)) → getD figures (getD order j 0) (pos 0) ≡ F (getD order j 0)
+        step j a b right =
+            P .done W j a b .made ∙ rw (in-either (getD firstSlots x 0) (W .first-later x (S .block j b)), in-either (getD secondSlots x 0) (W .second-later x (S .block j b))) (sym (E x (S .block j b)))
+          where
+            x : ℕ
+            x = getD order j 0
 
-          range : (negℤ (pos (2 ^ 62 + 2 ^ 41)) ≤ℤ value) × (value ≤ℤ pos (2 ^ 61))
-          range =
-              let a = W .weight-most in
-              let z = W .weight-least in
-              let p = found-least in
-              (omega (ints, sum f (getD weights x (pos 0))), omega (ints, sum f (getD weights x (pos 0))))
+            in-either : (s : ℕ) → (s < n → W .position x < W .position s) → getD values s (pos 0) ≡ slotValue F n weights gates s
+            in-either s later =
+                slot-same s (λ h. omega (arith, W .index j b, later h)) (λ h.
+                rw (W .there s h) at (right (W .position s) (omega (arith, W .index j b, later h)) (W .within s h)))
 
-          fit : (s : ℕ) → Dec (s ≡ x) → (negℤ (pos (2 ^ 62 + 2 ^ 41)) ≤ℤ getD (set values x value) s (pos 0)) × (getD (set values x value) s (pos 0) ≤ℤ pos (2 ^ 61))
-          fit s (yes e) = rw (e, in-values) range
-          fit s (no ne) = rw (getD-set-other values x s value (pos 0) ne) (P .fit s)
+        so-far : (k j : ℕ) → i ≤ j → j < n → n ≤ j + k → getD figures (getD order j 0) (pos 0) ≡ F (getD order j 0)
+        so-far zero j a b c = absurd (omega arith)
+        so-far (suc k) j a b c = step j a b (λ y p q. so-far k y (omega arith) q (omega arith))
 
-          low : (F : ℕ → ℤ) → Equations F n weights firstSlots secondSlots order gates → (j : ℕ) → i - 1 ≤ j → j < n → Dec (j ≡ i - 1) → F (getD order j 0) ≤ℤ pos (2 ^ 60)
-          low F E j a b (yes e) = rw (e, ← same F E) most
-          low F E j a b (no ne) = P .low F E j (omega arith) b
+        stands : (s : ℕ) → (s < n → i ≤ W .position s) → getD values s (pos 0) ≡ slotValue F n weights gates s
+        stands s later = slot-same s later (λ h. rw (W .there s h) at (so-far n (W .position s) (later h) (W .within s h) (omega arith)))
 
-          done : (F : ℕ → ℤ) → Equations F n weights firstSlots secondSlots order gates → (j : ℕ) → i - 1 ≤ j → j < n → Dec (j ≡ i - 1)
-              → (getD (set figures x f) (getD order j 0) (pos 0) ≡ F (getD order j 0)) × (getD (set values x value) (getD order j 0) (pos 0) ≡ valueBy (F (getD order j 0)) (getD weights (getD order j 0) (pos 0)))
-          done F E j a b (yes e) = rw e (in-figures ∙ same F E, in-values ∙ ap (λ (f : ℤ). valueBy f (getD weights x (pos 0))) (same F E))
-          done F E j a b (no ne) =
-              let l : (getD order j 0 ≡ x → ⊥) = later F E j (omega arith) b in
-              let d = P .done F E j (omega arith) b in
-              (getD-set-other figures x (getD order j 0) f (pos 0) l ∙ d .0, getD-set-other values x (getD order j 0) value (pos 0) l ∙ d .1)
+    module _ (z : 0 < i) where
+      abbrev x : ℕ
+      x = getD order (i - 1) 0
 
-  pub passing-all : (figures values : List ℤ) → Passing weights firstSlots secondSlots order n gates figures values 0 → FiguresFilled weights firstSlots secondSlots order n gates false figures
+      here : x < n
+      here = S .block (i - 1) (omega (arith, P .few))
+
+      module _ (f : ℤ) (found : f ≡ greaterOf (getD values (getD firstSlots x 0) (pos 0)) (getD values (getD secondSlots x 0) (pos 0))) where
+        pub passing-over : figureOutside f ≡ true → FiguresFilled weights firstSlots secondSlots order n gates true figures
+        passing-over out = record {
+          size = P .figures-size;
+          within = λ q. absurd (true≢false q);
+          made = λ q. absurd (true≢false q);
+          only = λ q. absurd (true≢false q);
+          high = λ q W F E. (x, here, rw (same W F E) at out);
+        }
+          where
+            same : (W : Forward n firstSlots secondSlots order) (F : ℕ → ℤ) → Equations F n weights firstSlots secondSlots gates → f ≡ F x
+            same W F E =
+                let at : W .position x ≡ i - 1 = W .index (i - 1) (omega (arith, P .few)) in
+                found
+                ∙ rw (stands W F E (getD firstSlots x 0) (λ h. omega (arith, at, W .first-later x here h)), stands W F E (getD secondSlots x 0) (λ h. omega (arith, at, W .second-later x here h)))
+                (sym (E x here))
+
+        pub passing-next : WeightFits (getD weights x (pos 0)) → negℤ (pos (2 ^ 60)) ≤ℤ f → f ≤ℤ pos (2 ^ 60)
+            → Passing weights firstSlots secondSlots order n gates (set figures x f) (set values x (f +ℤ getD weights x (pos 0))) (i - 1)
+        passing-next Y least most = record {
+          few = omega (arith, P .few);
+          figures-size = length-set figures x f ∙ P .figures-size;
+          values-size = length-set values x value ∙ P .values-size;
+          fit = λ s. fit s (ℕ-discrete s x);
+          rest = λ s b. getD-set-other values x s value (pos 0) (λ e. omega (arith, here)) ∙ P .rest s b;
+          done = λ W j a b. done W j a b (ℕ-discrete j (i - 1));
+        }
+          where
+            value : ℤ
+            value = f +ℤ getD weights x (pos 0)
+
+            in-values : getD (set values x value) x (pos 0) ≡ value
+            in-values = getD-set-same values x value (pos 0) (omega (arith, here, S .few, P .values-size))
+
+            in-figures : getD (set figures x f) x (pos 0) ≡ f
+            in-figures = getD-set-same figures x f (pos 0) (omega (arith, here, S .few, P .figures-size))
+
+            range : (negℤ (pos (2 ^ 62 + 2 ^ 41)) ≤ℤ value) × (value ≤ℤ pos (2 ^ 61))
+            range =
+                let a = Y .weight-most in
+                let z = Y .weight-least in
+                (omega (ints, sum f (getD weights x (pos 0))), omega (ints, sum f (getD weights x (pos 0))))
+
+            fit : (s : ℕ) → Dec (s ≡ x) → (negℤ (pos (2 ^ 62 + 2 ^ 41)) ≤ℤ getD (set values x value) s (pos 0)) × (getD (set values x value) s (pos 0) ≤ℤ pos (2 ^ 61))
+            fit s (yes e) = rw (e, in-values) range
+            fit s (no ne) = rw (getD-set-other values x s value (pos 0) ne) (P .fit s)
+
+            inside : figureOutside f ≡ false
+            inside = neither {a = ltZ f (negℤ (pos (2 ^ 60)))} (omega ints) (omega ints)
+
+            -- a slot of a block from place i - 1 up is not block x
+            other : (W : Forward n firstSlots secondSlots order) (y s : ℕ) → y < n → i - 1 ≤ W .position y → (s < n → W .position y < W .position s) → s ≡ x → ⊥
+            other W y s c a later e =
+                let h : s < n = rw e here in
+                let p : W .position s ≡ i - 1 = rw e (W .index (i - 1) (omega (arith, P .few))) in
+                omega (arith, later h)
+
+            first-kept : (W : Forward n firstSlots secondSlots order) (y : ℕ) → y < n → i - 1 ≤ W .position y
+                → getD (set values x value) (getD firstSlots y 0) (pos 0) ≡ getD values (getD firstSlots y 0) (pos 0)
+            first-kept W y c a = getD-set-other values x (getD firstSlots y 0) value (pos 0) (other W y (getD firstSlots y 0) c a (W .first-later y c))
+
+            second-kept : (W : Forward n firstSlots secondSlots order) (y : ℕ) → y < n → i - 1 ≤ W .position y
+                → getD (set values x value) (getD secondSlots y 0) (pos 0) ≡ getD values (getD secondSlots y 0) (pos 0)
+            second-kept W y c a = getD-set-other values x (getD secondSlots y 0) value (pos 0) (other W y (getD secondSlots y 0) c a (W .second-later y c))
+
+            done : Forward n firstSlots secondSlots order → (j : ℕ) → i - 1 ≤ j → j < n → Dec (j ≡ i - 1) → Done weights firstSlots secondSlots (set figures x f) (set values x value) (getD order j 0)
+            done W j a b (yes e) =
+                let at : i - 1 ≤ W .position x = omega (arith, W .index (i - 1) (omega (arith, P .few))) in
+                rw e (record {
+                  within = rw in-figures inside;
+                  made = in-figures ∙ rw (first-kept W x here at, second-kept W x here at) found;
+                  valued = rw (in-values, in-figures);
+                })
+            done W j a b (no ne) =
+                let y : ℕ = getD order j 0 in
+                let at : W .position y ≡ j = W .index j b in
+                let apart : y ≡ x → ⊥ = λ e. let p : j ≡ i - 1 = sym at ∙ ap (W .position) e ∙ W .index (i - 1) (omega (arith, P .few)) in omega arith in
+                let D = P .done W j (omega arith) b in
+                record {
+                  within = rw (getD-set-other figures x y f (pos 0) apart) (D .within);
+                  made = getD-set-other figures x y f (pos 0) apart ∙ D .made ∙ sym (rw (first-kept W y (S .block j b) (omega arith), second-kept W y (S .block j b) (omega arith)));
+                  valued = getD-set-other values x y value (pos 0) apart ∙ D .valued ∙ sym (rw (getD-set-other figures x y f (pos 0) apart));
+                }
+
+  pub passing-all : (figures values : List ℤ) → Passing weights firstSlots secondSlots order n gates figures values 0
+      → FiguresFilled weights firstSlots secondSlots order n gates false figures
   passing-all figures values P = record {
     size = P .figures-size;
-    says = λ F E. (
-      λ q x b. (
-        rw (E .there x b) at (P .done F E (E .position x) (omega arith) (E .within x b) .0),
-        rw (E .there x b) at (P .low F E (E .position x) (omega arith) (E .within x b)),
-      ),
-      λ q. absurd (true≢false (sym q)),
-    );
+    within = λ q W x b. rw (W .there x b) at (P .done W (W .position x) (omega arith) (W .within x b) .within);
+    made = λ q W x b.
+        rw (W .there x b) at (P .done W (W .position x) (omega arith) (W .within x b) .made)
+        ∙ rw (in-slot figures values 0 P W (getD firstSlots x 0) (λ h. omega arith), in-slot figures values 0 P W (getD secondSlots x 0) (λ h. omega arith));
+    only = λ q W F E x b. rw (W .there x b) at (so-far figures values 0 P W F E n (W .position x) (omega arith) (W .within x b) (omega arith));
+    high = λ q. absurd (true≢false (sym q));
   }

@@ -11,12 +11,14 @@ use lib.Signed.{ltZ, _≤ℤ_, _<ℤ_}
 use Rattle.limits.specs.Limits.{mostBlocks, mostLoops, mostDepth}
 use Rattle.lists.specs.Search.{if_then_else_}
 use Rattle.wcet.specs.Table.{Routine, blockCount, loopCount, cost, header}
-use Rattle.wcet.specs.Rules.{structureRules}
+use Rattle.wcet.specs.Rules.{structureRules, figureOutside}
 use Rattle.wcet.specs.Claim.{AllHold}
 use Rattle.loopsets.specs.Sets.{Parents}
 use Rattle.levels.specs.Levels.{noLoop, Deep}
 use Rattle.optimum.specs.Tails.{best}
-use Rattle.optimum.specs.Columns.{tails, figureBy, remadeMultipliers, remultiplied, remadeFigures}
+use Rattle.optimum.specs.Remade.{AllPaths}
+use Rattle.optimum.specs.Columns.{tails, figureBy, remadeMultipliers, remultiplied, remadeFigures, remade}
+use Rattle.optimum.specs.Replies.{figureOver}
 use Rattle.tails.specs.Words.{wordOf, greaterOf, Low}
 use Rattle.tails.specs.Slots.{nowhere}
 use Rattle.multipliers.specs.Columns.{keptAt, MultipliedOf}
@@ -92,9 +94,13 @@ pub record GatesSet (costs headers made : List ℕ) (heads old new : List ℤ) :
 abbrev pub slotValue : (F : ℕ → ℤ) (n : ℕ) (weights gates : List ℤ) → ℕ → ℤ
 slotValue F n weights gates s = if ltb s n then F s +ℤ getD weights s (pos 0) else getD gates s (pos 0)
 
--- F are figures of n blocks by these slots, and the slots of a block that are blocks stand after it in the order
-pub record Equations (F : ℕ → ℤ) (n : ℕ) (weights : List ℤ) (firstSlots secondSlots order : List ℕ) (gates : List ℤ) : Type 0 where
-  pub each : (x : ℕ) → x < n → F x ≡ greaterOf (slotValue F n weights gates (getD firstSlots x 0)) (slotValue F n weights gates (getD secondSlots x 0))
+-- F are figures of n blocks by these slots
+abbrev pub Equations : (F : ℕ → ℤ) (n : ℕ) (weights : List ℤ) (firstSlots secondSlots : List ℕ) (gates : List ℤ) → Type 0
+Equations F n weights firstSlots secondSlots gates =
+    (x : ℕ) → x < n → F x ≡ greaterOf (slotValue F n weights gates (getD firstSlots x 0)) (slotValue F n weights gates (getD secondSlots x 0))
+
+-- the slots of a block that are blocks stand after it in the order
+pub record Forward (n : ℕ) (firstSlots secondSlots order : List ℕ) : Type 0 where
   pub position : ℕ → ℕ
   pub within : (u : ℕ) → u < n → position u < n
   pub there : (u : ℕ) → u < n → getD order (position u) 0 ≡ u
@@ -102,11 +108,13 @@ pub record Equations (F : ℕ → ℤ) (n : ℕ) (weights : List ℤ) (firstSlot
   pub first-later : (x : ℕ) → x < n → getD firstSlots x 0 < n → position x < position (getD firstSlots x 0)
   pub second-later : (x : ℕ) → x < n → getD secondSlots x 0 < n → position x < position (getD secondSlots x 0)
 
--- a pass makes them, unless one of them is over 2^60
-pub record FiguresFilled (weights : List ℤ) (firstSlots secondSlots order : List ℕ) (n : ℕ) (gates : List ℤ) (over : Bool) (figures : List ℤ) : Type 0 where
+-- a pass makes the only such figures, unless one of them is outside −2^60 to 2^60
+pub record FiguresFilled (weights : List ℤ) (firstSlots secondSlots order : List ℕ) (n : ℕ) (gates : List ℤ) (outside : Bool) (figures : List ℤ) : Type 0 where
   pub size : length figures ≡ mostBlocks
-  pub says : (F : ℕ → ℤ) → Equations F n weights firstSlots secondSlots order gates
-      → (over ≡ false → (x : ℕ) → x < n → (getD figures x (pos 0) ≡ F x) × (F x ≤ℤ pos (2 ^ 60))) × (over ≡ true → (x : ℕ) × (x < n) × (pos (2 ^ 60) <ℤ F x))
+  pub within : outside ≡ false → Forward n firstSlots secondSlots order → (x : ℕ) → x < n → figureOutside (getD figures x (pos 0)) ≡ false
+  pub made : outside ≡ false → Forward n firstSlots secondSlots order → Equations (λ x. getD figures x (pos 0)) n weights firstSlots secondSlots gates
+  pub only : outside ≡ false → Forward n firstSlots secondSlots order → (F : ℕ → ℤ) → Equations F n weights firstSlots secondSlots gates → (x : ℕ) → x < n → getD figures x (pos 0) ≡ F x
+  pub high : outside ≡ true → Forward n firstSlots secondSlots order → (F : ℕ → ℤ) → Equations F n weights firstSlots secondSlots gates → (x : ℕ) × (x < n) × (figureOutside (F x) ≡ true)
 
 -- some remade figure of t is over 2^60
 abbrev pub FigureHigh : Routine → Type 0
@@ -119,8 +127,8 @@ pub record GatesOf (t : Routine) (gates : List ℤ) : Type 0 where
       → getD gates (mostBlocks + l) (pos 0) ≡ pos (cost t (header t l)) -ℤ pos (getD (remadeMultipliers t) l 0) +ℤ getD (remadeFigures t) (header t l) (pos 0)
   pub empty : getD gates nowhere (pos 0) ≡ noFigure
 
--- the remade figures of t, unless one of them is over 2^60
-pub record FiguredOf (t : Routine) (over : Bool) (figures : List ℤ) : Type 0 where
-  pub same : over ≡ false → (x : ℕ) → x < blockCount t → getD figures x (pos 0) ≡ getD (remadeFigures t) x (pos 0)
-  pub low : over ≡ false → (x : ℕ) → x < blockCount t → getD (remadeFigures t) x (pos 0) ≤ℤ pos (2 ^ 60)
-  pub high : over ≡ true → FigureHigh t
+-- the remade figures of t, which has a path to the exit from each block; unless one of them is outside the limits or there is none
+pub record FiguredOf (t : Routine) (outside : Bool) (figures : List ℤ) : Type 0 where
+  pub paths : outside ≡ false → AllPaths t
+  pub same : outside ≡ false → (x : ℕ) → x < blockCount t → getD figures x (pos 0) ≡ getD (remadeFigures t) x (pos 0)
+  pub tested : AllPaths t → outside ≡ figureOver (remade t)

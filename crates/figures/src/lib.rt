@@ -7,6 +7,7 @@ ghost use lib.IntN.{pos};
 ghost use lib.ListN.{length, getD};
 ghost use lib.Signed.{ltZ, _≤ℤ_};
 ghost use Rattle.limits.specs.Limits.{mostBlocks, mostLoops};
+ghost use Rattle.wcet.specs.Rules.{figureOutside};
 ghost use Rattle.optimum.specs.Tails.{best};
 ghost use Rattle.optimum.specs.Columns.{fromExit, fromHeader};
 ghost use Rattle.tails.specs.Words.{wordOf, Word, Low};
@@ -162,8 +163,18 @@ pub fn set_gates(
     }
 }
 
+// Whether a number is no figure within the limits of 203.
+fn outside(f: i64) -> bool
+    ensures { λ r. ⌜ r ≡ figureOutside f ⌝ }
+{
+    if f < -1152921504606846976 {
+        return true;
+    }
+    1152921504606846976 < f
+}
+
 // The figures of n blocks: from the last in a topological order to the first. The value of a block is its figure and its weight. Returns whether a
-// figure is over 2^60; then the others are not made.
+// figure is outside the limits, or a block has none; then the others are not made.
 pub fn fill_figures(
     figures: &mut Figures,
     values: &mut Values,
@@ -181,7 +192,7 @@ pub fn fill_figures(
         i -= 1;
         let x = order[i] as usize;
         let f = tails::tail_of(values, firsts, seconds, x);
-        if 1152921504606846976 < f {
+        if outside(f) {
             return true;
         }
         figures[x] = f;

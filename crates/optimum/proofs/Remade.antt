@@ -31,7 +31,7 @@ use Rattle.optimum.proofs.Columns.{Fitting, same-path, same-cost, same-
 use Rattle.optimum.proofs.Ranks.{ranked, tails-step}
 use Rattle.optimum.proofs.Multipliers.{multiplier-count, loop0-multiplier, made-multiplier}
 use Rattle.optimum.proofs.Filled.{filled-made, figure-least}
-use Rattle.optimum.proofs.Exits.{path-figure}
+use Rattle.optimum.proofs.Exits.{path-figure, figure-path}
 use Rattle.optimum.proofs.Attained.{run-made}
 use Rattle.optimum.proofs.Optimal.{optimal, accepted-made, same-multipliers, same-figures}
 
@@ -65,6 +65,12 @@ module _ (t : Routine) (N : Nested t) (declared : undeclaredLoop t ≡ false) wh
   pub remade-nested : Nested (remade t)
   unfolding remade
   remade-nested = nested-too t fs ks N (loop0-multiplier t N)
+
+  -- a block that gets a figure has a path to the exit
+  pub figured-path : (x : ℕ) → x < blockCount t → (f : ℤ) → figureBy (remultiplied t) (tails (remultiplied t)) (loopCount t) x ≡ some f → PathToExit t x
+  figured-path x b f e =
+      let p : PathToExit t′ x = figure-path t′ remultiplied-nested (tails t′) remultiplied-tailed (ranked-too t [] ks (ranked t N declared .0)) x b (f, e) in
+      record { blocks = p .blocks; follows = sym (same-path t [] ks (p .blocks) x) ∙ p .follows; at-exit = p .at-exit }
 
   -- where each block has a path to the exit
   module _ (paths : (x : ℕ) → x < blockCount t → PathToExit t x) where

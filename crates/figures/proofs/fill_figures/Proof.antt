@@ -1,20 +1,24 @@
+use mathlib.Core.Path.{_≡_, sym, _∙_}
+use mathlib.Core.Bool.{false}
+use Prim.Native.Nat.{ℕ, _-_, _^_, _≤_, _<_}
+use native.Mathlib.Omega.{arith}
+use lib.IntN.{pos, negℤ, _+ℤ_}
+use lib.ListN.{getD}
+use lib.Signed.{ltZ, _≤ℤ_}
+use mir.Syntax.{w64}
 use mir.Val.{SFits}
 use mir.Facts.{toZ-ofZ}
-use lib.IntN.{pos, _+ℤ_}
-use lib.Signed.{_≤ℤ_}
-use mir.Syntax.{w64}
-use Prim.Native.Nat.{ℕ, _-_, _^_, _≤_, _<_}
-use mathlib.Core.Path.{_≡_}
 use Rattle.integers.proofs.Laws.{ints}
+use Rattle.lists.proofs.Tests.{or-false}
+use Rattle.wcet.specs.Rules.{figureOutside}
 use Rattle.figures.specs.Figures.{WeightFits}
-use native.Mathlib.Omega.{arith}
-use lib.ListN.{getD}
-use Rattle.figures.proofs.Pass.{Passing, value-fits, found-least, passing-first, passing-over, passing-next, passing-all}
+use Rattle.figures.proofs.Pass.{Passing, value-fits, passing-first, passing-over, passing-next, passing-all}
 use borrow.Author.Needs.{needs}
 use Rattle.figures.proofs.fill_figures.Statement.{statement}
 use Rattle.figures.proofs.fill_figures.Tie as tie
 use Rattle.figures.proofs.fill_figures.Reads as reads
 use Rattle.figures.proofs.fill_figures.Lts as lts
+use Rattle.figures.proofs.outside.Reads as outside-reads
 use Rattle.tails.proofs.tail_of.Reads as tail-of-reads
 
 abbrev Inv-loop : tie.InvT-loop
@@ -62,70 +66,75 @@ tail-of-requires c κs =
     let few : i ≤ s .args .n = c .before .before .before .loop .inv .few in
     (low s i b few, s .pre .4 .first-place _ (block s i b few), s .pre .4 .second-place _ (block s i b few))
 
+outside-requires : tie.Need-outside-requires Inv-loop μ-loop
+outside-requires c κs = search needs
+
 returns : tie.Need-returns Inv-loop μ-loop
 returns c =
-    let s = c .before .before .before .before .before .before in
-    let a = s .args in
-    let loop = c .before .before .before .before .before .loop in
-    let r = c .before .tail-of in
-    let f : SFits w64 (r .result) = search needs in
-    let e = rw (toZ-ofZ f) at (c .if1 .taken) in
-    passing-over (a .weights .now) (a .firsts .now) (a .seconds .now) (a .order .now) (a .n) (a .values .now) (s .pre .4) (loop .figures) (loop .values) (loop .i) (omega arith) (loop .inv) (r .result) (r .ensures) (omega (ints, e))
-
-mul-f : tie.Need-mul-f Inv-loop μ-loop
-mul-f c = omega (arith, low (c .before .before .before .before .before .before) (c .before .before .before .before .before .loop .i) (omega arith) (omega (arith, c .before .before .before .before .before .loop .inv .few)))
-
-element-set-from-f : tie.Need-element-set-from-f Inv-loop μ-loop
-element-set-from-f c = omega (arith, low (c .before .before .before .before .before .before) (c .before .before .before .before .before .loop .i) (omega arith) (omega (arith, c .before .before .before .before .before .loop .inv .few)))
-
-mul-values : tie.Need-mul-values Inv-loop μ-loop
-mul-values c = omega (arith, low (c .before .before .before .before .before .before) (c .before .before .before .before .before .loop .i) (omega arith) (omega (arith, c .before .before .before .before .before .loop .inv .few)))
-
-element-copy-out-values : tie.Need-element-copy-out-values Inv-loop μ-loop
-element-copy-out-values c = omega (arith, low (c .before .before .before .before .before .before) (c .before .before .before .before .before .loop .i) (omega arith) (omega (arith, c .before .before .before .before .before .loop .inv .few)))
-
-add-values : tie.Need-add-values Inv-loop μ-loop
-add-values c =
     let s = c .before .before .before .before .before .before .before in
     let a = s .args in
     let loop = c .before .before .before .before .before .before .loop in
     let r = c .before .before .tail-of in
+    let f : SFits w64 (r .result) = search needs in
+    passing-over (a .weights .now) (a .firsts .now) (a .seconds .now) (a .order .now) (a .n) (a .values .now) (s .pre .4) (loop .figures) (loop .values) (loop .i) (loop .inv) (omega arith) (r .result) (r .ensures) (sym (rw (toZ-ofZ f) at (c .before .outside .ensures)) ∙ c .if1 .taken)
+
+mul-f : tie.Need-mul-f Inv-loop μ-loop
+mul-f c = omega (arith, low (c .before .before .before .before .before .before .before) (c .before .before .before .before .before .before .loop .i) (omega arith) (omega (arith, c .before .before .before .before .before .before .loop .inv .few)))
+
+element-set-from-f : tie.Need-element-set-from-f Inv-loop μ-loop
+element-set-from-f c = omega (arith, low (c .before .before .before .before .before .before .before) (c .before .before .before .before .before .before .loop .i) (omega arith) (omega (arith, c .before .before .before .before .before .before .loop .inv .few)))
+
+mul-values : tie.Need-mul-values Inv-loop μ-loop
+mul-values c = omega (arith, low (c .before .before .before .before .before .before .before) (c .before .before .before .before .before .before .loop .i) (omega arith) (omega (arith, c .before .before .before .before .before .before .loop .inv .few)))
+
+element-copy-out-values : tie.Need-element-copy-out-values Inv-loop μ-loop
+element-copy-out-values c = omega (arith, low (c .before .before .before .before .before .before .before) (c .before .before .before .before .before .before .loop .i) (omega arith) (omega (arith, c .before .before .before .before .before .before .loop .inv .few)))
+
+add-values : tie.Need-add-values Inv-loop μ-loop
+add-values c =
+    let s = c .before .before .before .before .before .before .before .before in
+    let a = s .args in
+    let loop = c .before .before .before .before .before .before .before .loop in
+    let r = c .before .before .before .tail-of in
+    let f : SFits w64 (r .result) = search needs in
+    let e : figureOutside (r .result) ≡ false = sym (rw (toZ-ofZ f) at (c .before .before .outside .ensures)) ∙ c .before .if1 .left in
+    let range = or-false (ltZ (r .result) (negℤ (pos (2 ^ 60)))) (ltZ (pos (2 ^ 60)) (r .result)) e in
     let i = loop .i in
     let b : 0 < i = omega arith in
-    let few : i ≤ s .args .n = loop .inv .few in
-    let f : SFits w64 (r .result) = search needs in
-    let e = rw (toZ-ofZ f) at (c .before .if1 .left) in
     let w = getD (a .weights .now) (getD (a .order .now) (i - 1) 0) (pos 0) in
-    let W : WeightFits w = weight s i b few in
+    let Y : WeightFits w = weight s i b (loop .inv .few) in
     let g : SFits w64 w = search needs in
-    rw (toZ-ofZ f, toZ-ofZ g) (value-fits (r .result) w W (found-least (a .weights .now) (a .firsts .now) (a .seconds .now) (a .order .now) (a .n) (a .values .now) (s .pre .4) (loop .figures) (loop .values) i b (loop .inv) (r .result) (r .ensures)) (omega (ints, e)))
+    let least : negℤ (pos (2 ^ 60)) ≤ℤ r .result = omega (ints, range .0) in
+    let most : r .result ≤ℤ pos (2 ^ 60) = omega (ints, range .1) in
+    rw (toZ-ofZ f, toZ-ofZ g) (value-fits (r .result) w Y least most)
 
-mul-t23 : tie.Need-mul-t23 Inv-loop μ-loop
-mul-t23 c = omega (arith, low (c .before .before .before .before .before .before .before) (c .before .before .before .before .before .before .loop .i) (omega arith) (omega (arith, c .before .before .before .before .before .before .loop .inv .few)))
+mul-t24 : tie.Need-mul-t24 Inv-loop μ-loop
+mul-t24 c = omega (arith, low (c .before .before .before .before .before .before .before .before) (c .before .before .before .before .before .before .before .loop .i) (omega arith) (omega (arith, c .before .before .before .before .before .before .before .loop .inv .few)))
 
 element-set-from-values : tie.Need-element-set-from-values Inv-loop μ-loop
-element-set-from-values c = omega (arith, low (c .before .before .before .before .before .before .before) (c .before .before .before .before .before .before .loop .i) (omega arith) (omega (arith, c .before .before .before .before .before .before .loop .inv .few)))
+element-set-from-values c = omega (arith, low (c .before .before .before .before .before .before .before .before) (c .before .before .before .before .before .before .before .loop .i) (omega arith) (omega (arith, c .before .before .before .before .before .before .before .loop .inv .few)))
 
 loop-less : tie.Need-loop-less Inv-loop μ-loop
 loop-less c = search needs
 
 loop-again : tie.Need-loop-again Inv-loop μ-loop
 loop-again c =
-    let s = c .before .before .before .before .before .before .before in
+    let s = c .before .before .before .before .before .before .before .before in
     let a = s .args in
-    let loop = c .before .before .before .before .before .before .loop in
-    let r = c .before .before .tail-of in
+    let loop = c .before .before .before .before .before .before .before .loop in
+    let r = c .before .before .before .tail-of in
+    let f : SFits w64 (r .result) = search needs in
+    let e : figureOutside (r .result) ≡ false = sym (rw (toZ-ofZ f) at (c .before .before .outside .ensures)) ∙ c .before .if1 .left in
+    let range = or-false (ltZ (r .result) (negℤ (pos (2 ^ 60)))) (ltZ (pos (2 ^ 60)) (r .result)) e in
     let i = loop .i in
     let b : 0 < i = omega arith in
-    let few : i ≤ s .args .n = loop .inv .few in
-    let f : SFits w64 (r .result) = search needs in
-    let e = rw (toZ-ofZ f) at (c .before .if1 .left) in
     let w = getD (a .weights .now) (getD (a .order .now) (i - 1) 0) (pos 0) in
-    let W : WeightFits w = weight s i b few in
+    let Y : WeightFits w = weight s i b (loop .inv .few) in
     let g : SFits w64 w = search needs in
-    let low : r .result ≤ℤ pos (2 ^ 60) = omega (ints, e) in
-    let v : SFits w64 (r .result +ℤ w) = value-fits (r .result) w W (found-least (a .weights .now) (a .firsts .now) (a .seconds .now) (a .order .now) (a .n) (a .values .now) (s .pre .4) (loop .figures) (loop .values) i b (loop .inv) (r .result) (r .ensures)) low in
-    rw (toZ-ofZ f, toZ-ofZ g, toZ-ofZ v) (passing-next (a .weights .now) (a .firsts .now) (a .seconds .now) (a .order .now) (a .n) (a .values .now) (s .pre .4) (loop .figures) (loop .values) i b (loop .inv) (r .result) (r .ensures) W low)
+    let least : negℤ (pos (2 ^ 60)) ≤ℤ r .result = omega (ints, range .0) in
+    let most : r .result ≤ℤ pos (2 ^ 60) = omega (ints, range .1) in
+    let v : SFits w64 (r .result +ℤ w) = value-fits (r .result) w Y least most in
+    rw (toZ-ofZ f, toZ-ofZ g, toZ-ofZ v) (passing-next (a .weights .now) (a .firsts .now) (a .seconds .now) (a .order .now) (a .n) (a .values .now) (s .pre .4) (loop .figures) (loop .values) i (loop .inv) b (r .result) (r .ensures) Y least most)
 
 returns-2 : tie.Need-returns-2 Inv-loop μ-loop
 returns-2 c =
@@ -146,13 +155,14 @@ fill-figures-spec =
     element-copy-out-x
     cast-x
     tail-of-requires
+    outside-requires
     returns
     mul-f
     element-set-from-f
     mul-values
     element-copy-out-values
     add-values
-    mul-t23
+    mul-t24
     element-set-from-values
     loop-less
     loop-again
