@@ -12,7 +12,7 @@ use lib.ListN.{length, getD, replicate}
 use lib.Seq.{ext-getD}
 use lib.Signed.{ltZ}
 use Rattle.integers.proofs.Laws.{ints}
-use Rattle.lists.proofs.Tests.{or-right, neither}
+use Rattle.lists.proofs.Tests.{or-right, or-false}
 use Rattle.lists.proofs.Search.{any-none, any-at, none-of}
 use Rattle.wcet.specs.Table.{Routine, blockCount, loopCount}
 use Rattle.wcet.specs.Rules.{accepted, figureOutside, bound}
@@ -60,7 +60,7 @@ figure-over t H =
     (or-right (ltZ (getD (remadeFigures t) (H .0) (pos 0)) (negℤ (pos (2 ^ 60)))) high)
 
 module _ (t : Routine) (sets order : List ℕ) (S : Solvable t sets order) (made : List ℕ) (weights kept : List ℤ) (M : MultipliedOf t false made weights kept) where
-  open Solvable S using (rules, declared, paths)
+  open Solvable S using (rules, declared)
 
   N : Nested t
   N = nested t rules
@@ -73,14 +73,8 @@ module _ (t : Routine) (sets order : List ℕ) (S : Solvable t sets order) (made
   made-most l b = omega (arith, M .same refl l b, multiplier-low l b)
 
   module _ (values : List ℤ) (F : FiguredOf t false values) where
-    fits : Fitting t (remadeFigures t) (remadeMultipliers t)
-    fits = remade-fits t N declared paths rules multiplier-low (F .low refl)
-
     pub figures-fit : figureOver (remade t) ≡ false
-    unfolding figureOver remade
-    figures-fit =
-        any-none (blockCount t) (λ u. figureOutside (getD (remadeFigures t) u (pos 0))) (λ u b.
-        neither {a = ltZ (getD (remadeFigures t) u (pos 0)) (negℤ (pos (2 ^ 60)))} (let p = fits .figure-least u b in omega (ints, p)) (let p = fits .figure-most u b in omega (ints, p)))
+    figures-fit = sym (F .tested (F .paths refl))
 
     -- the columns that are written
     pub figures-written : (new : List ℤ) → Written (pos 0) values (t .figures) new → new ≡ remadeFigures t
@@ -98,7 +92,11 @@ module _ (t : Routine) (sets order : List ℕ) (S : Solvable t sets order) (made
         W .same l c ∙ M .same refl l (omega (arith, n)))
 
     in-range : (x : ℕ) → x < blockCount t → Figure (getD (remadeFigures t) x (pos 0))
-    in-range x b = record { least = fits .figure-least x b; most = fits .figure-most x b }
+    unfolding figureOver remade
+    in-range x b =
+        let f : ℤ = getD (remadeFigures t) x (pos 0) in
+        let r = or-false (ltZ f (negℤ (pos (2 ^ 60)))) (ltZ (pos (2 ^ 60)) f) (none-of (blockCount t) (λ u. figureOutside (getD (remadeFigures t) u (pos 0))) figures-fit x b) in
+        record { least = omega (ints, r .0); most = omega (ints, r .1) }
 
     pub priced : Priced (priceColumns (t .costs) (remadeFigures t))
     priced =
@@ -119,4 +117,4 @@ module _ (t : Routine) (sets order : List ℕ) (S : Solvable t sets order) (made
     accepted-solved fs W ms X b e =
         let f : fs ≡ remadeFigures t = figures-written fs W in
         let same : b ≡ bound (remade t) = e ∙ ap (λ (x : List ℤ). bound (priceColumns (t .costs) x)) f in
-        solved t (accepted b) fs ms (ap accepted same ∙ bound-accepted t rules declared paths (multipliers-fit t false made weights kept M refl) figures-fit) f (multipliers-written ms X)
+        solved t (accepted b) fs ms (ap accepted same ∙ bound-accepted t rules declared (F .paths refl) (multipliers-fit t false made weights kept M refl) figures-fit) f (multipliers-written ms X)

@@ -1,5 +1,5 @@
 -- What came of the steps that make the columns, for every routine with the columns that they read. Assumes nothing.
-use mathlib.Core.Path.{_≡_, refl}
+use mathlib.Core.Path.{_≡_, refl, sym, _∙_}
 use mathlib.Core.Bool.{Bool, true, false}
 use mathlib.Core.List.{List}
 use mathlib.Core.Logic.{_⊎_, inl, inr}
@@ -20,8 +20,8 @@ use Rattle.multipliers.specs.Columns as rounds
 use Rattle.figures.specs.Figures.{noFigure, HeadFits, ValuesFit, WeightFits}
 use Rattle.figures.specs.Columns as fill
 use Rattle.figures.proofs.Pass.{none-fit, gates-fit}
-use Rattle.figures.proofs.Gates.{head-high, gates-of as by-heads}
-use Rattle.figures.proofs.Equations as equations
+use Rattle.figures.proofs.Gates.{head-high}
+use Rattle.figures.proofs.Paths.{figured as by-paths}
 use Rattle.solver.specs.declared.Outcome.{Outcome}
 use Rattle.solver.specs.declared.Outcome.the-variants.{Made, Multiplier, Figure}
 use Rattle.solver.specs.Columns.{Solvable, Laid, Columned, Makeable, OutcomeOf, Headed, ColumnsMade, HeadedBy, MadeBy}
@@ -117,7 +117,7 @@ module _ (costs parents headers limits firstSlots secondSlots order : List ℕ) 
       pub headed-figure : high ≡ true → HeadedBy costs parents headers limits firstSlots secondSlots order Figure made weights heads
       headed-figure h t sets C L =
           let S = L .solvable in
-          (multipliers-fit t false made weights kept (multiplied-all t sets C L) refl, figure-over t (head-high t (S .rules) (S .declared) (S .paths) heads (rw h at (heads-figured t sets C L))))
+          (multipliers-fit t false made weights kept (multiplied-all t sets C L) refl, λ paths. figure-over t (head-high t (S .rules) (S .declared) paths heads (rw h at (heads-figured t sets C L))))
 
       pub headed-made : high ≡ false → HeadedBy costs parents headers limits firstSlots secondSlots order Made made weights heads
       headed-made h t sets C L = record {
@@ -132,20 +132,14 @@ module _ (costs parents headers limits firstSlots secondSlots order : List ℕ) 
 module _ (costs parents headers limits : List ℕ) (t : Routine) (C : Columned t costs parents headers limits) (sets firstSlots secondSlots order : List ℕ) (L : Laid t sets firstSlots secondSlots order)
     (made : List ℕ) (weights heads : List ℤ) (G : Headed t made weights heads) (gates : List ℤ) (X : fill.GatesSet costs headers made heads (replicate places noFigure) gates)
     (over : Bool) (figures : List ℤ) (P : fill.FiguresFilled weights firstSlots secondSlots order (length costs) gates over figures) where
-  gates-of : fill.GatesOf t gates
-  gates-of =
-      let S = L .solvable in
-      by-heads t (S .rules) (S .declared) (S .paths) heads made weights (G .kept) (G .multiplied) (G .heads-figured) (replicate places noFigure) gates
-      (rw (C .same-costs, C .same-headers) X) (getD-replicate places nowhere noFigure (pos 0) (omega arith))
-
   figured : fill.FiguredOf t over figures
   figured =
       let S = L .solvable in
-      equations.figured t (S .rules) (S .declared) (S .paths) sets (S .sets-around) order (S .ordered) made weights (G .kept) (G .multiplied) gates gates-of firstSlots secondSlots (L .first-slots) (L .second-slots) over figures
-      (rw (C .same-costs) P)
+      by-paths t (S .rules) (S .declared) sets (S .sets-around) order (S .ordered) made weights (G .kept) (G .multiplied) heads (G .heads-figured) (replicate places noFigure) gates
+      (rw (C .same-costs, C .same-headers) X) (getD-replicate places nowhere noFigure (pos 0) (omega arith)) firstSlots secondSlots (L .first-slots) (L .second-slots) over figures (rw (C .same-costs) P)
 
   pub figure-high : over ≡ true → OutcomeOf Figure t (ColumnsMade t figures made)
-  figure-high o = (multipliers-fit t false made weights (G .kept) (G .multiplied) refl, figure-over t (figured .high o))
+  figure-high o = (multipliers-fit t false made weights (G .kept) (G .multiplied) refl, λ paths. sym (figured .tested paths) ∙ o)
 
   pub columns-made : over ≡ false → ColumnsMade t figures made
   columns-made o = record { kept = G .kept; weights = weights; multiplied = G .multiplied; figured = rw o at figured }

@@ -2,6 +2,7 @@
 use mathlib.Core.Path.{_≡_, refl, sym, _∙_}
 use mathlib.Core.Bool.{true, false}
 use mathlib.Core.List.{[], _∷_, append-assoc}
+use mathlib.Core.Logic.{_⊎_, inl, inr}
 use Prim.Native.Nat.{ℕ, _≤_, _<_}
 use native.Mathlib.Omega.{arith}
 use borrow.Author.Tests.{lt-ltb, le-ltb}
@@ -23,11 +24,14 @@ use Rattle.order.specs.declared.Order.{Order}
 use Rattle.order.proofs.Orders.{undeclared-test}
 use Rattle.exits.specs.Lost.{LowestLost}
 use Rattle.exits.proofs.Places.{lowest-lost}
-use Rattle.optimum.specs.Remade.{PathToExit}
+use Rattle.optimum.specs.Remade.{AllPaths}
 use Rattle.optimum.specs.Columns.{remade}
 use Rattle.optimum.specs.Replies.{noPath, multiplierOver, figureOver, solveRules, solveReply, Solved}
 use Rattle.optimum.proofs.Paths.{path-exactly}
 use Rattle.optimum.proofs.Replies.{solved}
+use Rattle.solver.specs.declared.SolveReply.{SolveReply}
+use Rattle.solver.specs.declared.SolveReply.the-variants.{NoPath}
+use Rattle.solver.specs.Answers.{solveMeaning}
 
 module _ (t : Routine) where
   -- the rules after 201 to 207
@@ -95,7 +99,7 @@ module _ (t : Routine) where
       pub path-refused : (u : ℕ) → LowestLost t u → refused 401 u ≡ solveReply t
       path-refused u l = sym (decides pathRule (multiplierRule ∷ figureRule ∷ []) result u (lowest-lost t (noPath t) (path-exactly t N) u .1 l)) ∙ after-209
 
-      module _ (paths : (u : ℕ) → u < blockCount t → PathToExit t u) where
+      module _ (paths : AllPaths t) where
         after-401 : check (multiplierRule ∷ figureRule ∷ []) result ≡ solveReply t
         after-401 = sym (hands-on pathRule (multiplierRule ∷ figureRule ∷ []) result (λ u b. path-exactly t N u b .1 (paths u b))) ∙ after-209
 
@@ -111,3 +115,9 @@ module _ (t : Routine) where
 
           pub bound-accepted : figureOver (remade t) ≡ false → accepted (bound (remade t)) ≡ solveReply t
           bound-accepted o = none-left result ∙ sym (hands-on figureRule [] result (λ p z. o)) ∙ after-402
+
+      -- where something is refused: 401 if a block has no path, or else the later rule
+      pub refused-later : (n : ℕ) (later : SolveReply) → solveMeaning later ≡ refused n 0 → (AllPaths t → refused n 0 ≡ solveReply t) → (r : SolveReply)
+          → ((u : ℕ) × LowestLost t u × (r ≡ NoPath u)) ⊎ (AllPaths t × (r ≡ later)) → Solved t (solveMeaning r) (t .figures) (t .multipliers)
+      refused-later n later m own r (inl p) = rw (p .2) (refused-solved 401 (p .0) (path-refused (p .0) (p .1)))
+      refused-later n later m own r (inr p) = rw (p .1, m) (refused-solved n 0 (own (p .0)))

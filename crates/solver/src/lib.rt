@@ -9,14 +9,15 @@ ghost use Rattle.limits.specs.Limits.{mostBlocks, mostLoops};
 ghost use Rattle.wcet.specs.Rules.{structureRules};
 ghost use Rattle.wcet.specs.Claim.{AllHold};
 ghost use Rattle.loopsets.specs.Sets.{setsAround};
-ghost use Rattle.nesting.specs.Columns.{routine};
+ghost use Rattle.nesting.specs.Columns.{routine, Linked};
 ghost use Rattle.nesting.specs.Answers.{StructureChecked};
+ghost use Rattle.exits.specs.Lost.{Listed};
 ghost use Rattle.certificate.specs.Columns.{priceColumns, Priced};
 ghost use Rattle.multipliers.specs.Columns.{HeadersClosed};
 ghost use Rattle.figures.specs.Figures.{noFigure};
 ghost use Rattle.optimum.specs.Replies.{Solved};
 ghost use Rattle.solver.specs.Answers.{solveMeaning};
-ghost use Rattle.solver.specs.Columns.{Written, Solvable, Makeable, HeadedBy, MadeBy, Ended};
+ghost use Rattle.solver.specs.Columns.{Written, Solvable, Makeable, HeadedBy, MadeBy, Ended, RefusedAs};
 use figures::NO_FIGURE;
 use limits::MOST_BLOCKS;
 use limits::MOST_LOOPS;
@@ -81,7 +82,7 @@ fn finish(
 
 // ---- the making of the columns
 
-// What came of a step: it is done, or a multiplier or a figure is over its limit.
+// What came of a step: it is done, or a multiplier is over its limit, or a figure is outside its limits or is none.
 enum Outcome {
     Made,
     Multiplier,
@@ -171,7 +172,24 @@ fn make(
 
 // ---- the reply
 
-// The reply to tables that pass 201 to 207, 209 and 401: 402, 403 or the bound.
+// 401 stands before 402 and 403. It is asked only here: where each block got a figure, each has a path to the exit.
+fn refuse(
+    first: &[u16],
+    second: &[u16],
+    order: &[u16; MOST_BLOCKS],
+    later: SolveReply,
+) -> SolveReply
+    requires { ⌜ (0 < length (now first)) × Linked (length (now first)) (now first) (now second) × Listed (length (now first)) (now order) ⌝ }
+    ensures { λ r. ⌜ RefusedAs (now (first .entry)) (now (second .entry)) later r ⌝ }
+{
+    let lost = exits::first_lost(first, second, order);
+    if let Place::At(u) = lost {
+        return SolveReply::NoPath(u);
+    }
+    later
+}
+
+// The reply to tables that pass 201 to 207 and 209: 401, 402, 403 or the bound.
 fn remake(
     around: &Sets,
     cost: &[u32],
@@ -205,8 +223,8 @@ fn remake(
     );
     match outcome {
         Outcome::Made => SolveReply::Accepted(finish(cost, figure, multiplier, &figures, &made)),
-        Outcome::Multiplier => SolveReply::Multiplier,
-        Outcome::Figure => SolveReply::Figure,
+        Outcome::Multiplier => refuse(first, second, order, SolveReply::Multiplier),
+        Outcome::Figure => refuse(first, second, order, SolveReply::Figure),
     }
 }
 
@@ -231,10 +249,6 @@ fn solve_sound(
         return SolveReply::UndeclaredLoop;
     }
     let blocks = order.blocks;
-    let lost = exits::first_lost(first, second, &blocks);
-    if let Place::At(u) = lost {
-        return SolveReply::NoPath(u);
-    }
     remake(
         around,
         cost,

@@ -1,17 +1,20 @@
 use mathlib.Core.Path.{refl}
 use native.Mathlib.Omega.{arith}
 use mathlib.Core.List.{List}
-use Prim.Native.Nat.{ℕ, _≤_}
+use Prim.Native.Nat.{ℕ, _≤_, _<_}
 use lib.ListN.{length}
 use mir.Syntax.{w64}
 use mir.Val.{SFits}
 use mir.Facts.{toZ-ofZ}
 use Rattle.wcet.specs.Table.{Routine}
-use Rattle.nesting.specs.Columns.{routine, Ranged}
+use Rattle.nesting.specs.Columns.{routine, Ranged, Linked}
+use Rattle.exits.specs.Lost.{Listed}
+use Rattle.exits.proofs.Places.{searchable}
 use Rattle.nesting.proofs.Stages.{headed, innermost, linked}
 use Rattle.tails.specs.Slots.{SlotsOf}
+use Rattle.solver.specs.declared.SolveReply.the-variants.{Multiplier, Figure}
 use Rattle.solver.specs.Columns.{Laid, Columned}
-use Rattle.solver.proofs.Reply.{refused-solved, multiplier-refused, figure-refused}
+use Rattle.solver.proofs.Reply.{multiplier-refused, figure-refused, refused-later}
 use Rattle.solver.proofs.Columns.{zeros, priced, figures-written, accepted-solved}
 use Rattle.solver.proofs.Making.{done}
 use borrow.Author.Needs.{needs}
@@ -21,6 +24,7 @@ use Rattle.solver.proofs.remake.Reads as reads
 use Rattle.solver.proofs.remake.Lts as lts
 use Rattle.solver.proofs.finish.Reads as finish-reads
 use Rattle.solver.proofs.make.Reads as make-reads
+use Rattle.solver.proofs.refuse.Reads as refuse-reads
 use Rattle.tails.proofs.slots_of.Reads as slots-of-reads
 
 abbrev whole : tie.Start → Routine
@@ -89,20 +93,31 @@ returns c =
     let f : SFits w64 (c .before .before .before .finish .result) = search needs in
     rw (toZ-ofZ f) (accepted-solved t _ _ (s .pre) _ _ _ (X .multiplied) _ (X .figured) _ (E .figures-written) _ (E .multipliers-written) _ (E .bounded))
 
+-- the search for a block without a path
+ready : (s : tie.Start) → (0 < length (s .args .first .now)) × Linked (length (s .args .first .now)) (s .args .first .now) (s .args .second .now) × Listed (length (s .args .first .now)) (s .args .order .now)
+ready s = let O = s .pre .ordered in searchable (whole s) (s .pre .rules) (s .args .order .now) (record { block = O .block; position = O .position; within = O .within; there = O .there })
+
+refuse-requires : tie.Need-refuse-requires
+refuse-requires c κs = ready (c .before .before .before .before .before .before .before .before .before .before .before .before .before .before .before .before .before)
+
+refuse-requires-2 : tie.Need-refuse-requires-2
+refuse-requires-2 c κs = ready (c .before .before .before .before .before .before .before .before .before .before .before .before .before .before .before .before .before)
+
 returns-2 : tie.Need-returns-2
 returns-2 c =
-    let s = c .before .before .before .before .before .before .before .before .before .before .before .before .before .before .before .before .before in
+    let s = c .before .before .before .before .before .before .before .before .before .before .before .before .before .before .before .before .before .before in
     let t = whole s in
-    let o = c .before .before .make .ensures t (s .args .around .now) (columned s) (laid s _ _ (c .before .before .before .before .before .before .before .before .slots-of .ensures) (c .before .before .before .before .before .before .before .slots-of2 .ensures)) in
-    refused-solved t 402 0 (multiplier-refused t (s .pre .rules) (s .pre .declared) (s .pre .paths) (rw (c .enum-told2 .given .1) at o))
+    let o = c .before .before .before .make .ensures t (s .args .around .now) (columned s) (laid s _ _ (c .before .before .before .before .before .before .before .before .before .slots-of .ensures) (c .before .before .before .before .before .before .before .before .slots-of2 .ensures)) in
+    let h = rw (c .before .enum-told2 .given .1) at o in
+    refused-later t (s .pre .rules) (s .pre .declared) 402 Multiplier refl (λ paths. multiplier-refused t (s .pre .rules) (s .pre .declared) paths h) _ (c .refuse .ensures t refl refl (ranged s .sized .firsts))
 
 returns-3 : tie.Need-returns-3
 returns-3 c =
-    let s = c .before .before .before .before .before .before .before .before .before .before .before .before .before .before .before .before .before in
+    let s = c .before .before .before .before .before .before .before .before .before .before .before .before .before .before .before .before .before .before in
     let t = whole s in
-    let o = c .before .before .make .ensures t (s .args .around .now) (columned s) (laid s _ _ (c .before .before .before .before .before .before .before .before .slots-of .ensures) (c .before .before .before .before .before .before .before .slots-of2 .ensures)) in
-    let h = rw (c .enum-told3 .given .1) at o in
-    refused-solved t 403 0 (figure-refused t (s .pre .rules) (s .pre .declared) (s .pre .paths) (h .0) (h .1))
+    let o = c .before .before .before .make .ensures t (s .args .around .now) (columned s) (laid s _ _ (c .before .before .before .before .before .before .before .before .before .slots-of .ensures) (c .before .before .before .before .before .before .before .before .slots-of2 .ensures)) in
+    let h = rw (c .before .enum-told3 .given .1) at o in
+    refused-later t (s .pre .rules) (s .pre .declared) 403 Figure refl (λ paths. figure-refused t (s .pre .rules) (s .pre .declared) paths (h .0) (h .1 paths)) _ (c .refuse2 .ensures t refl refl (ranged s .sized .firsts))
 
 pub remake-spec : {M : Type 1} → statement M
 remake-spec =
@@ -114,7 +129,9 @@ remake-spec =
     enum-told
     finish-requires
     enum-told-2
+    refuse-requires
     enum-told-3
+    refuse-requires-2
     same-length
     same-length-2
     returns
