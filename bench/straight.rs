@@ -222,7 +222,7 @@ impl Solver<'_> {
         Ok(figure)
     }
 
-    // The figures of all blocks by those of the headers: one more pass. 403 for one over 2^60.
+    // The figures of all blocks by those of the headers: one more pass. 403 for one outside its limits, and for a block that has none.
     fn figures(&mut self, headers: &[i64; 64]) -> Result<[i64; 1024], Refusal> {
         for (l, &h) in self.t.loops.header.iter().enumerate().skip(1) {
             self.values[RETURNS + l] = i64::from(self.t.blocks.cost[h as usize]) - self.multiplier[l] + headers[l];
@@ -231,7 +231,7 @@ impl Solver<'_> {
         let mut figure = [0; 1024];
         for &x in self.order.iter().rev() {
             let way = self.tail(x as usize);
-            if way > 1 << 60 {
+            if !(-(1 << 60)..=1 << 60).contains(&way) {
                 return Err((403, 0));
             }
             figure[x as usize] = way;
@@ -281,7 +281,8 @@ fn places(t: &Routine, around: &[u64; 64], onward: &mut Onward) -> [[u16; 2]; 10
     places
 }
 
-// Remakes the figures and the multipliers by passes, one for all loops of a depth.
+// Remakes the figures and the multipliers by passes, one for all loops of a depth. 401 is asked where something is refused: with a figure at
+// each block there is a path from each.
 pub fn solve(t: &mut Routine) -> Result<i64, Refusal> {
     let around = structure(t)?;
     let n = t.blocks.cost.len();
@@ -289,7 +290,6 @@ pub fn solve(t: &mut Routine) -> Result<i64, Refusal> {
     let places = places(t, &around, &mut onward);
     let order = order(n, &mut onward)?;
     let order = &order[..n];
-    all_lead_out(&t.blocks, order)?;
     let mut weight = [0; 1024];
     for (weight, &cost) in weight.iter_mut().zip(&t.blocks.cost) {
         *weight = i64::from(cost);
@@ -299,8 +299,13 @@ pub fn solve(t: &mut Routine) -> Result<i64, Refusal> {
     }
     let depth = around.map(|set| set.count_ones() as usize);
     let mut solver = Solver { t, depth, order, places, weight, values: [NONE; NOWHERE + 1], multiplier: [0; 64] };
-    let headers = solver.multipliers()?;
-    let figure = solver.figures(&headers)?;
+    let figure = match solver.multipliers().and_then(|headers| solver.figures(&headers)) {
+        Ok(figure) => figure,
+        Err(refusal) => {
+            all_lead_out(&t.blocks, order)?;
+            return Err(refusal);
+        }
+    };
     let multiplier = solver.multiplier;
     t.blocks.figure.copy_from_slice(&figure[..n]);
     for (to, from) in t.loops.multiplier.iter_mut().zip(multiplier) {
