@@ -2,7 +2,7 @@ use mathlib.Core.Path.{_≡_, sym, _∙_}
 use mathlib.Core.Bool.{false}
 use Prim.Native.Nat.{ℕ, _-_, _^_, _≤_, _<_}
 use native.Mathlib.Omega.{arith}
-use lib.IntN.{pos, negℤ, _+ℤ_}
+use lib.IntN.{ℤ, pos, negℤ, _+ℤ_}
 use lib.ListN.{getD}
 use lib.Signed.{ltZ, _≤ℤ_}
 use mir.Syntax.{w64}
@@ -90,23 +90,37 @@ mul-values c = omega (arith, low (c .before .before .before .before .before .bef
 element-copy-out-values : tie.Need-element-copy-out-values Inv-loop μ-loop
 element-copy-out-values c = omega (arith, low (c .before .before .before .before .before .before .before) (c .before .before .before .before .before .before .loop .i) (omega arith) (omega (arith, c .before .before .before .before .before .before .loop .inv .few)))
 
+-- what is known when a figure is within the limits
+module _ (c : tie.After-values Inv-loop μ-loop) where
+  abbrev found : ℤ
+  found = c .before .before .before .tail-of .result
+
+  abbrev own-weight : ℤ
+  own-weight = getD ((c .before .before .before .before .before .before .before .before) .args .weights .now) (getD ((c .before .before .before .before .before .before .before .before) .args .order .now) (c .before .before .before .before .before .before .before .loop .i - 1) 0) (pos 0)
+
+  found-fits : SFits w64 found
+  found-fits = search needs
+
+  weight-fits : SFits w64 own-weight
+  weight-fits = search needs
+
+  range : (negℤ (pos (2 ^ 60)) ≤ℤ found) × (found ≤ℤ pos (2 ^ 60))
+  range =
+      let e : figureOutside found ≡ false = sym (rw (toZ-ofZ found-fits) at (c .before .before .outside .ensures)) ∙ c .before .if1 .left in
+      let r = or-false (ltZ found (negℤ (pos (2 ^ 60)))) (ltZ (pos (2 ^ 60)) found) e in
+      (omega (ints, r .0), omega (ints, r .1))
+
+  positive : 0 < c .before .before .before .before .before .before .before .loop .i
+  positive = omega arith
+
+  its-weight : WeightFits own-weight
+  its-weight = weight (c .before .before .before .before .before .before .before .before) (c .before .before .before .before .before .before .before .loop .i) positive (c .before .before .before .before .before .before .before .loop .inv .few)
+
+  in-word : SFits w64 (found +ℤ own-weight)
+  in-word = value-fits found own-weight its-weight (range .0) (range .1)
+
 add-values : tie.Need-add-values Inv-loop μ-loop
-add-values c =
-    let s = c .before .before .before .before .before .before .before .before in
-    let a = s .args in
-    let loop = c .before .before .before .before .before .before .before .loop in
-    let r = c .before .before .before .tail-of in
-    let f : SFits w64 (r .result) = search needs in
-    let e : figureOutside (r .result) ≡ false = sym (rw (toZ-ofZ f) at (c .before .before .outside .ensures)) ∙ c .before .if1 .left in
-    let range = or-false (ltZ (r .result) (negℤ (pos (2 ^ 60)))) (ltZ (pos (2 ^ 60)) (r .result)) e in
-    let i = loop .i in
-    let b : 0 < i = omega arith in
-    let w = getD (a .weights .now) (getD (a .order .now) (i - 1) 0) (pos 0) in
-    let Y : WeightFits w = weight s i b (loop .inv .few) in
-    let g : SFits w64 w = search needs in
-    let least : negℤ (pos (2 ^ 60)) ≤ℤ r .result = omega (ints, range .0) in
-    let most : r .result ≤ℤ pos (2 ^ 60) = omega (ints, range .1) in
-    rw (toZ-ofZ f, toZ-ofZ g) (value-fits (r .result) w Y least most)
+add-values c = rw (toZ-ofZ (found-fits c), toZ-ofZ (weight-fits c)) (in-word c)
 
 mul-t24 : tie.Need-mul-t24 Inv-loop μ-loop
 mul-t24 c = omega (arith, low (c .before .before .before .before .before .before .before .before) (c .before .before .before .before .before .before .before .loop .i) (omega arith) (omega (arith, c .before .before .before .before .before .before .before .loop .inv .few)))
@@ -123,18 +137,8 @@ loop-again c =
     let a = s .args in
     let loop = c .before .before .before .before .before .before .before .loop in
     let r = c .before .before .before .tail-of in
-    let f : SFits w64 (r .result) = search needs in
-    let e : figureOutside (r .result) ≡ false = sym (rw (toZ-ofZ f) at (c .before .before .outside .ensures)) ∙ c .before .if1 .left in
-    let range = or-false (ltZ (r .result) (negℤ (pos (2 ^ 60)))) (ltZ (pos (2 ^ 60)) (r .result)) e in
-    let i = loop .i in
-    let b : 0 < i = omega arith in
-    let w = getD (a .weights .now) (getD (a .order .now) (i - 1) 0) (pos 0) in
-    let Y : WeightFits w = weight s i b (loop .inv .few) in
-    let g : SFits w64 w = search needs in
-    let least : negℤ (pos (2 ^ 60)) ≤ℤ r .result = omega (ints, range .0) in
-    let most : r .result ≤ℤ pos (2 ^ 60) = omega (ints, range .1) in
-    let v : SFits w64 (r .result +ℤ w) = value-fits (r .result) w Y least most in
-    rw (toZ-ofZ f, toZ-ofZ g, toZ-ofZ v) (passing-next (a .weights .now) (a .firsts .now) (a .seconds .now) (a .order .now) (a .n) (a .values .now) (s .pre .4) (loop .figures) (loop .values) i (loop .inv) b (r .result) (r .ensures) Y least most)
+    rw (toZ-ofZ (found-fits c), toZ-ofZ (weight-fits c), toZ-ofZ (in-word c))
+    (passing-next (a .weights .now) (a .firsts .now) (a .seconds .now) (a .order .now) (a .n) (a .values .now) (s .pre .4) (loop .figures) (loop .values) (loop .i) (loop .inv) (positive c) (r .result) (r .ensures) (its-weight c) (range c .0) (range c .1))
 
 returns-2 : tie.Need-returns-2 Inv-loop μ-loop
 returns-2 c =
