@@ -74,6 +74,3 @@ lost firsts seconds marks M r e t f s n = lost-by t (λ u. not (marked marks u))
 pub searchable : (t : Routine) → AllHold (structureRules t) → (order : List ℕ) → Listed (blockCount t) order
     → (0 < length (t .firsts)) × Linked (length (t .firsts)) (t .firsts) (t .seconds) × Listed (length (t .firsts)) order
 searchable t holds order O = let R = headed t holds .ranged in rw (R .sized .firsts) (R .sized .some-block, linked t R, O)
-
-pub lost-at : (t : Routine) → AllHold (structureRules t) → {r : Place} → Lost (t .firsts) (t .seconds) r → LostAt t r
-lost-at t holds L = L t refl refl (headed t holds .ranged .sized .firsts)

@@ -11,7 +11,7 @@ use borrow.Author.Tests.{ltb-true, ltb-false}
 use lib.IntN.{ℤ, pos, negℤ, _+ℤ_, _-ℤ_}
 use lib.ListN.{length, getD, set, length-set, replicate, length-replicate, getD-replicate, List·getD-eq-default}
 use lib.Seq.{getD-set-same, getD-set-other}
-use lib.Signed.{ltZ, _≤ℤ_, _<ℤ_}
+use lib.Signed.{ltZ, _≤ℤ_}
 use mir.Syntax.{w64}
 use mir.Val.{SFits}
 use Rattle.integers.proofs.Laws.{ints, sum, diff, size}
@@ -21,7 +21,6 @@ use Rattle.lists.proofs.Tests.{neither}
 use Rattle.wcet.specs.Rules.{figureOutside}
 use Rattle.tails.specs.Words.{greaterOf}
 use Rattle.tails.specs.Slots.{places, Slotted}
-use Rattle.tails.proofs.Words.{greater-least}
 use Rattle.figures.specs.Figures.{noFigure, HeadFits, ValuesFit, WeightFits}
 use Rattle.figures.specs.Columns.{GatesSet, slotValue, Equations, Forward, FiguresFilled}
 

@@ -8,7 +8,6 @@ use native.Mathlib.Omega.{arith}
 use lib.IntN.{ℤ, pos}
 use lib.ListN.{length, getD, set, replicate, length-set}
 use lib.Seq.{getD-set-same, getD-set-other}
-use lib.Signed.{_≤ℤ_}
 use Rattle.limits.specs.Limits.{mostBlocks}
 use Rattle.integers.proofs.Laws.{ints}
 use Rattle.tails.specs.Words.{noTail, Word, Low}

@@ -13,19 +13,17 @@ use lib.Seq.{ext-getD}
 use lib.Signed.{ltZ}
 use Rattle.integers.proofs.Laws.{ints}
 use Rattle.lists.proofs.Tests.{or-right, or-false}
-use Rattle.lists.proofs.Search.{any-none, any-at, none-of}
+use Rattle.lists.proofs.Search.{any-at, none-of}
 use Rattle.wcet.specs.Table.{Routine, blockCount, loopCount}
 use Rattle.wcet.specs.Rules.{accepted, figureOutside, bound}
-use Rattle.wcet.proofs.Nesting.{Nested, nested}
 use Rattle.nesting.specs.Columns.{Ranged}
 use Rattle.nesting.proofs.Stages.{headed}
 use Rattle.certificate.specs.Figures.{Figure}
 use Rattle.certificate.specs.Columns.{priceColumns, Priced}
 use Rattle.optimum.specs.Columns.{remadeMultipliers, remadeFigures, remade}
 use Rattle.optimum.specs.Replies.{multiplierOver, figureOver, Solved}
-use Rattle.optimum.proofs.Columns.{Fitting}
 use Rattle.optimum.proofs.Multipliers.{multiplier-count}
-use Rattle.optimum.proofs.Remade.{figure-count, remade-fits}
+use Rattle.optimum.proofs.Remade.{figure-count}
 use Rattle.optimum.proofs.Replies.{solved}
 use Rattle.multipliers.specs.Columns.{MultipliedOf}
 use Rattle.figures.specs.Columns.{FigureHigh, FiguredOf}
@@ -61,9 +59,6 @@ figure-over t H =
 
 module _ (t : Routine) (sets order : List ℕ) (S : Solvable t sets order) (made : List ℕ) (weights kept : List ℤ) (M : MultipliedOf t false made weights kept) where
   open Solvable S using (rules, declared)
-
-  N : Nested t
-  N = nested t rules
 
   pub multiplier-low : (l : ℕ) → l < loopCount t → getD (remadeMultipliers t) l 0 ≤ 2 ^ 40
   unfolding multiplierOver remade

@@ -24,7 +24,7 @@ use Rattle.figures.proofs.Gates.{head-high}
 use Rattle.figures.proofs.Paths.{figured as by-paths}
 use Rattle.solver.specs.declared.Outcome.{Outcome}
 use Rattle.solver.specs.declared.Outcome.the-variants.{Made, Multiplier, Figure}
-use Rattle.solver.specs.Columns.{Solvable, Laid, Columned, Makeable, OutcomeOf, Headed, ColumnsMade, HeadedBy, MadeBy}
+use Rattle.solver.specs.Columns.{Solvable, Laid, Columned, Makeable, OutcomeOf, Headed, ColumnsMade, HeadedBy}
 use Rattle.solver.proofs.Outcome.{the-type}
 use Rattle.solver.proofs.Columns.{multiplier-over, multipliers-fit, made-most, figure-over}
 use Rattle.solver.proofs.Steps.{slotted, rounds-readied, deep-of, heads-readied, weight-range}

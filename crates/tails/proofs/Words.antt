@@ -1,9 +1,9 @@
 -- Words that are tails, and words that are none; the greater of two words is the better tail (`word-greater`). Assumes nothing.
-use mathlib.Core.Path.{_≡_, refl, sym, ap}
+use mathlib.Core.Path.{_≡_, refl, ap}
 use mathlib.Core.Bool.{Bool, true, false}
 use mathlib.Core.List.{List}
 use mathlib.Core.Option.{none, some}
-use Prim.Native.Nat.{ℕ, _+_, _≤_, _<_, min}
+use Prim.Native.Nat.{ℕ, _+_, _≤_, _<_}
 use native.Mathlib.Decide.{ℕ-discrete}
 use native.Mathlib.Omega.{arith}
 use lib.Dec.{ltb}
@@ -16,7 +16,6 @@ use mir.Val.{SFits}
 use Rattle.integers.proofs.Laws.{ints, sum, size}
 use Rattle.lists.specs.Search.{if_then_else_}
 use Rattle.optimum.specs.Tails.{best}
-use Rattle.optimum.proofs.Tails.{best-none}
 use Rattle.tails.specs.Words.{mostTail, noTail, wordOf, greaterOf, moreCapped, Word, Low}
 
 -- ---- the greater of two

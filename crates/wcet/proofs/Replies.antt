@@ -11,7 +11,7 @@ use Rattle.lists.specs.Search.{firstBelow}
 use Rattle.lists.proofs.Search.{Lowest, not-found, none-found, found, found-lowest}
 use Rattle.wcet.specs.Table.{Routine, blockCount, edge}
 use Rattle.wcet.specs.Cycles.{undeclaredLoop, ClosedWalk}
-use Rattle.wcet.specs.Rules.{Reply, accepted, refused, Rule, refusedAt, check, inequalityRule, undeclaredRule, structureRules, tableRules, bound, tableReply}
+use Rattle.wcet.specs.Rules.{Reply, accepted, refused, Rule, refusedAt, check, inequalityRule, structureRules, tableRules, bound, tableReply}
 use Rattle.wcet.specs.Claim.{Holds, AllHold, FirstBroken, RepliesExactly}
 use Rattle.wcet.proofs.Nesting.{nested}
 use Rattle.wcet.proofs.Cycles.{closed-exactly}

@@ -1,6 +1,6 @@
 use mathlib.Core.Path.{sym}
 use lib.IntN.{pos, _+ℤ_}
-use lib.Signed.{_≤ℤ_, _<ℤ_}
+use lib.Signed.{_≤ℤ_}
 use mir.Syntax.{w64}
 use mir.Val.{SFits}
 use mir.Facts.{toZ-ofZ}
@@ -8,7 +8,6 @@ use Rattle.integers.proofs.Laws.{ints, sum}
 use Rattle.tails.specs.Words.{mostTail, noTail, wordOf, moreCapped, Word}
 use Rattle.tails.proofs.Words.{no-word, word-fits, word-sum, word-sum-over}
 use Rattle.tails.proofs.Capped.{more-none}
-use borrow.Author.Needs.{needs}
 use Rattle.tails.proofs.more.Statement.{statement}
 use Rattle.tails.proofs.more.Tie as tie
 use Rattle.tails.proofs.more.Reads as reads
