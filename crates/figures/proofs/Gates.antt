@@ -1,5 +1,5 @@
--- The gates by the figures of the headers: after 401 each header has its remade figure, so that a gate is what a back edge to the header asks for
--- (`gates-of`), and a header's figure over the limit is a remade figure over it (`head-high`). Assumes nothing.
+-- The gates by the figures of the headers: where each block has a path to the exit, each header has its remade figure, so that a gate is what a
+-- back edge to the header asks for (`gates-of`), and a header's figure over the limit is a remade figure over it (`head-high`). Assumes nothing.
 use mathlib.Core.Path.{_≡_, refl, sym, _∙_}
 use mathlib.Core.Bool.{true, false}
 use mathlib.Core.List.{List}

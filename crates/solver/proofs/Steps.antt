@@ -1,4 +1,4 @@
--- What the steps of the solver require holds of tables that pass 201 to 207, 209 and 401. Assumes nothing.
+-- What the steps of the solver require holds of tables that pass 201 to 207 and 209. Assumes nothing.
 use mathlib.Core.Path.{_≡_, refl, sym, _∙_}
 use mathlib.Core.Bool.{Bool, true, false}
 use mathlib.Core.List.{List}
