@@ -54,5 +54,6 @@ pub record PathToExit (t : Routine) (u : ℕ) : Type 0 where
   pub follows : path t u blocks ≡ true
   pub at-exit : getD (u ∷ blocks) (length blocks) 0 ≡ exit t
 
+-- no block is without one: 401 is not broken
 abbrev pub AllPaths : Routine → Type 0
 AllPaths t = (u : ℕ) → u < blockCount t → PathToExit t u

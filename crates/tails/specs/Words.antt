@@ -11,11 +11,11 @@ use Rattle.lists.specs.Search.{if_then_else_}
 abbrev pub mostTail : ℕ
 mostTail = 2 ^ 61
 
--- no tail is −1
+-- the word for no tail
 abbrev pub noTail : ℤ
 noTail = negsuc 0
 
--- a tail is its number
+-- what a word says: a tail is its number, and a number below 0 is no tail
 unfoldable pub wordOf : ℤ → Option ℕ
 wordOf (pos k) = some k
 wordOf (negsuc k) = none
@@ -35,7 +35,7 @@ moreCapped k none o = none
 moreCapped k (some c) none = none
 moreCapped k (some c) (some a) = some (min k (min k c + a))
 
--- no word is over the cap, and none is −1
+-- a word is not below −1 and not over the cap
 pub record Word (w : ℤ) : Type 0 where
   pub least : noTail ≤ℤ w
   pub most : w ≤ℤ pos mostTail
