@@ -11,13 +11,14 @@ use lib.Dec.{leb, eqb}
 use lib.ListN.{length, take, drop, length-drop, drop-of-length-le}
 use lib.Seq.{drop-drop}
 use Rattle.limits.specs.Limits.{mostFieldBytes}
-use Rattle.numbers.specs.Number.{digit, digits, natural, integer}
-use Rattle.numbers.specs.Digits.{digitCount, wideNumber, runAt, signCount, naturalBy, integerBy}
+use Rattle.numbers.specs.Number.{digit, digits, decimal, natural, integer}
+use Rattle.numbers.specs.Digits.{digitCount, numberUpTo, runAt, asValue, asDigitRun, signCount, naturalBy, integerBy}
 use Rattle.numbers.specs.declared.Value.{Value}
 use Rattle.numbers.specs.declared.Value.the-variants.{Missing}
 use Rattle.numbers.specs.declared.SignedValue.{SignedValue}
 use Rattle.numbers.specs.declared.SignedValue.the-variants.{Missing as NoSigned}
 use Rattle.numbers.specs.declared.DigitRun.{DigitRun}
+use Rattle.numbers.specs.declared.WideRun.{WideRun}
 use Rattle.numbers.proofs.Digits.{count-within, count-digits, sign-within}
 use Rattle.numbers.proofs.Numbers.{natural-by-is, integer-by-is}
 use Rattle.csv.specs.Grammar.{isText, width, size, comma, ends, following, limited, field, content}
@@ -93,8 +94,8 @@ module _ (s : List ℕ) (at : ℕ) (h : length s ≤ at) where
   unfolding signed content integer signCount digitCount following
   signed-over = rw (drop-of-length-le s h, add-zero)
 
--- What `number_cell` puts together: x is the run of digits at `at`.
-module _ (s : List ℕ) (at : ℕ) {x : DigitRun} (q : x ≡ runAt at (drop at s)) where
+-- What `number_cell` puts together: x is the run of digits at `at`, gathered at the width that ends at g.
+module _ (g : ℕ) (s : List ℕ) (at : ℕ) {x : DigitRun} (q : x ≡ runAt g at (drop at s)) where
   run-end : x .end ≡ at + digitCount (drop at s)
   run-end = ap (λ (y : DigitRun). y .end) q
 
@@ -104,19 +105,19 @@ module _ (s : List ℕ) (at : ℕ) {x : DigitRun} (q : x ≡ runAt at (drop at s
   pub run-inside : at < length s → x .end ≤ length s
   run-inside h = omega (arith, run-end, count-within (drop at s), length-drop at s)
 
-  pub cell-is : {w : List ℕ} {v : Value} {f : Found} (g : ℕ) → g < 2 ^ 64 → w ≡ take (x .end - at) (drop at s) → v ≡ naturalBy g w (x .value) → f ≡ foundAt at (limited (drop at s) (size (x .end - at))) → record { value = v; found = f } ≡ cellAt g at (drop at s)
+  pub cell-is : {w : List ℕ} {v : Value} {f : Found} (greatest : ℕ) → greatest < suc g → w ≡ take (x .end - at) (drop at s) → v ≡ naturalBy greatest w (x .value) → f ≡ foundAt at (limited (drop at s) (size (x .end - at))) → record { value = v; found = f } ≡ cellAt greatest at (drop at s)
   unfolding unsigned
-  cell-is {w} {v} {f} g l a b c =
+  cell-is {w} {v} {f} greatest l a b c =
       let d : List ℕ = drop at s in
       let n : x .end - at ≡ digitCount d = omega (arith, run-end) in
       let t : w ≡ take (digitCount d) d = a ∙ ap (λ (k : ℕ). take k d) n in
-      let u : v ≡ naturalBy g (take (digitCount d) d) (wideNumber (take (digitCount d) d)) = b ∙ rw (t, ap (λ (y : DigitRun). y .value) q) in
-      let y : v ≡ natural g (content (take (digitCount d) d)) = u ∙ natural-by-is (take (digitCount d) d) g (omega arith) (count-digits d) ∙ ap (natural g) (sym (content-written (bare (take (digitCount d) d)) (count-text d))) in
+      let u : v ≡ naturalBy greatest (take (digitCount d) d) (numberUpTo g (decimal 0 (take (digitCount d) d))) = b ∙ rw (t, ap (λ (y : DigitRun). y .value) q) in
+      let y : v ≡ natural greatest (content (take (digitCount d) d)) = u ∙ natural-by-is g (take (digitCount d) d) greatest (omega arith) (count-digits d) ∙ ap (natural greatest) (sym (content-written (bare (take (digitCount d) d)) (count-text d))) in
       let z : f ≡ foundAt at (limited d (size (digitCount d))) = c ∙ ap (λ (k : ℕ). foundAt at (limited d (size k))) n in
       λ i. record { value = y i; found = z i }
 
--- The same of `integer_cell`: p is where its digits start.
-module _ (s : List ℕ) (at p : ℕ) (h : p ≡ at + signCount (drop at s)) {x : DigitRun} (q : x ≡ runAt p (drop p s)) where
+-- The same of `integer_cell`, whose digits start at p and are gathered in 64 bits.
+module _ (s : List ℕ) (at p : ℕ) (h : p ≡ at + signCount (drop at s)) (x : WideRun) (q : asDigitRun x ≡ runAt (2 ^ 64 - 1) p (drop p s)) where
   digits-at : drop p s ≡ drop (signCount (drop at s)) (drop at s)
   digits-at = ap (λ (k : ℕ). drop k s) h ∙ sym (drop-drop (signCount (drop at s)) at s)
 
@@ -129,7 +130,7 @@ module _ (s : List ℕ) (at p : ℕ) (h : p ≡ at + signCount (drop at s)) {x :
   pub signed-inside : at < length s → x .end ≤ length s
   signed-inside i = omega (arith, signed-end, signed-within (drop at s), length-drop at s)
 
-  pub signed-is : {w : List ℕ} {v : SignedValue} {f : Found} → w ≡ take (x .end - at) (drop at s) → v ≡ integerBy w (x .value) → f ≡ foundAt at (limited (drop at s) (size (x .end - at))) → record { value = v; found = f } ≡ signedCellAt at (drop at s)
+  pub signed-is : {w : List ℕ} {v : SignedValue} {f : Found} → w ≡ take (x .end - at) (drop at s) → v ≡ integerBy w (asValue (x .value)) → f ≡ foundAt at (limited (drop at s) (size (x .end - at))) → record { value = v; found = f } ≡ signedCellAt at (drop at s)
   unfolding signed
   signed-is {w} {v} {f} a b c =
       let d : List ℕ = drop at s in
@@ -138,9 +139,9 @@ module _ (s : List ℕ) (at p : ℕ) (h : p ≡ at + signCount (drop at s)) {x :
       let o : drop (signCount m) m ≡ take (digitCount (drop (signCount d) d)) (drop (signCount d) d) = ap (λ (j : ℕ). drop j m) (k .sign) ∙ k .after in
       let n : x .end - at ≡ signedCount d = omega (arith, signed-end) in
       let t : w ≡ m = a ∙ ap (λ (j : ℕ). take j d) n in
-      let r : x .value ≡ wideNumber (drop (signCount m) m) = ap (λ (y : DigitRun). y .value) q ∙ rw (o, digits-at) in
+      let r : asValue (x .value) ≡ numberUpTo (2 ^ 64 - 1) (decimal 0 (drop (signCount m) m)) = ap (λ (y : DigitRun). y .value) q ∙ rw (o, digits-at) in
       let g : digits (drop (signCount m) m) ≡ true = ap digits o ∙ count-digits (drop (signCount d) d) in
-      let u : v ≡ integerBy m (wideNumber (drop (signCount m) m)) = b ∙ rw (t, r) in
+      let u : v ≡ integerBy m (numberUpTo (2 ^ 64 - 1) (decimal 0 (drop (signCount m) m))) = b ∙ rw (t, r) in
       let y : v ≡ integer (content m) = u ∙ integer-by-is m g ∙ ap integer (sym (content-written (bare m) (k .text))) in
       let z : f ≡ foundAt at (limited d (size (signedCount d))) = c ∙ ap (λ (j : ℕ). foundAt at (limited d (size j))) n in
       λ i. record { value = y i; found = z i }

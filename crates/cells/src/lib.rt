@@ -4,12 +4,14 @@ ghost use Prim.Native.Nat.{_-_, _^_, _≤_};
 ghost use lib.ListN.{drop};
 ghost use Rattle.csv.specs.Grammar.{size, limited};
 ghost use Rattle.csv.specs.Place.{foundAt};
+ghost use Rattle.numbers.specs.Digits.{asValue};
 ghost use Rattle.cells.specs.Cell.{unsigned, signed, cellAt, signedCellAt};
 use csv::Ending;
 use csv::Found;
 use limits::MOST_FIELD_BYTES;
 use numbers::SignedValue;
 use numbers::Value;
+use numbers::WideValue;
 
 // A field that is taken to be digits: what they say, and what follows them.
 pub struct Cell {
@@ -45,10 +47,10 @@ pub fn u32_of(w: &[u8]) -> Value
 }
 
 // What a field says, up to 2^64 - 1.
-pub fn u64_of(w: &[u8]) -> Value
-    ensures { λ r. ⌜ r ≡ unsigned (2 ^ 64 - 1) (now (w .entry)) ⌝ }
+pub fn u64_of(w: &[u8]) -> WideValue
+    ensures { λ r. ⌜ asValue r ≡ unsigned (2 ^ 64 - 1) (now (w .entry)) ⌝ }
 {
-    numbers::natural_of(csv::inner_part(w), 18446744073709551615)
+    numbers::wide_of(csv::inner_part(w))
 }
 
 // What a field says, from -2^63 to 2^63 - 1.
@@ -70,7 +72,7 @@ fn found_after(text: &[u8], at: usize, end: usize) -> Found
 }
 
 // The field at `at`, taken to be the digits that stand there, at a width that ends at `greatest`: one scan finds and reads it.
-pub fn number_cell(text: &[u8], at: usize, greatest: u64) -> Cell
+pub fn number_cell(text: &[u8], at: usize, greatest: u32) -> Cell
     ensures { λ r. ⌜ r ≡ cellAt greatest at (drop at (now (text .entry))) ⌝ }
 {
     if at >= text.len() {
@@ -98,7 +100,7 @@ pub fn integer_cell(text: &[u8], at: usize) -> SignedCell
         };
     }
     let start = numbers::digits_start(text, at);
-    let run = numbers::digit_run(text, start);
+    let run = numbers::wide_run(text, start);
     let digits = run.value;
     let end = run.end;
     let value = numbers::integer_by(&text[at..end], digits);

@@ -11,8 +11,10 @@ use borrow.Author.Tests.{ltb-true, ltb-false, lt-ltb, le-ltb, le-leb, lt-leb, eq
 use lib.ListN.{length, take, drop, getD, drop-of-length-le}
 use lib.Seq.{drop-cons}
 use lib.Dec.{leb, ltb, eqb}
+use mir.Syntax.{Width}
+use mir.Val.{Fits, bits}
 use Rattle.numbers.specs.Number.{digit, digits, decimal}
-use Rattle.numbers.specs.Digits.{digitCount, wideAfter, signCount}
+use Rattle.numbers.specs.Digits.{digitCount, numberUpTo, signCount}
 use Rattle.numbers.specs.declared.Value.the-variants.{Number, Bad}
 use Rattle.numbers.specs.declared.DigitRun.{DigitRun}
 
@@ -44,23 +46,32 @@ module _ (s : List ℕ) (i t : ℕ) (q : t ≡ i + digitCount (drop i s)) where
   pub end-on : i < length s → 48 ≤ getD s i 0 → getD s i 0 ≤ 57 → t ≡ i + 1 + digitCount (drop (i + 1) s)
   end-on h k l = omega (arith, one-more s i h k l)
 
--- Each way through `overflows`.
-module _ (n d : ℕ) (l : d ≤ 9) where
-  pub far-below : n < 1844674407370955161 → false ≡ ltb (2 ^ 64 - 1) (n * 10 + d)
-  far-below h = sym (le-ltb (2 ^ 64 - 1) (n * 10 + d) (omega arith))
+-- LAW: each way through `overflows` and `overflows_wide`. The greatest number of either width is ten times some t and 5.
+module _ (g t n d : ℕ) (w : g ≡ t * 10 + 5) (l : d ≤ 9) where
+  pub far-below : n < t → false ≡ ltb g (n * 10 + d)
+  far-below h = sym (le-ltb g (n * 10 + d) (omega arith))
 
-  pub far-above : 1844674407370955161 < n → true ≡ ltb (2 ^ 64 - 1) (n * 10 + d)
-  far-above h = sym (lt-ltb (2 ^ 64 - 1) (n * 10 + d) (omega arith))
+  pub far-above : t < n → true ≡ ltb g (n * 10 + d)
+  far-above h = sym (lt-ltb g (n * 10 + d) (omega arith))
 
-  pub last-digit : 1844674407370955161 ≤ n → n ≤ 1844674407370955161 → ltb 5 d ≡ ltb (2 ^ 64 - 1) (n * 10 + d)
+  pub last-digit : t ≤ n → n ≤ t → ltb 5 d ≡ ltb g (n * 10 + d)
   last-digit h k = go (ltb 5 d) refl
     where
-      go : (b : Bool) → ltb 5 d ≡ b → b ≡ ltb (2 ^ 64 - 1) (n * 10 + d)
-      go true e = let m : 5 < d = ltb-true 5 d e in sym (lt-ltb (2 ^ 64 - 1) (n * 10 + d) (omega arith))
-      go false e = let m : d ≤ 5 = ltb-false 5 d e in sym (le-ltb (2 ^ 64 - 1) (n * 10 + d) (omega arith))
+      go : (b : Bool) → ltb 5 d ≡ b → b ≡ ltb g (n * 10 + d)
+      go true e = let m : 5 < d = ltb-true 5 d e in sym (lt-ltb g (n * 10 + d) (omega arith))
+      go false e = let m : d ≤ 5 = ltb-false 5 d e in sym (le-ltb g (n * 10 + d) (omega arith))
 
-pub no-overflow : (n d : ℕ) {r : Bool} → r ≡ ltb (2 ^ 64 - 1) (n * 10 + d) → r ≡ false → n * 10 + d ≤ 2 ^ 64 - 1
-no-overflow n d e f = ltb-false (2 ^ 64 - 1) (n * 10 + d) (sym e ∙ f)
+-- A digit that is taken: the numbers on the way fit the word w, whose greatest number is g.
+module _ {g : ℕ} (n d : ℕ) {r : Bool} (e : r ≡ ltb g (n * 10 + d)) (f : r ≡ false) where
+  pub within-width : n * 10 + d ≤ g
+  within-width = ltb-false g (n * 10 + d) (sym e ∙ f)
+
+  module _ (w : Width) (k : suc g ≡ 2 ^ bits w) where
+    pub product-fits : Fits w (n * 10)
+    product-fits = record { fits = rw (← k) (omega (arith, within-width)) }
+
+    pub sum-fits : Fits w (n * 10 + d)
+    sum-fits = record { fits = rw (← k) (omega (arith, within-width)) }
 
 -- more digits make no smaller number
 grows : (n : ℕ) (s : List ℕ) → n ≤ decimal n s
@@ -68,32 +79,32 @@ unfolding decimal
 grows n [] = omega arith
 grows n (b ∷ s) = let h : n * 10 + (b - 48) ≤ decimal (n * 10 + (b - 48)) s = grows (n * 10 + (b - 48)) s in omega arith
 
--- the run of digits that goes on at i, after digits that wrote n
-abbrev pub runAfter : ℕ → ℕ → List ℕ → DigitRun
-runAfter n i s = record { value = wideAfter n (take (digitCount s) s); end = i + digitCount s }
+-- the run of digits that goes on at i, after digits that wrote n, at the width that ends at g
+abbrev pub runAfter : ℕ → ℕ → ℕ → List ℕ → DigitRun
+runAfter g n i s = record { value = numberUpTo g (decimal n (take (digitCount s) s)); end = i + digitCount s }
 
--- A turn of `digit_run` at i with n gathered; x is the run from its first digit on.
-module _ (s : List ℕ) (n i : ℕ) {x : DigitRun} (q : x ≡ runAfter n i (drop i s)) where
-  pub run-here : n ≤ 2 ^ 64 - 1 → digitCount (drop i s) ≡ 0 → record { value = Number n; end = i } ≡ x
+-- LAW: a turn of `digit_run` or `wide_run` at i with n gathered; x is the run from its first digit on, and g ends the width.
+module _ (g : ℕ) (s : List ℕ) (n i : ℕ) {x : DigitRun} (q : x ≡ runAfter g n i (drop i s)) where
+  pub run-here : n ≤ g → digitCount (drop i s) ≡ 0 → record { value = Number n; end = i } ≡ x
   unfolding decimal
-  run-here l e = sym (q ∙ rw (e, add-zero, le-leb n (2 ^ 64 - 1) l))
+  run-here l e = sym (q ∙ rw (e, add-zero, le-leb n g l))
 
   module _ (h : i < length s) (k : 48 ≤ getD s i 0) (l : getD s i 0 ≤ 57) where
-    goes-on : runAfter n i (drop i s) ≡ runAfter (n * 10 + (getD s i 0 - 48)) (i + 1) (drop (i + 1) s)
+    goes-on : runAfter g n i (drop i s) ≡ runAfter g (n * 10 + (getD s i 0 - 48)) (i + 1) (drop (i + 1) s)
     unfolding decimal
     goes-on =
         let e : i + suc (digitCount (drop (i + 1) s)) ≡ i + 1 + digitCount (drop (i + 1) s) = omega arith in
         rw (one-more s i h k l, e) (rw (drop-cons s i 0 h, ← add-one i))
 
-    pub run-on : x ≡ runAfter (n * 10 + (getD s i 0 - 48)) (i + 1) (drop (i + 1) s)
+    pub run-on : x ≡ runAfter g (n * 10 + (getD s i 0 - 48)) (i + 1) (drop (i + 1) s)
     run-on = q ∙ goes-on
 
-    pub run-wide : {r : Bool} {e : ℕ} → r ≡ ltb (2 ^ 64 - 1) (n * 10 + (getD s i 0 - 48)) → r ≡ true → e ≡ i + digitCount (drop i s) → record { value = Bad; end = e } ≡ x
-    run-wide {r} {e} f g w =
+    pub run-past : {r : Bool} {e : ℕ} → r ≡ ltb g (n * 10 + (getD s i 0 - 48)) → r ≡ true → e ≡ i + digitCount (drop i s) → record { value = Bad; end = e } ≡ x
+    run-past {r} {e} f o w =
         let m : ℕ = n * 10 + (getD s i 0 - 48) in
         let t : List ℕ = take (digitCount (drop (i + 1) s)) (drop (i + 1) s) in
-        let o : 2 ^ 64 - 1 < m = ltb-true (2 ^ 64 - 1) m (sym f ∙ g) in
-        let b : leb (decimal m t) (2 ^ 64 - 1) ≡ false = lt-leb (decimal m t) (2 ^ 64 - 1) (omega (arith, grows m t)) in
+        let v : g < m = ltb-true g m (sym f ∙ o) in
+        let b : leb (decimal m t) g ≡ false = lt-leb (decimal m t) g (omega (arith, grows m t)) in
         let z : i + 1 + digitCount (drop (i + 1) s) ≡ e = omega (arith, one-more s i h k l) in
         sym (run-on ∙ rw (b, z))
 

@@ -18,93 +18,125 @@ use mir.Facts.{toZ-pos, toZ-ofZ}
 use denote.Enum.Declared.{tagOf}
 use lib.Dec.{leb, eqb}
 use Rattle.numbers.proofs.Value.{the-type}
+use Rattle.numbers.proofs.WideValue as wide-enum
 use Rattle.numbers.specs.declared.Value.{Value}
 use Rattle.numbers.specs.declared.Value.the-variants.{Number, Missing, Bad}
+use Rattle.numbers.specs.declared.WideValue.{WideValue}
+use Rattle.numbers.specs.declared.WideValue.the-variants.{Number as Wide, Missing as NoWide, Bad as BadWide}
 use Rattle.numbers.specs.declared.SignedValue.{SignedValue}
 use Rattle.numbers.specs.declared.SignedValue.the-variants.{Number as Signed, Missing as NoSigned, Bad as BadSigned}
 use Rattle.numbers.specs.declared.DigitRun.{DigitRun}
 use Rattle.numbers.specs.Number.{digit, digits, numeral, decimal, natural, integer, minus, plus}
-use Rattle.numbers.specs.Digits.{digitCount, wideNumber, runAt, signCount, atMost, naturalBy, integerBy}
+use Rattle.numbers.specs.Digits.{digitCount, numberUpTo, runAt, asValue, signCount, leadingZero, atWidth, naturalBy, integerBy}
 use Rattle.numbers.proofs.Digits.{count-digits, count-all, sign-within}
 
--- Each way through `at_most`.
-module _ (v : Value) (greatest : ℕ) where
-  pub held : (n : ℕ) → v ≡ Number n → n ≤ greatest → Number n ≡ atMost greatest v
-  held n e l = rw (e, le-leb n greatest l)
+pub as-number : {v : WideValue} (n : ℕ) → v ≡ Wide n → asValue v ≡ Number n
+as-number n e = ap asValue e
 
-  pub beyond : (n : ℕ) → v ≡ Number n → greatest < n → Bad ≡ atMost greatest v
-  beyond n e l = rw (e, lt-leb n greatest l)
+-- an answer that is no number
+abbrev pub NoNumber : Value → Type 0
+NoNumber v = (n : ℕ) → v ≡ Number n → ⊥
 
-  pub held-missing : v ≡ Missing → Missing ≡ atMost greatest v
-  held-missing e = rw e
+pub no-number : (v : Value) → (tagOf the-type v ≡ 1) ⊎ (tagOf the-type v ≡ 2) → NoNumber v
+no-number (Number m) (inl e) n q = absurd (omega arith)
+no-number (Number m) (inr e) n q = absurd (omega arith)
+no-number Missing h n q = absurd (let z : _≡_ {A = ℕ} 0 1 = cc in omega arith)
+no-number Bad h n q = absurd (let z : _≡_ {A = ℕ} 0 1 = cc in omega arith)
 
-  pub held-bad : v ≡ Bad → Bad ≡ atMost greatest v
-  held-bad e = rw e
+pub no-number-wide : (v : WideValue) → (tagOf wide-enum.the-type v ≡ 1) ⊎ (tagOf wide-enum.the-type v ≡ 2) → NoNumber (asValue v)
+no-number-wide (Wide m) (inl e) n q = absurd (omega arith)
+no-number-wide (Wide m) (inr e) n q = absurd (omega arith)
+no-number-wide NoWide h n q = absurd (let z : _≡_ {A = ℕ} 0 1 = cc in omega arith)
+no-number-wide BadWide h n q = absurd (let z : _≡_ {A = ℕ} 0 1 = cc in omega arith)
 
--- Each way through `natural_by`.
-module _ (w : List ℕ) (v : Value) (greatest : ℕ) where
-  pub by-none : length w ≡ 0 → Missing ≡ naturalBy greatest w v
+-- Each way through `has_leading_zero`.
+pub short-no-zero : (w : List ℕ) → length w < 2 → false ≡ leadingZero w
+unfolding leadingZero
+short-no-zero [] l = refl
+short-no-zero (b ∷ []) l = refl
+short-no-zero (b ∷ c ∷ s) l = absurd (omega arith)
+
+pub long-zero : (w : List ℕ) → 2 ≤ length w → eqb (getD w 0 0) 48 ≡ leadingZero w
+unfolding leadingZero
+long-zero [] l = absurd (omega arith)
+long-zero (b ∷ []) l = absurd (omega arith)
+long-zero (b ∷ c ∷ s) l = refl
+
+-- Each way through `natural_by` and `wide_by`; p is what `has_leading_zero` gave.
+pub by-none : (w : List ℕ) (v : Value) (greatest : ℕ) → length w ≡ 0 → Missing ≡ naturalBy greatest w v
+unfolding naturalBy
+by-none [] v greatest e = refl
+by-none (b ∷ s) v greatest e = absurd (omega arith)
+
+module _ (w : List ℕ) (v : Value) (greatest : ℕ) (f : length w ≡ 0 → ⊥) {p : Bool} (q : p ≡ leadingZero w) where
+  by-first : naturalBy greatest w v ≡ cond p Bad (atWidth greatest v)
   unfolding naturalBy
-  by-none e = go w e
+  by-first = rw q (go w f)
     where
-      go : (w : List ℕ) → length w ≡ 0 → Missing ≡ naturalBy greatest w v
-      go [] e = refl
-      go (b ∷ s) e = absurd (omega arith)
+      go : (w : List ℕ) → (length w ≡ 0 → ⊥) → naturalBy greatest w v ≡ cond (leadingZero w) Bad (atWidth greatest v)
+      go [] f = absurd (f refl)
+      go (b ∷ s) f = refl
 
-  pub by-one : {r : Value} → length w ≡ 1 → r ≡ atMost greatest v → r ≡ naturalBy greatest w v
-  unfolding naturalBy
-  by-one {r} e q = go w e
-    where
-      go : (w : List ℕ) → length w ≡ 1 → r ≡ naturalBy greatest w v
-      go [] e = absurd (omega arith)
-      go (b ∷ []) e = q
-      go (b ∷ c ∷ s) e = absurd (omega arith)
+  pub by-zero : p ≡ true → Bad ≡ naturalBy greatest w v
+  by-zero e = sym (by-first ∙ rw e)
 
-  module _ (f : length w ≡ 0 → ⊥) where
-    pub by-more : {r : Value} → (getD w 0 0 ≡ 48 → ⊥) → r ≡ atMost greatest v → r ≡ naturalBy greatest w v
-    unfolding naturalBy
-    by-more {r} e q = go w f e
+  module _ (e : p ≡ false) where
+    pub by-other : NoNumber v → Bad ≡ naturalBy greatest w v
+    by-other h = sym (by-first ∙ rw e (go v h))
       where
-        go : (w : List ℕ) → (length w ≡ 0 → ⊥) → (getD w 0 0 ≡ 48 → ⊥) → r ≡ naturalBy greatest w v
-        go [] f e = absurd (f refl)
-        go (b ∷ []) f e = q
-        go (b ∷ c ∷ s) f e = rw (ne-eqb b 48 e) q
+        go : (v : Value) → NoNumber v → atWidth greatest v ≡ Bad
+        go (Number n) h = absurd (h n refl)
+        go Missing h = refl
+        go Bad h = refl
 
-    pub by-zero : getD w 0 0 ≡ 48 → (length w ≡ 1 → ⊥) → Bad ≡ naturalBy greatest w v
-    unfolding naturalBy
-    by-zero e g = go w f e g
-      where
-        go : (w : List ℕ) → (length w ≡ 0 → ⊥) → getD w 0 0 ≡ 48 → (length w ≡ 1 → ⊥) → Bad ≡ naturalBy greatest w v
-        go [] f e g = absurd (f refl)
-        go (b ∷ []) f e g = absurd (g refl)
-        go (b ∷ c ∷ s) f e g = rw (eq-eqb b 48 e)
+    module _ (n : ℕ) (g : v ≡ Number n) where
+      pub by-beyond : greatest < n → Bad ≡ naturalBy greatest w v
+      by-beyond l = sym (by-first ∙ rw (e, g, lt-leb n greatest l))
+
+      pub by-number : n ≤ greatest → Number n ≡ naturalBy greatest w v
+      by-number l = sym (by-first ∙ rw (e, g, le-leb n greatest l))
 
 -- a number that is held to its width is within it
-at-most-fits : (v : Value) (greatest n : ℕ) → Number n ≡ atMost greatest v → n ≤ greatest
-at-most-fits (Number m) greatest n e = go (leb m greatest) refl e
+up-to-fits : (m greatest n : ℕ) → Number n ≡ numberUpTo greatest m → n ≤ greatest
+up-to-fits m greatest n e = go (leb m greatest) refl e
   where
     go : (b : Bool) → leb m greatest ≡ b → Number n ≡ cond b (Number m) Bad → n ≤ greatest
     go true f e = let z : n ≡ m = cc in omega (arith, leb-true m greatest f)
     go false f e = absurd (let z : _≡_ {A = ℕ} 0 1 = cc in omega arith)
-at-most-fits Missing greatest n e = absurd (let z : _≡_ {A = ℕ} 0 1 = cc in omega arith)
-at-most-fits Bad greatest n e = absurd (let z : _≡_ {A = ℕ} 0 1 = cc in omega arith)
 
 by-fits : (w : List ℕ) (v : Value) (greatest n : ℕ) → Number n ≡ naturalBy greatest w v → n ≤ greatest
 unfolding naturalBy
 by-fits [] v greatest n e = absurd (let z : _≡_ {A = ℕ} 0 1 = cc in omega arith)
-by-fits (b ∷ []) v greatest n e = at-most-fits v greatest n e
-by-fits (b ∷ c ∷ s) v greatest n e = go (eqb b 48) e
+by-fits (b ∷ s) v greatest n e = go (leadingZero (b ∷ s)) v e
   where
-    go : (t : Bool) → Number n ≡ cond t Bad (atMost greatest v) → n ≤ greatest
-    go true e = absurd (let z : _≡_ {A = ℕ} 0 1 = cc in omega arith)
-    go false e = at-most-fits v greatest n e
+    go : (t : Bool) (v : Value) → Number n ≡ cond t Bad (atWidth greatest v) → n ≤ greatest
+    go true v e = absurd (let z : _≡_ {A = ℕ} 0 1 = cc in omega arith)
+    go false (Number m) e = up-to-fits m greatest n e
+    go false Missing e = absurd (let z : _≡_ {A = ℕ} 0 1 = cc in omega arith)
+    go false Bad e = absurd (let z : _≡_ {A = ℕ} 0 1 = cc in omega arith)
+
+-- where something is written, nothing is missing
+by-some : (w : List ℕ) (v : Value) (greatest : ℕ) → (length w ≡ 0 → ⊥) → {r : Value} → r ≡ naturalBy greatest w v → r ≡ Missing → ⊥
+unfolding naturalBy
+by-some [] v greatest f q e = f refl
+by-some (b ∷ s) v greatest f q e = go (leadingZero (b ∷ s)) v (sym e ∙ q)
+  where
+    upTo : (n : ℕ) (t : Bool) → Missing ≡ cond t (Number n) Bad → ⊥
+    upTo n true e = absurd (let z : _≡_ {A = ℕ} 0 1 = cc in omega arith)
+    upTo n false e = absurd (let z : _≡_ {A = ℕ} 0 1 = cc in omega arith)
+
+    go : (t : Bool) (v : Value) → Missing ≡ cond t Bad (atWidth greatest v) → ⊥
+    go true v e = absurd (let z : _≡_ {A = ℕ} 0 1 = cc in omega arith)
+    go false (Number m) e = upTo m (leb m greatest) e
+    go false Missing e = absurd (let z : _≡_ {A = ℕ} 0 1 = cc in omega arith)
+    go false Bad e = absurd (let z : _≡_ {A = ℕ} 0 1 = cc in omega arith)
 
 -- -1 - m
 below-zero : (m : ℕ) → negsuc 0 -ℤ pos m ≡ negsuc m
 below-zero zero = refl
 below-zero (suc m) = ap (λ (k : ℕ). negsuc (suc k)) (zero-add m)
 
--- Each way through `integer_by`; r is what `natural_by` gave.
+-- Each way through `integer_by`; r is what `wide_by` gave.
 pub integer-none : (w : List ℕ) (v : Value) → length w ≡ 0 → NoSigned ≡ integerBy w v
 unfolding integerBy
 integer-none [] v e = refl
@@ -120,12 +152,11 @@ module _ (w : List ℕ) (v : Value) {r : Value} (f : length w ≡ 0 → ⊥) whe
         go [] f m q = absurd (f refl)
         go (b ∷ t) f m q = rw (eq-eqb b 45 m) (ap minus (sym (q ∙ ap (λ (t : List ℕ). naturalBy (2 ^ 63) t v) (take-all (suc (length t) - 1) t (omega arith)))))
 
-    pub integer-no-number : (tagOf the-type r ≡ 1) ⊎ (tagOf the-type r ≡ 2) → BadSigned ≡ integerBy w v
-    integer-no-number h = sym (integer-minus ∙ go r h)
+    pub integer-not-minus : NoNumber r → BadSigned ≡ integerBy w v
+    integer-not-minus h = sym (integer-minus ∙ go r h)
       where
-        go : (r : Value) → (tagOf the-type r ≡ 1) ⊎ (tagOf the-type r ≡ 2) → minus r ≡ BadSigned
-        go (Number n) (inl e) = absurd (omega arith)
-        go (Number n) (inr e) = absurd (omega arith)
+        go : (r : Value) → NoNumber r → minus r ≡ BadSigned
+        go (Number n) h = absurd (h n refl)
         go Missing h = refl
         go Bad h = refl
 
@@ -164,11 +195,13 @@ module _ (w : List ℕ) (v : Value) {r : Value} (f : length w ≡ 0 → ⊥) whe
     pub integer-positive : (n : ℕ) → r ≡ Number n → Signed (toZ w64 n) ≡ integerBy w v
     integer-positive n e = rw (toZ-pos w64 (plus-cast n e .sfits)) (sym (integer-plus ∙ rw e))
 
-    pub integer-missing : r ≡ Missing → NoSigned ≡ integerBy w v
-    integer-missing e = sym (integer-plus ∙ rw e)
-
-    pub integer-bad : r ≡ Bad → BadSigned ≡ integerBy w v
-    integer-bad e = sym (integer-plus ∙ rw e)
+    pub integer-not-plus : NoNumber r → BadSigned ≡ integerBy w v
+    integer-not-plus h = sym (integer-plus ∙ go r h (by-some w v (2 ^ 63 - 1) f q))
+      where
+        go : (r : Value) → NoNumber r → (r ≡ Missing → ⊥) → plus r ≡ BadSigned
+        go (Number n) h g = absurd (h n refl)
+        go Missing h g = absurd (g refl)
+        go Bad h g = refl
 
 -- what is no digits is no number
 pub no-digits : (s : List ℕ) (greatest : ℕ) → digits s ≡ false → natural greatest s ≡ Bad
@@ -177,32 +210,34 @@ no-digits [] greatest e = absurd (true≢false e)
 no-digits (b ∷ []) greatest e = rw (sym (and-true (digit b)) ∙ e)
 no-digits (b ∷ c ∷ s) greatest e = rw (e, and-false)
 
--- LAW: digits and the number that they write say what the text says, at every width within 64 bits
-wide-held : (n greatest : ℕ) → greatest ≤ 2 ^ 64 - 1 → atMost greatest (cond (leb n (2 ^ 64 - 1)) (Number n) Bad) ≡ cond (leb n greatest) (Number n) Bad
-wide-held n greatest l = go (leb n (2 ^ 64 - 1)) refl
+-- what was gathered up to g, at a smaller width
+both-widths : (g n greatest : ℕ) → greatest ≤ g → atWidth greatest (numberUpTo g n) ≡ numberUpTo greatest n
+both-widths g n greatest l = go (leb n g) refl
   where
-    go : (b : Bool) → leb n (2 ^ 64 - 1) ≡ b → atMost greatest (cond b (Number n) Bad) ≡ cond (leb n greatest) (Number n) Bad
+    go : (b : Bool) → leb n g ≡ b → atWidth greatest (cond b (Number n) Bad) ≡ numberUpTo greatest n
     go true e = refl
-    go false e = let h : 2 ^ 64 - 1 < n = leb-false n (2 ^ 64 - 1) e in rw (lt-leb n greatest (omega arith))
+    go false e = let h : g < n = leb-false n g e in rw (lt-leb n greatest (omega arith))
 
-pub natural-by-is : (w : List ℕ) (greatest : ℕ) → greatest ≤ 2 ^ 64 - 1 → digits w ≡ true → naturalBy greatest w (wideNumber w) ≡ natural greatest w
-unfolding naturalBy natural numeral digits
-natural-by-is [] greatest l e = refl
-natural-by-is (b ∷ []) greatest l e = rw (sym (and-true (digit b)) ∙ e) (wide-held (decimal 0 (b ∷ [])) greatest l)
-natural-by-is (b ∷ c ∷ s) greatest l e = rw e (go (eqb b 48))
+-- LAW: digits, and their number where it is at most g, say what the text says, at every width that ends at g or before
+pub natural-by-is : (g : ℕ) (w : List ℕ) (greatest : ℕ) → greatest ≤ g → digits w ≡ true → naturalBy greatest w (numberUpTo g (decimal 0 w)) ≡ natural greatest w
+unfolding naturalBy natural numeral digits leadingZero
+natural-by-is g [] greatest l e = refl
+natural-by-is g (b ∷ []) greatest l e = rw (sym (and-true (digit b)) ∙ e) (both-widths g (decimal 0 (b ∷ [])) greatest l)
+natural-by-is g (b ∷ c ∷ s) greatest l e = rw e (go (eqb b 48))
   where
-    go : (t : Bool) → cond t Bad (atMost greatest (wideNumber (b ∷ c ∷ s))) ≡ cond (not t && true && leb (decimal 0 (b ∷ c ∷ s)) greatest) (Number (decimal 0 (b ∷ c ∷ s))) Bad
+    go : (t : Bool) → cond t Bad (atWidth greatest (numberUpTo g (decimal 0 (b ∷ c ∷ s)))) ≡ cond (not t && true && leb (decimal 0 (b ∷ c ∷ s)) greatest) (Number (decimal 0 (b ∷ c ∷ s))) Bad
     go true = refl
-    go false = wide-held (decimal 0 (b ∷ c ∷ s)) greatest l
+    go false = both-widths g (decimal 0 (b ∷ c ∷ s)) greatest l
 
-pub integer-by-is : (w : List ℕ) → digits (drop (signCount w) w) ≡ true → integerBy w (wideNumber (drop (signCount w) w)) ≡ integer w
+-- the same of figures, whose digits are gathered in 64 bits
+pub integer-by-is : (w : List ℕ) → digits (drop (signCount w) w) ≡ true → integerBy w (numberUpTo (2 ^ 64 - 1) (decimal 0 (drop (signCount w) w))) ≡ integer w
 unfolding integerBy integer signCount
 integer-by-is [] e = refl
 integer-by-is (b ∷ s) e = go (eqb b 45) e
   where
-    go : (t : Bool) → digits (drop (cond t 1 0) (b ∷ s)) ≡ true → cond t (minus (naturalBy (2 ^ 63) s (wideNumber (drop (cond t 1 0) (b ∷ s))))) (plus (naturalBy (2 ^ 63 - 1) (b ∷ s) (wideNumber (drop (cond t 1 0) (b ∷ s))))) ≡ cond t (minus (natural (2 ^ 63) s)) (plus (natural (2 ^ 63 - 1) (b ∷ s)))
-    go true e = ap minus (natural-by-is s (2 ^ 63) (omega arith) e)
-    go false e = ap plus (natural-by-is (b ∷ s) (2 ^ 63 - 1) (omega arith) e)
+    go : (t : Bool) → digits (drop (cond t 1 0) (b ∷ s)) ≡ true → cond t (minus (naturalBy (2 ^ 63) s (numberUpTo (2 ^ 64 - 1) (decimal 0 (drop (cond t 1 0) (b ∷ s)))))) (plus (naturalBy (2 ^ 63 - 1) (b ∷ s) (numberUpTo (2 ^ 64 - 1) (decimal 0 (drop (cond t 1 0) (b ∷ s)))))) ≡ cond t (minus (natural (2 ^ 63) s)) (plus (natural (2 ^ 63 - 1) (b ∷ s)))
+    go true e = ap minus (natural-by-is (2 ^ 64 - 1) s (2 ^ 63) (omega arith) e)
+    go false e = ap plus (natural-by-is (2 ^ 64 - 1) (b ∷ s) (2 ^ 63 - 1) (omega arith) e)
 
 -- what is neither digits nor a minus sign and digits is no number
 pub no-integer : (w : List ℕ) → digits (drop (signCount w) w) ≡ false → integer w ≡ BadSigned
@@ -214,8 +249,9 @@ no-integer (b ∷ s) e = go (eqb b 45) e
     go true e = rw (no-digits s (2 ^ 63) e)
     go false e = rw (no-digits (b ∷ s) (2 ^ 63 - 1) e)
 
--- The digits at p of a text: where they stop before its end, what stands there is not digits; otherwise it is, and their number is its number.
-module _ (s : List ℕ) (p : ℕ) {x : DigitRun} (q : x ≡ runAt p (drop p s)) where
+-- The digits at p of a text, gathered at the width that ends at g: where they stop before its end, what stands there is not digits; otherwise it is, and
+-- their number is its number.
+module _ (g : ℕ) (s : List ℕ) (p : ℕ) {x : DigitRun} (q : x ≡ runAt g p (drop p s)) where
   run-short : x .end < length s → digits (drop p s) ≡ false
   run-short h = go (digits (drop p s)) refl
     where
@@ -230,29 +266,29 @@ module _ (s : List ℕ) (p : ℕ) {x : DigitRun} (q : x ≡ runAt p (drop p s)) 
     run-whole : digits (drop p s) ≡ true
     run-whole = ap digits (sym (take-all (digitCount (drop p s)) (drop p s) all-count)) ∙ count-digits (drop p s)
 
-    run-value : x .value ≡ wideNumber (drop p s)
-    run-value = ap (λ (y : DigitRun). y .value) q ∙ ap wideNumber (take-all (digitCount (drop p s)) (drop p s) all-count)
+    run-value : x .value ≡ numberUpTo g (decimal 0 (drop p s))
+    run-value = ap (λ (y : DigitRun). y .value) q ∙ ap (λ (t : List ℕ). numberUpTo g (decimal 0 t)) (take-all (digitCount (drop p s)) (drop p s) all-count)
 
--- Each way through `natural_of` and `integer_of`.
-module _ (s : List ℕ) {x : DigitRun} where
-  module _ (q : x ≡ runAt 0 s) (greatest : ℕ) where
-    pub natural-other : x .end < length s → Bad ≡ natural greatest s
-    natural-other h = sym (no-digits s greatest (run-short s 0 q h))
+-- Each way through `natural_of` and `wide_of`.
+module _ (g : ℕ) (s : List ℕ) {x : DigitRun} (q : x ≡ runAt g 0 s) (greatest : ℕ) where
+  pub natural-other : x .end < length s → Bad ≡ natural greatest s
+  natural-other h = sym (no-digits s greatest (run-short g s 0 q h))
 
-    pub natural-whole : {r : Value} → greatest < 2 ^ 64 → length s ≤ x .end → r ≡ naturalBy greatest s (x .value) → r ≡ natural greatest s
-    natural-whole l h e = e ∙ rw (run-value s 0 q h (omega arith)) (natural-by-is s greatest (omega arith) (run-whole s 0 q h (omega arith)))
+  pub natural-whole : {r : Value} → greatest < suc g → length s ≤ x .end → r ≡ naturalBy greatest s (x .value) → r ≡ natural greatest s
+  natural-whole l h e = e ∙ rw (run-value g s 0 q h (omega arith)) (natural-by-is g s greatest (omega arith) (run-whole g s 0 q h (omega arith)))
 
-  module _ {p : ℕ} (i : p ≡ 0 + signCount s) (q : x ≡ runAt p (drop p s)) where
-    start-is : p ≡ signCount s
-    start-is = omega arith
+-- Each way through `integer_of`.
+module _ (s : List ℕ) {p : ℕ} (i : p ≡ 0 + signCount s) {x : DigitRun} (q : x ≡ runAt (2 ^ 64 - 1) p (drop p s)) where
+  start-is : p ≡ signCount s
+  start-is = omega arith
 
-    pub integer-other : x .end < length s → BadSigned ≡ integer s
-    integer-other h = sym (no-integer s (rw (← start-is) (run-short s p q h)))
+  pub integer-other : x .end < length s → BadSigned ≡ integer s
+  integer-other h = sym (no-integer s (rw (← start-is) (run-short (2 ^ 64 - 1) s p q h)))
 
-    pub integer-whole : {r : SignedValue} → length s ≤ x .end → r ≡ integerBy s (x .value) → r ≡ integer s
-    integer-whole h e =
-        let l : p ≤ length s = omega (arith, sign-within s) in
-        e ∙ rw (run-value s p q h l, start-is) (integer-by-is s (rw (← start-is) (run-whole s p q h l)))
+  pub integer-whole : {r : SignedValue} → length s ≤ x .end → r ≡ integerBy s (x .value) → r ≡ integer s
+  integer-whole h e =
+      let l : p ≤ length s = omega (arith, sign-within s) in
+      e ∙ rw (run-value (2 ^ 64 - 1) s p q h l, start-is) (integer-by-is s (rw (← start-is) (run-whole (2 ^ 64 - 1) s p q h l)))
 
 -- a number that is read is within its width
 pub natural-fits : (s : List ℕ) (greatest n : ℕ) {r : Value} → r ≡ natural greatest s → r ≡ Number n → n ≤ greatest

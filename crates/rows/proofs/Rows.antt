@@ -10,13 +10,13 @@ use native.Mathlib.Omega.{arith}
 use borrow.Author.Tests.{eq-eqb, ne-eqb, lt-ltb, le-ltb}
 use lib.ListN.{length, drop}
 use lib.IntN.{ℤ}
-use mir.Syntax.{w16, w32, w64}
-use mir.Val.{Fits, SFits, toZ, ofZ}
+use mir.Syntax.{w16, w64}
+use mir.Val.{Fits, toZ, ofZ}
 use mir.Facts.{toZ-ofZ}
 use denote.Enum.Declared.{tagOf}
-use Rattle.csv.specs.Grammar.{Record, recordOf, alike}
+use Rattle.csv.specs.Grammar.{recordOf, alike}
 use Rattle.csv.specs.declared.Ending.{Ending}
-use Rattle.csv.specs.Place.{splitOf, noPlaces, noted, startsOf, stopsOf, fieldAt}
+use Rattle.csv.specs.Place.{splitOf, noPlaces, fieldAt}
 use Rattle.csv.specs.declared.Split.{Split}
 use Rattle.csv.proofs.Splits.{split-field}
 use Rattle.numbers.specs.declared.Value.{Value}
@@ -25,9 +25,10 @@ use Rattle.numbers.specs.declared.SignedValue.{SignedValue}
 use Rattle.numbers.specs.declared.SignedValue.the-variants.{Number as Signed, Missing as NoSigned, Bad as BadSigned}
 use Rattle.numbers.proofs.Value.{the-type}
 use Rattle.numbers.proofs.SignedValue as signed-enum
+use Rattle.numbers.proofs.Numbers.{NoNumber}
 use Rattle.cells.specs.Cell.{unsigned, signed}
 use Rattle.cells.proofs.Fields.{unsigned-fits, signed-fits}
-use Rattle.rows.specs.Row.{blockFields, loopFields, Verdict, taken, fault, needed, neededSigned, orMissing, turnOf, inTurn, blockCells, blockRow, loopCells, loopRow}
+use Rattle.rows.specs.Row.{blockFields, loopFields, Verdict, fault, needed, neededSigned, orMissing, turnOf, inTurn, blockCells, blockRow, loopCells, loopRow}
 use Rattle.rows.specs.Judge.{fieldOf, judgeBlock, judgeLoop}
 use Rattle.rows.specs.Place.{blockVerdict, blockStep, loopVerdict, loopStep, AtMost, SignedFits, BlockFits, LoopFits}
 use Rattle.rows.specs.declared.Turn.{Turn}
@@ -49,22 +50,23 @@ pub signed-in : {u w : List ℕ} {v : SignedValue} → u ≡ w → v ≡ signed 
 signed-in e q = q ∙ ap signed e
 
 -- an answer that is no number
-abbrev pub None : Value → Type 0
-None v = (tagOf the-type v ≡ 1) ⊎ (tagOf the-type v ≡ 2)
+abbrev pub NoSignedNumber : SignedValue → Type 0
+NoSignedNumber v = (z : ℤ) → v ≡ Signed z → ⊥
 
-abbrev pub NoneSigned : SignedValue → Type 0
-NoneSigned v = (tagOf signed-enum.the-type v ≡ 1) ⊎ (tagOf signed-enum.the-type v ≡ 2)
+pub no-signed-number : (v : SignedValue) → (tagOf signed-enum.the-type v ≡ 1) ⊎ (tagOf signed-enum.the-type v ≡ 2) → NoSignedNumber v
+no-signed-number (Signed y) (inl e) z q = absurd (omega arith)
+no-signed-number (Signed y) (inr e) z q = absurd (omega arith)
+no-signed-number NoSigned h z q = absurd (let y : _≡_ {A = ℕ} 0 1 = cc in omega arith)
+no-signed-number BadSigned h z q = absurd (let y : _≡_ {A = ℕ} 0 1 = cc in omega arith)
 
 module _ {A : Type 0} where
-  needed-none : (v : Value) (f : ℕ → Verdict A) → None v → needed v f ≡ fault 104
-  needed-none (Number n) f (inl e) = absurd (omega arith)
-  needed-none (Number n) f (inr e) = absurd (omega arith)
+  needed-none : (v : Value) (f : ℕ → Verdict A) → NoNumber v → needed v f ≡ fault 104
+  needed-none (Number n) f h = absurd (h n refl)
   needed-none Missing f h = refl
   needed-none Bad f h = refl
 
-  signed-none : (v : SignedValue) (f : ℤ → Verdict A) → NoneSigned v → neededSigned v f ≡ fault 104
-  signed-none (Signed z) f (inl e) = absurd (omega arith)
-  signed-none (Signed z) f (inr e) = absurd (omega arith)
+  signed-none : (v : SignedValue) (f : ℤ → Verdict A) → NoSignedNumber v → neededSigned v f ≡ fault 104
+  signed-none (Signed z) f h = absurd (h z refl)
   signed-none NoSigned f h = refl
   signed-none BadSigned f h = refl
 
@@ -116,16 +118,13 @@ at-most : (greatest : ℕ) (w : List ℕ) → AtMost greatest (unsigned greatest
 at-most greatest w n e = unsigned-fits w greatest n refl e
 
 pub block-fits : {x : BlockCells} (w : ℕ → List ℕ) → x ≡ blockCells w → BlockFits x
-block-fits w e = rw e (record { number = at-most 65535 (w 0); cost = at-most (2 ^ 32 - 1) (w 1); innermost = at-most 65535 (w 2); first = at-most 65534 (w 3); second = at-most 65534 (w 4); figure = λ z e. signed-fits (w 5) z refl e })
+block-fits w e = rw e (record { number = at-most 65535 (w 0); innermost = at-most 65535 (w 2); first = at-most 65534 (w 3); second = at-most 65534 (w 4); figure = λ z e. signed-fits (w 5) z refl e })
 
 pub loop-fits : {x : LoopCells} (w : ℕ → List ℕ) → x ≡ loopCells w → LoopFits x
-loop-fits w e = rw e (record { number = at-most 65535 (w 0); parent = at-most 65535 (w 1); header = at-most 65535 (w 2); limit = at-most (2 ^ 32 - 1) (w 3) })
+loop-fits w e = rw e (record { number = at-most 65535 (w 0); parent = at-most 65535 (w 1); header = at-most 65535 (w 2) })
 
 pub fits16 : {v : Value} → AtMost 65535 v → (n : ℕ) → v ≡ Number n → Fits w16 n
 fits16 h n e = record { fits = omega (arith, h n e) }
-
-pub fits32 : {v : Value} → AtMost (2 ^ 32 - 1) v → (n : ℕ) → v ≡ Number n → Fits w32 n
-fits32 h n e = record { fits = omega (arith, h n e) }
 
 pub fits-missing : (v : Value) → AtMost 65534 v → {u : Value} → u ≡ orMissing v → (n : ℕ) → u ≡ Number n → Fits w16 n
 fits-missing v h {u} q n e = go v h (sym e ∙ q)
@@ -137,32 +136,32 @@ fits-missing v h {u} q n e = go v h (sym e ∙ q)
 
 -- Each way through `block_row`, over the cells x: one level for each cell that is a number.
 module _ (room k : ℕ) (alike : Bool) (x : BlockCells) where
-  pub block-0 : None (x .number) → BlockFault 104 ≡ blockVerdict (blockRow room k alike x)
+  pub block-0 : NoNumber (x .number) → BlockFault 104 ≡ blockVerdict (blockRow room k alike x)
   unfolding blockRow
   block-0 f = rw (needed-none (x .number) _ f)
 
   module _ (n : ℕ) (e₀ : x .number ≡ Number n) where
-    pub block-1 : None (x .cost) → BlockFault 104 ≡ blockVerdict (blockRow room k alike x)
+    pub block-1 : NoNumber (x .cost) → BlockFault 104 ≡ blockVerdict (blockRow room k alike x)
     unfolding blockRow
     block-1 f = rw (e₀, needed-none (x .cost) _ f)
 
     module _ (c : ℕ) (e₁ : x .cost ≡ Number c) where
-      pub block-2 : None (x .innermost) → BlockFault 104 ≡ blockVerdict (blockRow room k alike x)
+      pub block-2 : NoNumber (x .innermost) → BlockFault 104 ≡ blockVerdict (blockRow room k alike x)
       unfolding blockRow
       block-2 f = rw (e₀, e₁, needed-none (x .innermost) _ f)
 
       module _ (l : ℕ) (e₂ : x .innermost ≡ Number l) {v₃ : Value} (q₃ : v₃ ≡ orMissing (x .first)) where
-        pub block-3 : None v₃ → BlockFault 104 ≡ blockVerdict (blockRow room k alike x)
+        pub block-3 : NoNumber v₃ → BlockFault 104 ≡ blockVerdict (blockRow room k alike x)
         unfolding blockRow
         block-3 f = rw (e₀, e₁, e₂, ← q₃, needed-none v₃ _ f)
 
         module _ (a : ℕ) (e₃ : v₃ ≡ Number a) {v₄ : Value} (q₄ : v₄ ≡ orMissing (x .second)) where
-          pub block-4 : None v₄ → BlockFault 104 ≡ blockVerdict (blockRow room k alike x)
+          pub block-4 : NoNumber v₄ → BlockFault 104 ≡ blockVerdict (blockRow room k alike x)
           unfolding blockRow
           block-4 f = rw (e₀, e₁, e₂, ← q₃, e₃, ← q₄, needed-none v₄ _ f)
 
           module _ (b : ℕ) (e₄ : v₄ ≡ Number b) where
-            pub block-5 : NoneSigned (x .figure) → BlockFault 104 ≡ blockVerdict (blockRow room k alike x)
+            pub block-5 : NoSignedNumber (x .figure) → BlockFault 104 ≡ blockVerdict (blockRow room k alike x)
             unfolding blockRow
             block-5 f = rw (e₀, e₁, e₂, ← q₃, e₃, ← q₄, e₄, signed-none (x .figure) _ f)
 
@@ -172,27 +171,27 @@ module _ (room k : ℕ) (alike : Bool) (x : BlockCells) where
 
 -- The same of `loop_row`.
 module _ (room k : ℕ) (alike : Bool) (x : LoopCells) where
-  pub loop-0 : None (x .number) → LoopFault 104 ≡ loopVerdict (loopRow room k alike x)
+  pub loop-0 : NoNumber (x .number) → LoopFault 104 ≡ loopVerdict (loopRow room k alike x)
   unfolding loopRow
   loop-0 f = rw (needed-none (x .number) _ f)
 
   module _ (n : ℕ) (e₀ : x .number ≡ Number n) where
-    pub loop-1 : None (x .parent) → LoopFault 104 ≡ loopVerdict (loopRow room k alike x)
+    pub loop-1 : NoNumber (x .parent) → LoopFault 104 ≡ loopVerdict (loopRow room k alike x)
     unfolding loopRow
     loop-1 f = rw (e₀, needed-none (x .parent) _ f)
 
     module _ (p : ℕ) (e₁ : x .parent ≡ Number p) where
-      pub loop-2 : None (x .header) → LoopFault 104 ≡ loopVerdict (loopRow room k alike x)
+      pub loop-2 : NoNumber (x .header) → LoopFault 104 ≡ loopVerdict (loopRow room k alike x)
       unfolding loopRow
       loop-2 f = rw (e₀, e₁, needed-none (x .header) _ f)
 
       module _ (h : ℕ) (e₂ : x .header ≡ Number h) where
-        pub loop-3 : None (x .limit) → LoopFault 104 ≡ loopVerdict (loopRow room k alike x)
+        pub loop-3 : NoNumber (x .limit) → LoopFault 104 ≡ loopVerdict (loopRow room k alike x)
         unfolding loopRow
         loop-3 f = rw (e₀, e₁, e₂, needed-none (x .limit) _ f)
 
         module _ (l : ℕ) (e₃ : x .limit ≡ Number l) where
-          pub loop-4 : None (x .multiplier) → LoopFault 104 ≡ loopVerdict (loopRow room k alike x)
+          pub loop-4 : NoNumber (x .multiplier) → LoopFault 104 ≡ loopVerdict (loopRow room k alike x)
           unfolding loopRow
           loop-4 f = rw (e₀, e₁, e₂, e₃, needed-none (x .multiplier) _ f)
 

@@ -1,5 +1,5 @@
 -- What the functions answer at a position of the text, by the definitions of Judge.
-use Prim.Native.Nat.{ℕ, _+_, _-_, _^_, _≤_, _<_}
+use Prim.Native.Nat.{ℕ, _+_, _-_, _≤_, _<_}
 use mathlib.Core.Path.{_≡_}
 use mathlib.Core.Bool.{true}
 use mathlib.Core.List.{List}
@@ -13,6 +13,7 @@ use Rattle.numbers.specs.declared.Value.{Value}
 use Rattle.numbers.specs.declared.Value.the-variants.{Number}
 use Rattle.numbers.specs.declared.SignedValue.{SignedValue}
 use Rattle.numbers.specs.declared.SignedValue.the-variants.{Number as Signed}
+use Rattle.numbers.specs.Digits.{asValue}
 use Rattle.cells.specs.Cell.{unsigned, signed}
 use Rattle.rows.specs.Row.{Verdict, taken, fault, blockFields, blockCells}
 use Rattle.rows.specs.Judge.{fieldOf, judgeBlock, judgeLoop}
@@ -21,6 +22,7 @@ use Rattle.rows.specs.declared.BlockRow.{BlockRow}
 use Rattle.rows.specs.declared.BlockVerdict.{BlockVerdict}
 use Rattle.rows.specs.declared.BlockVerdict.the-variants.{Taken, Fault}
 use Rattle.rows.specs.declared.BlockStep.{BlockStep}
+use Rattle.rows.specs.declared.LoopValues.{LoopValues}
 use Rattle.rows.specs.declared.LoopCells.{LoopCells}
 use Rattle.rows.specs.declared.LoopRow.{LoopRow}
 use Rattle.rows.specs.declared.LoopVerdict.{LoopVerdict}
@@ -49,7 +51,11 @@ blockStep room first k p r = record { verdict = blockVerdict (judgeBlock room fi
 abbrev pub loopStep : ℕ → Ending → ℕ → ℕ → Record → LoopStep
 loopStep room first k p r = record { verdict = loopVerdict (judgeLoop room first k r); next = p + r .bytes }
 
--- numbers that fit the columns of their fields
+-- The same values as the cells of Row: in definitions a number has no width.
+abbrev pub asLoopCells : LoopValues → LoopCells
+asLoopCells x = record { number = x .number; parent = x .parent; header = x .header; limit = x .limit; multiplier = asValue (x .multiplier) }
+
+-- Numbers that fit the columns of their fields. A cost and a limit need no such fact: a `Value` has 32 bits, as their columns have.
 abbrev pub AtMost : ℕ → Value → Type 0
 AtMost greatest v = (n : ℕ) → v ≡ Number n → n ≤ greatest
 
@@ -58,7 +64,6 @@ SignedFits v = (z : ℤ) → v ≡ Signed z → SFits w64 z
 
 pub record BlockFits (x : BlockCells) : Type 0 where
   pub number : AtMost 65535 (x .number)
-  pub cost : AtMost (2 ^ 32 - 1) (x .cost)
   pub innermost : AtMost 65535 (x .innermost)
   pub first : AtMost 65534 (x .first)
   pub second : AtMost 65534 (x .second)
@@ -68,7 +73,6 @@ pub record LoopFits (x : LoopCells) : Type 0 where
   pub number : AtMost 65535 (x .number)
   pub parent : AtMost 65535 (x .parent)
   pub header : AtMost 65535 (x .header)
-  pub limit : AtMost (2 ^ 32 - 1) (x .limit)
 
 -- what is known of a field that one scan found and read: it ends at e, where its comma stands
 pub record CommaField (s : List ℕ) (at e greatest : ℕ) (v : Value) : Type 0 where

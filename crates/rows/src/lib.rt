@@ -4,13 +4,15 @@ ghost use Prim.Native.Nat.{_≤_};
 ghost use lib.ListN.{length, drop};
 ghost use Rattle.csv.specs.Grammar.{recordOf};
 ghost use Rattle.csv.specs.Place.{fieldAt};
+ghost use Rattle.numbers.specs.Digits.{asValue};
 ghost use Rattle.cells.specs.Cell.{unsigned, signed};
 ghost use Rattle.rows.specs.Row.{orMissing, turnOf, inTurn, blockCells, blockRow, loopCells, loopRow};
-ghost use Rattle.rows.specs.Place.{blockVerdict, blockStep, loopVerdict, loopStep, BlockFits, LoopFits, CommaAt, LastAt, ShortAt};
+ghost use Rattle.rows.specs.Place.{blockVerdict, blockStep, asLoopCells, loopVerdict, loopStep, BlockFits, LoopFits, CommaAt, LastAt, ShortAt};
 use csv::Ending;
 use csv::Found;
 use numbers::SignedValue;
 use numbers::Value;
+use numbers::WideValue;
 
 // Fields of a record in each table.
 pub const BLOCK_FIELDS: usize = 6;
@@ -67,7 +69,16 @@ pub enum ShortBlock {
     Other,
 }
 
-// What the five fields of a loop say.
+// What the five fields of a loop say. Only a multiplier may need 64 bits.
+pub struct LoopValues {
+    pub number: Value,
+    pub parent: Value,
+    pub header: Value,
+    pub limit: Value,
+    pub multiplier: WideValue,
+}
+
+// The same for contracts alone, where a number has no width. In the code a multiplier does not fit a `Value`.
 pub struct LoopCells {
     pub number: Value,
     pub parent: Value,
@@ -118,8 +129,8 @@ fn u32_in(text: &[u8], starts: &[usize; 8], ends: &[usize; 8], i: usize) -> Valu
     cells::u32_of(csv::find_field(text, starts, ends, i))
 }
 
-fn u64_in(text: &[u8], starts: &[usize; 8], ends: &[usize; 8], i: usize) -> Value
-    ensures { λ r. ⌜ r ≡ unsigned 18446744073709551615 (fieldAt (now (text .entry)) (now (starts .entry)) (now (ends .entry)) i) ⌝ }
+fn u64_in(text: &[u8], starts: &[usize; 8], ends: &[usize; 8], i: usize) -> WideValue
+    ensures { λ r. ⌜ asValue r ≡ unsigned 18446744073709551615 (fieldAt (now (text .entry)) (now (starts .entry)) (now (ends .entry)) i) ⌝ }
 {
     cells::u64_of(csv::find_field(text, starts, ends, i))
 }
@@ -212,7 +223,7 @@ fn block_row(cells: BlockCells, k: usize, room: usize, alike: bool) -> BlockVerd
     };
     let row = BlockRow {
         number: number as u16,
-        cost: cost as u32,
+        cost,
         innermost: innermost as u16,
         first: first as u16,
         second: second as u16,
@@ -221,36 +232,36 @@ fn block_row(cells: BlockCells, k: usize, room: usize, alike: bool) -> BlockVerd
     placed_block(row, k, room, alike)
 }
 
-// The loop that the cells say, where row k is due.
-fn loop_row(cells: LoopCells, k: usize, room: usize, alike: bool) -> LoopVerdict
-    requires { ⌜ LoopFits cells ⌝ }
-    ensures { λ r. ⌜ r ≡ loopVerdict (loopRow room k alike cells) ⌝ }
+// The loop that the values say, where row k is due.
+fn loop_row(values: LoopValues, k: usize, room: usize, alike: bool) -> LoopVerdict
+    requires { ⌜ LoopFits (asLoopCells values) ⌝ }
+    ensures { λ r. ⌜ r ≡ loopVerdict (loopRow room k alike (asLoopCells values)) ⌝ }
 {
-    let number = cells.number;
+    let number = values.number;
     let Value::Number(number) = number else {
         return LoopVerdict::Fault(104);
     };
-    let parent = cells.parent;
+    let parent = values.parent;
     let Value::Number(parent) = parent else {
         return LoopVerdict::Fault(104);
     };
-    let header = cells.header;
+    let header = values.header;
     let Value::Number(header) = header else {
         return LoopVerdict::Fault(104);
     };
-    let limit = cells.limit;
+    let limit = values.limit;
     let Value::Number(limit) = limit else {
         return LoopVerdict::Fault(104);
     };
-    let multiplier = cells.multiplier;
-    let Value::Number(multiplier) = multiplier else {
+    let multiplier = values.multiplier;
+    let WideValue::Number(multiplier) = multiplier else {
         return LoopVerdict::Fault(104);
     };
     let row = LoopRow {
         number: number as u16,
         parent: parent as u16,
         header: header as u16,
-        limit: limit as u32,
+        limit,
         multiplier,
     };
     placed_loop(row, k, room, alike)
@@ -271,10 +282,10 @@ fn block_cells(text: &[u8], starts: &[usize; 8], ends: &[usize; 8]) -> BlockCell
     }
 }
 
-fn loop_cells(text: &[u8], starts: &[usize; 8], ends: &[usize; 8]) -> LoopCells
-    ensures { λ r. ⌜ r ≡ loopCells (fieldAt (now (text .entry)) (now (starts .entry)) (now (ends .entry))) ⌝ }
+fn loop_values(text: &[u8], starts: &[usize; 8], ends: &[usize; 8]) -> LoopValues
+    ensures { λ r. ⌜ asLoopCells r ≡ loopCells (fieldAt (now (text .entry)) (now (starts .entry)) (now (ends .entry))) ⌝ }
 {
-    LoopCells {
+    LoopValues {
         number: u16_in(text, starts, ends, 0),
         parent: u16_in(text, starts, ends, 1),
         header: u16_in(text, starts, ends, 2),
@@ -318,10 +329,10 @@ pub fn loop_at(text: &[u8], at: usize, k: usize, room: usize, ending: Ending) ->
         }
         let starts = split.starts;
         let ends = split.ends;
-        let cells = loop_cells(text, &starts, &ends);
+        let values = loop_values(text, &starts, &ends);
         let own = split.ending;
         let alike = csv::ends_alike(ending, own);
-        let verdict = loop_row(cells, k, room, alike);
+        let verdict = loop_row(values, k, room, alike);
         return LoopStep { verdict, next };
     }
     let verdict = LoopVerdict::Fault(102);
@@ -331,7 +342,7 @@ pub fn loop_at(text: &[u8], at: usize, k: usize, room: usize, ending: Ending) ->
 // ---- the short way: one scan finds and reads each field
 
 // A field of digits alone that a comma follows.
-fn comma_cell(text: &[u8], at: usize, greatest: u64) -> CommaCell
+fn comma_cell(text: &[u8], at: usize, greatest: u32) -> CommaCell
     ensures { λ r. ⌜ CommaAt (now (text .entry)) at greatest r ⌝ }
 {
     let cell = cells::number_cell(text, at, greatest);
@@ -344,7 +355,7 @@ fn comma_cell(text: &[u8], at: usize, greatest: u64) -> CommaCell
 }
 
 // The same of a field that must be a number: any other needs the long way.
-fn number_field(text: &[u8], at: usize, greatest: u64) -> CommaCell
+fn number_field(text: &[u8], at: usize, greatest: u32) -> CommaCell
     ensures { λ r. ⌜ CommaAt (now (text .entry)) at greatest r ⌝ }
 {
     let CommaCell::Field(value, end) = comma_cell(text, at, greatest) else {

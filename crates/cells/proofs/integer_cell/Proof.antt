@@ -5,7 +5,7 @@ use Rattle.cells.proofs.integer_cell.Tie as tie
 use Rattle.cells.proofs.integer_cell.Reads as reads
 use Rattle.cells.proofs.integer_cell.Lts as lts
 use Rattle.cells.proofs.found_after.Reads as found-after-reads
-use Rattle.numbers.proofs.digit_run.Reads as digit-run-reads
+use Rattle.numbers.proofs.wide_run.Reads as wide-run-reads
 use Rattle.numbers.proofs.digits_start.Reads as digits-start-reads
 use Rattle.numbers.proofs.integer_by.Reads as integer-by-reads
 
@@ -15,8 +15,8 @@ returns c = search signed-over
 digits-start-requires : tie.Need-digits-start-requires
 digits-start-requires c κs = search needs
 
-digit-run-requires : tie.Need-digit-run-requires
-digit-run-requires c κs = search needs
+wide-run-requires : tie.Need-wide-run-requires
+wide-run-requires c κs = search needs
 
 sub-integer-by : tie.Need-sub-integer-by
 sub-integer-by c = search (signed-from, needs)
@@ -42,7 +42,7 @@ integer-cell-spec =
     (tie.spec
     returns
     digits-start-requires
-    digit-run-requires
+    wide-run-requires
     sub-integer-by
     part-integer-by-start
     part-integer-by-end

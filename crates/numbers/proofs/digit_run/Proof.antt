@@ -1,8 +1,7 @@
-use Rattle.numbers.proofs.Digits.{runAfter, none-over, none-low, none-high, run-here, run-on, run-wide, no-overflow}
+use Rattle.numbers.proofs.Digits.{runAfter, none-over, none-low, none-high, run-here, run-on, run-past, within-width, product-fits, sum-fits}
 use Prim.Native.Nat.{_≤_, _-_, _^_}
 use mathlib.Core.Path.{_≡_}
-use native.Mathlib.Omega.{arith}
-use lib.ListN.{length, drop, getD}
+use lib.ListN.{length, drop}
 use Rattle.numbers.specs.Digits.{runAt}
 use borrow.Author.Needs.{needs}
 use Rattle.numbers.proofs.digit_run.Statement.{statement}
@@ -13,7 +12,7 @@ use Rattle.numbers.proofs.digits_end.Reads as digits-end-reads
 use Rattle.numbers.proofs.overflows.Reads as overflows-reads
 
 abbrev Inv-loop : tie.InvT-loop
-Inv-loop text at n₀ i₀ n i = (n ≤ 2 ^ 64 - 1) × (runAt at (drop at text) ≡ runAfter n i (drop i text))
+Inv-loop text at n₀ i₀ n i = (n ≤ 2 ^ 32 - 1) × (runAt (2 ^ 32 - 1) at (drop at text) ≡ runAfter (2 ^ 32 - 1) n i (drop i text))
 
 abbrev μ-loop : tie.MeasureT-loop
 μ-loop text at n₀ i₀ n i = length text - i
@@ -43,13 +42,13 @@ digits-end-requires : tie.Need-digits-end-requires Inv-loop μ-loop
 digits-end-requires c κs = search needs
 
 returns-3 : tie.Need-returns-3 Inv-loop μ-loop
-returns-3 c = search run-wide
+returns-3 c = search run-past
 
 mul-n : tie.Need-mul-n Inv-loop μ-loop
-mul-n c = let fits = no-overflow (c .before .before .before .before .before .before .loop .n) (getD (c .before .before .before .before .before .before .before .before .args .text .now) (c .before .before .before .before .before .before .loop .i) 0 - 48) (c .before .overflows .ensures) (c .if3 .left) in omega (arith, fits)
+mul-n c = search product-fits
 
 add-n : tie.Need-add-n Inv-loop μ-loop
-add-n c = let fits = no-overflow (c .before .before .before .before .before .before .loop .n) (getD (c .before .before .before .before .before .before .before .before .args .text .now) (c .before .before .before .before .before .before .loop .i) 0 - 48) (c .before .overflows .ensures) (c .if3 .left) in omega (arith, fits)
+add-n c = search sum-fits
 
 add-i : tie.Need-add-i Inv-loop μ-loop
 add-i c = search needs
@@ -58,7 +57,7 @@ loop-less : tie.Need-loop-less Inv-loop μ-loop
 loop-less c = search needs
 
 loop-again : tie.Need-loop-again Inv-loop μ-loop
-loop-again c = (search no-overflow, search run-on)
+loop-again c = (search within-width, search run-on)
 
 returns-4 : tie.Need-returns-4 Inv-loop μ-loop
 returns-4 c = search (run-here, none-over)

@@ -1,10 +1,10 @@
-use Rattle.numbers.proofs.Numbers.{integer-none, integer-no-number, integer-minus-zero, minus-cast, minus-sub, integer-negative, plus-cast, integer-positive, integer-missing, integer-bad}
+use Rattle.numbers.proofs.Numbers.{as-number, no-number-wide, integer-none, integer-not-minus, integer-minus-zero, minus-cast, minus-sub, integer-negative, integer-not-plus, plus-cast, integer-positive}
 use borrow.Author.Needs.{needs}
 use Rattle.numbers.proofs.integer_by.Statement.{statement}
 use Rattle.numbers.proofs.integer_by.Tie as tie
 use Rattle.numbers.proofs.integer_by.Reads as reads
 use Rattle.numbers.proofs.integer_by.Lts as lts
-use Rattle.numbers.proofs.natural_by.Reads as natural-by-reads
+use Rattle.numbers.proofs.wide_by.Reads as wide-by-reads
 
 returns : tie.Need-returns
 returns c = search integer-none
@@ -12,62 +12,53 @@ returns c = search integer-none
 shared-slice-read-if2 : tie.Need-shared-slice-read-if2
 shared-slice-read-if2 c = search needs
 
-sub-natural-by : tie.Need-sub-natural-by
-sub-natural-by c = search needs
+sub-wide-by : tie.Need-sub-wide-by
+sub-wide-by c = search needs
 
-part-natural-by-start : tie.Need-part-natural-by-start
-part-natural-by-start c = search needs
+part-wide-by-start : tie.Need-part-wide-by-start
+part-wide-by-start c = search needs
 
-part-natural-by-end : tie.Need-part-natural-by-end
-part-natural-by-end c = search needs
+part-wide-by-end : tie.Need-part-wide-by-end
+part-wide-by-end c = search needs
 
-natural-by-requires : tie.Need-natural-by-requires
-natural-by-requires c κs = search needs
+wide-by-requires : tie.Need-wide-by-requires
+wide-by-requires c κs = search needs
 
 enum-known-n : tie.Need-enum-known-n
 enum-known-n c = search needs
 
 returns-2 : tie.Need-returns-2
-returns-2 c = search integer-no-number
+returns-2 c = search (integer-not-minus, no-number-wide)
 
 returns-3 : tie.Need-returns-3
-returns-3 c = search integer-minus-zero
+returns-3 c = search (integer-minus-zero, as-number)
 
 sub-m : tie.Need-sub-m
 sub-m c = search needs
 
 cast-m : tie.Need-cast-m
-cast-m c = search minus-cast
+cast-m c = search (minus-cast, as-number)
 
 sub-t17 : tie.Need-sub-t17
-sub-t17 c = search minus-sub
+sub-t17 c = search (minus-sub, as-number)
 
 returns-4 : tie.Need-returns-4
-returns-4 c = search integer-negative
+returns-4 c = search (integer-negative, as-number)
 
-natural-by-requires-2 : tie.Need-natural-by-requires-2
-natural-by-requires-2 c κs = search needs
+wide-by-requires-2 : tie.Need-wide-by-requires-2
+wide-by-requires-2 c κs = search needs
 
 enum-known-n-2 : tie.Need-enum-known-n-2
 enum-known-n-2 c = search needs
 
-cast-t20 : tie.Need-cast-t20
-cast-t20 c = search plus-cast
-
-enum-told : tie.Need-enum-told
-enum-told c = search needs
-
-enum-told-2 : tie.Need-enum-told-2
-enum-told-2 c = search needs
-
 returns-5 : tie.Need-returns-5
-returns-5 c = search integer-positive
+returns-5 c = search (integer-not-plus, no-number-wide)
+
+cast-t19 : tie.Need-cast-t19
+cast-t19 c = search (plus-cast, as-number)
 
 returns-6 : tie.Need-returns-6
-returns-6 c = search integer-missing
-
-returns-7 : tie.Need-returns-7
-returns-7 c = search integer-bad
+returns-6 c = search (integer-positive, as-number)
 
 pub integer-by-spec : {M : Type 1} → statement M
 integer-by-spec =
@@ -75,10 +66,10 @@ integer-by-spec =
     (tie.spec
     returns
     shared-slice-read-if2
-    sub-natural-by
-    part-natural-by-start
-    part-natural-by-end
-    natural-by-requires
+    sub-wide-by
+    part-wide-by-start
+    part-wide-by-end
+    wide-by-requires
     enum-known-n
     returns-2
     returns-3
@@ -86,11 +77,8 @@ integer-by-spec =
     cast-m
     sub-t17
     returns-4
-    natural-by-requires-2
+    wide-by-requires-2
     enum-known-n-2
-    cast-t20
-    enum-told
-    enum-told-2
     returns-5
-    returns-6
-    returns-7)
+    cast-t19
+    returns-6)

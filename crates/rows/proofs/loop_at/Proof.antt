@@ -6,7 +6,7 @@ use Rattle.rows.proofs.loop_at.Reads as reads
 use Rattle.rows.proofs.loop_at.Lts as lts
 use Rattle.csv.proofs.scan_record.Reads as scan-record-reads
 use Rattle.csv.proofs.ends_alike.Reads as ends-alike-reads
-use Rattle.rows.proofs.loop_cells.Reads as loop-cells-reads
+use Rattle.rows.proofs.loop_values.Reads as loop-values-reads
 use Rattle.rows.proofs.loop_row.Reads as loop-row-reads
 
 scan-record-requires : tie.Need-scan-record-requires
@@ -15,8 +15,8 @@ scan-record-requires c κs = search needs
 returns : tie.Need-returns
 returns c = search loop-count
 
-loop-cells-requires : tie.Need-loop-cells-requires
-loop-cells-requires c κs = search needs
+loop-values-requires : tie.Need-loop-values-requires
+loop-values-requires c κs = search needs
 
 ends-alike-requires : tie.Need-ends-alike-requires
 ends-alike-requires c κs = search needs
@@ -36,7 +36,7 @@ loop-at-spec =
     (tie.spec
     scan-record-requires
     returns
-    loop-cells-requires
+    loop-values-requires
     ends-alike-requires
     loop-row-requires
     returns-2

@@ -1,9 +1,9 @@
 use Rattle.rows.proofs.Rows.{loop-cells}
 use borrow.Author.Needs.{needs}
-use Rattle.rows.proofs.loop_cells.Statement.{statement}
-use Rattle.rows.proofs.loop_cells.Tie as tie
-use Rattle.rows.proofs.loop_cells.Reads as reads
-use Rattle.rows.proofs.loop_cells.Lts as lts
+use Rattle.rows.proofs.loop_values.Statement.{statement}
+use Rattle.rows.proofs.loop_values.Tie as tie
+use Rattle.rows.proofs.loop_values.Reads as reads
+use Rattle.rows.proofs.loop_values.Lts as lts
 use Rattle.rows.proofs.u16_in.Reads as u16-in-reads
 use Rattle.rows.proofs.u32_in.Reads as u32-in-reads
 use Rattle.rows.proofs.u64_in.Reads as u64-in-reads
@@ -26,8 +26,8 @@ u64-in-requires c κs = search needs
 returns : tie.Need-returns
 returns c = search loop-cells
 
-pub loop-cells-spec : {M : Type 1} → statement M
-loop-cells-spec =
+pub loop-values-spec : {M : Type 1} → statement M
+loop-values-spec =
     tie.close
     (tie.spec
     u16-in-requires
