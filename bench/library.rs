@@ -1,4 +1,6 @@
 // The C library.
+#[cfg(before)]
+use crate::routine::Loops;
 use crate::routine::{Blocks, Routine};
 
 #[repr(C)]
@@ -16,7 +18,19 @@ extern "C" {
         cost: *mut u32, cost_length: usize, loops: *mut u16, loops_length: usize, first: *mut u16, first_length: usize,
         second: *mut u16, second_length: usize, figure: *mut i64, figure_length: usize,
     ) -> Reply;
+    #[cfg(before)]
+    fn rolkeyda_read_loops(
+        text: *const u8, text_length: usize, header: bool,
+        parent: *mut u16, parent_length: usize, block: *mut u16, block_length: usize,
+        limit: *mut u32, limit_length: usize, multiplier: *mut u64, multiplier_length: usize,
+    ) -> Reply;
     // the same of an older library, which bench/run renames
+    #[cfg(before)]
+    fn before_read_loops(
+        text: *const u8, text_length: usize, header: bool,
+        parent: *mut u16, parent_length: usize, block: *mut u16, block_length: usize,
+        limit: *mut u32, limit_length: usize, multiplier: *mut u64, multiplier_length: usize,
+    ) -> Reply;
     #[cfg(before)]
     fn before_read_blocks(
         text: *const u8, text_length: usize, header: bool,
@@ -61,6 +75,22 @@ fn read_by(read: ReadBlocks, text: &[u8], to: &mut Blocks) -> Reply {
     }
 }
 
+#[cfg(before)]
+type ReadLoops = unsafe extern "C" fn(*const u8, usize, bool, *mut u16, usize, *mut u16, usize, *mut u32, usize, *mut u64, usize) -> Reply;
+
+#[cfg(before)]
+#[rustfmt::skip]
+fn read_loops_by(read: ReadLoops, text: &[u8], to: &mut Loops) -> Reply {
+    let m = to.parent.len();
+    // SAFETY: each pointer comes with the length of its own column, and no two columns overlap.
+    unsafe {
+        read(
+            text.as_ptr(), text.len(), false, to.parent.as_mut_ptr(), m, to.header.as_mut_ptr(), m, to.limit.as_mut_ptr(), m,
+            to.multiplier.as_mut_ptr(), m,
+        )
+    }
+}
+
 pub struct Library;
 
 #[rustfmt::skip]
@@ -72,6 +102,16 @@ impl Library {
     #[cfg(before)]
     pub fn read_blocks_before(text: &[u8], to: &mut Blocks) -> Reply {
         read_by(before_read_blocks, text, to)
+    }
+
+    #[cfg(before)]
+    pub fn read_loops(text: &[u8], to: &mut Loops) -> Reply {
+        read_loops_by(rolkeyda_read_loops, text, to)
+    }
+
+    #[cfg(before)]
+    pub fn read_loops_before(text: &[u8], to: &mut Loops) -> Reply {
+        read_loops_by(before_read_loops, text, to)
     }
 
     pub fn check(t: &Routine) -> Reply {

@@ -60,7 +60,7 @@ fn compare(title: &str, (units, unit): (f64, &str), (rounds, calls): (u32, u32),
         let one = unit.trim_end_matches('s');
         print!("  {:<24} {:>10.1} us {:>9.1} M{unit}/s {:>7.2} ns/{one}", measure.name, measure.best * 1e6, rate, 1e3 / rate);
         if i > 0 {
-            print!("   ratio {:.2} (goal {:.1})", measure.best / ours, goals[i - 1]);
+            print!("   ratio {:.2} (goal {:.2})", measure.best / ours, goals[i - 1]);
         }
         println!();
     }
@@ -110,20 +110,61 @@ fn reading(routine: &Routine) {
         ],
     );
     #[cfg(before)]
-    {
-        assert_eq!(Library::read_blocks_before(cr_lf.as_bytes(), &mut theirs).value, 1024);
-        assert!(theirs == routine.blocks);
-        compare(
-            "reading CR LF line ends, beside the older library",
-            (1024.0, "rows"),
-            (400, 5),
-            &[1.0],
-            &mut [
-                Measure::new("rolkeyda_read_blocks", || keep(Library::read_blocks(black_box(cr_lf.as_bytes()), &mut ours))),
-                Measure::new("before", || keep(Library::read_blocks_before(black_box(cr_lf.as_bytes()), &mut theirs))),
-            ],
-        );
-    }
+    reading_before(routine, &cr_lf);
+}
+
+// The block reader beside that of an older library.
+#[cfg(before)]
+fn blocks_before(title: &str, text: &str, blocks: &routine::Blocks) {
+    let mut ours = routine::Blocks::room(1024);
+    let mut theirs = routine::Blocks::room(1024);
+    assert_eq!(Library::read_blocks(text.as_bytes(), &mut ours).value, 1024);
+    assert_eq!(Library::read_blocks_before(text.as_bytes(), &mut theirs).value, 1024);
+    assert!(ours == *blocks && theirs == *blocks);
+    compare(
+        &format!("reading 1024 {title}, CR LF line ends, {} bytes, beside the older library", text.len()),
+        (1024.0, "rows"),
+        (400, 5),
+        &[0.95],
+        &mut [
+            Measure::new("rolkeyda_read_blocks", || keep(Library::read_blocks(black_box(text.as_bytes()), &mut ours))),
+            Measure::new("before", || keep(Library::read_blocks_before(black_box(text.as_bytes()), &mut theirs))),
+        ],
+    );
+}
+
+// The loop reader beside that of an older library.
+#[cfg(before)]
+fn loops_before(routine: &Routine) {
+    let text = routine.loops_csv();
+    let mut ours = routine::Loops::room(64);
+    let mut theirs = routine::Loops::room(64);
+    assert_eq!(Library::read_loops(text.as_bytes(), &mut ours).value, 64);
+    assert_eq!(Library::read_loops_before(text.as_bytes(), &mut theirs).value, 64);
+    assert!(ours == routine.loops && theirs == routine.loops);
+    compare(
+        &format!("reading 64 loops, CR LF line ends, {} bytes, beside the older library", text.len()),
+        (64.0, "rows"),
+        (400, 50),
+        &[0.95],
+        &mut [
+            Measure::new("rolkeyda_read_loops", || keep(Library::read_loops(black_box(text.as_bytes()), &mut ours))),
+            Measure::new("before", || keep(Library::read_loops_before(black_box(text.as_bytes()), &mut theirs))),
+        ],
+    );
+}
+
+// The readers beside those of an older library: plain blocks, those with costs of ten digits, those with all numbers between quote marks, which go the
+// long way, and loops.
+#[cfg(before)]
+fn reading_before(routine: &Routine, plain: &str) {
+    blocks_before("plain blocks", plain, &routine.blocks);
+    let mut wide = routine.clone();
+    wide.blocks.cost.iter_mut().for_each(|cost| *cost = u32::MAX - *cost);
+    blocks_before("plain blocks with costs of ten digits", &wide.blocks_csv(), &wide.blocks);
+    let quoted: String = plain.lines().map(|row| format!("\"{}\"\r\n", row.replace(',', "\",\"").replace("\"\"", ""))).collect();
+    blocks_before("quoted blocks", &quoted, &routine.blocks);
+    loops_before(routine);
 }
 
 // Our check beside the straight one on tables that both answer alike.

@@ -34,6 +34,13 @@ impl Blocks {
     }
 }
 
+#[cfg(before)]
+impl Loops {
+    pub fn room(m: usize) -> Loops {
+        Loops { parent: vec![0; m], header: vec![0; m], limit: vec![0; m], multiplier: vec![0; m] }
+    }
+}
+
 impl Routine {
     fn block(&mut self, inner: u16) -> usize {
         let k = self.blocks.cost.len();

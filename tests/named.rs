@@ -1,5 +1,5 @@
 //! Named tests: the marked cases of document 01, each sentence of its "Plausible and wrong", the edges of its rules, and of document 02 the
-//! line ends of request 1, the closed walks of request 2 and the solver of request 3.
+//! line ends of request 1, the closed walks of request 2, the solver of request 3 and, for request 4, numbers at the ends of every width.
 
 use crate::cycles::Graph;
 use crate::compare::Bench;
@@ -91,6 +91,7 @@ pub fn all(tally: &mut Tally) {
     marked(&mut tester);
     plausible_and_wrong(&mut tester);
     texts(&mut tester);
+    widths(&mut tester);
     line_ends(&mut tester);
     sizes(&mut tester);
     tables(&mut tester);
@@ -293,6 +294,65 @@ fn texts(t: &mut Tester) {
         t.read(&format!("loops with a header: {name}"), Table::Loops, true, &row(text), 5, *wanted);
     }
     t.read("blocks: a header on an empty text", Table::Blocks, true, b"", 5, Refused(103, 1));
+}
+
+/// Digits around 2^16, 2^32, 2^63 and 2^64, some with zeros before or after them, some that a word of 16, 32 or 64 bits would wrap to a small number, and
+/// the least and the greatest number of each count of digits.
+fn digit_texts() -> Vec<String> {
+    let mut texts = Vec::new();
+    for bits in [16, 32, 63, 64] {
+        for number in (1u128 << bits) - 3..=(1 << bits) + 4 {
+            texts.extend(["", "0", "00"].map(|zeros| format!("{zeros}{number}")));
+            texts.extend([1, 2, 10, 43, 44, 45, 54, 55].map(|more| format!("{number}{:0>more$}", "")));
+            texts.extend([42, 43, 44, 45, 52, 53, 54, 55].map(|zeros| format!("{:0>zeros$}{number}", "")));
+        }
+        texts.extend((1..=9u128).map(|turns| ((turns << bits) + turns - 1).to_string()));
+    }
+    for count in 1..=65 {
+        texts.push("9".repeat(count));
+        texts.push(format!("1{}", "0".repeat(count - 1)));
+    }
+    texts.push(String::from("0"));
+    texts
+}
+
+/// Whether digits are a number of at most `most`, which is written in digits as well: nothing is gathered here.
+fn is_within(digits: &str, most: &str) -> bool {
+    !(digits.len() > 1 && digits.starts_with('0')) && (digits.len(), digits) <= (most.len(), most)
+}
+
+/// Every field of both tables with such digits: in a plain record, between quote marks, and plain beside a quoted field.
+fn widths(t: &mut Tester) {
+    let blocks = ["65535", "4294967295", "65535", "65534", "65534", "9223372036854775807"];
+    let loops = ["65535", "65535", "65535", "4294967295", "18446744073709551615"];
+    for (table, most) in [(Table::Blocks, &blocks[..]), (Table::Loops, &loops[..])] {
+        for digits in digit_texts() {
+            for (field, most) in most.iter().enumerate() {
+                width(t, table, field, &digits, is_within(&digits, most));
+            }
+            if table == Table::Blocks {
+                width(t, table, 5, &format!("-{digits}"), digits != "0" && is_within(&digits, "9223372036854775808"));
+            }
+        }
+    }
+}
+
+/// One field with a text that is a number within its width or not, in the three forms.
+fn width(t: &mut Tester, table: Table, field: usize, text: &str, within: bool) {
+    let quoted = format!("\"{text}\"");
+    for (form, written, beside) in [("plain", text, "1"), ("quoted", &quoted, "1"), ("beside a quoted field", text, "\"1\"")] {
+        let count = if table == Table::Blocks { 6 } else { 5 };
+        let mut fields = vec![beside; count];
+        fields[0] = "0";
+        fields[field] = written;
+        let wanted = match written.len() {
+            65.. => Refused(102, 1),
+            _ if !within => Refused(104, 1),
+            _ if field == 0 && text != "0" => Refused(105, 1),
+            _ => Accepted(1, TEXT),
+        };
+        t.read(&format!("width: {table:?}, field {field}, {text}, {form}"), table, false, fields.join(",").as_bytes(), 5, wanted);
+    }
 }
 
 /// Request 1 of document 02. In these texts '|' is CR LF, H a header, Q one with line ends of all kinds in quotes, # a row after its number,

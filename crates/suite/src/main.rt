@@ -17,7 +17,7 @@ use tally::say;
 use tally::say_number;
 
 fn main() {
-    let mut text = [0u8; 65536];
+    let mut text = [0u8; 131072];
     let n = io::read_full(STDIN_FILENO, &mut text);
     let t = script::run(part(&text, 0, n), Tally::new());
     say_number(t.cases);
