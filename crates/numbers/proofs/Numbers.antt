@@ -30,6 +30,7 @@ use Rattle.numbers.specs.Number.{digit, digits, numeral, decimal, natura
 use Rattle.numbers.specs.Digits.{digitCount, numberUpTo, runAt, asValue, signCount, leadingZero, atWidth, naturalBy, integerBy}
 use Rattle.numbers.proofs.Digits.{count-digits, count-all, sign-within}
 
+-- a number of 64 bits is the same number as a `Value`
 pub as-number : {v : WideValue} (n : ℕ) → v ≡ Wide n → asValue v ≡ Number n
 as-number n e = ap asValue e
 
