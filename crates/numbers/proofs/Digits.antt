@@ -14,7 +14,7 @@ use lib.Dec.{leb, ltb, eqb}
 use mir.Syntax.{Width}
 use mir.Val.{Fits, bits}
 use Rattle.numbers.specs.Number.{digit, digits, decimal}
-use Rattle.numbers.specs.Digits.{digitCount, numberUpTo, signCount}
+use Rattle.numbers.specs.Digits.{digitCount, numberUpTo, runAt, signCount}
 use Rattle.numbers.specs.declared.Value.the-variants.{Number, Bad}
 use Rattle.numbers.specs.declared.DigitRun.{DigitRun}
 
@@ -82,6 +82,10 @@ grows n (b ∷ s) = let h : n * 10 + (b - 48) ≤ decimal (n * 10 + (b - 48)) s 
 -- the run of digits that goes on at i, after digits that wrote n, at the width that ends at g
 abbrev pub runAfter : ℕ → ℕ → ℕ → List ℕ → DigitRun
 runAfter g n i s = record { value = numberUpTo g (decimal n (take (digitCount s) s)); end = i + digitCount s }
+
+-- what holds before each turn of `digit_run` and `wide_run`, which started at `at`, with n gathered up to i
+abbrev pub Gathered : ℕ → List ℕ → ℕ → ℕ → ℕ → Type 0
+Gathered g s at n i = (n ≤ g) × (runAt g at (drop at s) ≡ runAfter g n i (drop i s))
 
 -- LAW: a turn of `digit_run` or `wide_run` at i with n gathered; x is the run from its first digit on, and g ends the width.
 module _ (g : ℕ) (s : List ℕ) (n i : ℕ) {x : DigitRun} (q : x ≡ runAfter g n i (drop i s)) where

@@ -34,21 +34,25 @@ use Rattle.numbers.proofs.Digits.{count-digits, count-all, sign-within}
 pub as-number : {v : WideValue} (n : ℕ) → v ≡ Wide n → asValue v ≡ Number n
 as-number n e = ap asValue e
 
+-- an answer whose tag is 1 or 2 is none whose tag is 0
+pub other-tag : {A : Type 0} (tag : A → ℕ) (v : A) → (tag v ≡ 1) ⊎ (tag v ≡ 2) → (c : A) → tag c ≡ 0 → v ≡ c → ⊥
+other-tag tag v (inl e) c z q = omega (arith, ap tag q)
+other-tag tag v (inr e) c z q = omega (arith, ap tag q)
+
 -- an answer that is no number
 abbrev pub NoNumber : Value → Type 0
 NoNumber v = (n : ℕ) → v ≡ Number n → ⊥
 
 pub no-number : (v : Value) → (tagOf the-type v ≡ 1) ⊎ (tagOf the-type v ≡ 2) → NoNumber v
-no-number (Number m) (inl e) n q = absurd (omega arith)
-no-number (Number m) (inr e) n q = absurd (omega arith)
-no-number Missing h n q = absurd (let z : _≡_ {A = ℕ} 0 1 = cc in omega arith)
-no-number Bad h n q = absurd (let z : _≡_ {A = ℕ} 0 1 = cc in omega arith)
+no-number v h n q = other-tag (λ (u : Value). tagOf the-type u) v h (Number n) refl q
+
+same-tag : (v : WideValue) → tagOf the-type (asValue v) ≡ tagOf wide-enum.the-type v
+same-tag (Wide n) = refl
+same-tag NoWide = refl
+same-tag BadWide = refl
 
 pub no-number-wide : (v : WideValue) → (tagOf wide-enum.the-type v ≡ 1) ⊎ (tagOf wide-enum.the-type v ≡ 2) → NoNumber (asValue v)
-no-number-wide (Wide m) (inl e) n q = absurd (omega arith)
-no-number-wide (Wide m) (inr e) n q = absurd (omega arith)
-no-number-wide NoWide h n q = absurd (let z : _≡_ {A = ℕ} 0 1 = cc in omega arith)
-no-number-wide BadWide h n q = absurd (let z : _≡_ {A = ℕ} 0 1 = cc in omega arith)
+no-number-wide v h = no-number (asValue v) (rw (same-tag v) h)
 
 -- Each way through `has_leading_zero`.
 pub short-no-zero : (w : List ℕ) → length w < 2 → false ≡ leadingZero w

@@ -43,7 +43,7 @@ unfoldable pub signCount : List ℕ → ℕ
 signCount [] = 0
 signCount (b ∷ s) = cond (eqb b 45) 1 0
 
--- digits with a leading zero, other than 0 alone
+-- "no leading zero other than 0 alone": whether digits have one
 unfoldable pub leadingZero : List ℕ → Bool
 leadingZero [] = false
 leadingZero (b ∷ []) = false
@@ -55,7 +55,7 @@ atWidth greatest (Number n) = numberUpTo greatest n
 atWidth greatest Missing = Bad
 atWidth greatest Bad = Bad
 
--- What digits alone say, where v is the number that they write. Nothing at all is missing; and "no leading zero other than 0 alone".
+-- What digits alone say, where v is the number that they write. Nothing at all is missing.
 unfoldable pub naturalBy : ℕ → List ℕ → Value → Value
 naturalBy greatest [] v = Missing
 naturalBy greatest (b ∷ s) v = cond (leadingZero (b ∷ s)) Bad (atWidth greatest v)

@@ -25,7 +25,7 @@ use Rattle.numbers.specs.declared.SignedValue.{SignedValue}
 use Rattle.numbers.specs.declared.SignedValue.the-variants.{Number as Signed, Missing as NoSigned, Bad as BadSigned}
 use Rattle.numbers.proofs.Value.{the-type}
 use Rattle.numbers.proofs.SignedValue as signed-enum
-use Rattle.numbers.proofs.Numbers.{NoNumber}
+use Rattle.numbers.proofs.Numbers.{other-tag, NoNumber}
 use Rattle.cells.specs.Cell.{unsigned, signed}
 use Rattle.cells.proofs.Fields.{unsigned-fits, signed-fits}
 use Rattle.rows.specs.Row.{blockFields, loopFields, Verdict, fault, needed, neededSigned, orMissing, turnOf, inTurn, blockCells, blockRow, loopCells, loopRow}
@@ -54,10 +54,7 @@ abbrev pub NoSignedNumber : SignedValue → Type 0
 NoSignedNumber v = (z : ℤ) → v ≡ Signed z → ⊥
 
 pub no-signed-number : (v : SignedValue) → (tagOf signed-enum.the-type v ≡ 1) ⊎ (tagOf signed-enum.the-type v ≡ 2) → NoSignedNumber v
-no-signed-number (Signed y) (inl e) z q = absurd (omega arith)
-no-signed-number (Signed y) (inr e) z q = absurd (omega arith)
-no-signed-number NoSigned h z q = absurd (let y : _≡_ {A = ℕ} 0 1 = cc in omega arith)
-no-signed-number BadSigned h z q = absurd (let y : _≡_ {A = ℕ} 0 1 = cc in omega arith)
+no-signed-number v h z q = other-tag (λ (u : SignedValue). tagOf signed-enum.the-type u) v h (Signed z) refl q
 
 module _ {A : Type 0} where
   needed-none : (v : Value) (f : ℕ → Verdict A) → NoNumber v → needed v f ≡ fault 104

@@ -1,8 +1,6 @@
-use Rattle.numbers.proofs.Digits.{runAfter, none-over, none-low, none-high, run-here, run-on, run-past, within-width, product-fits, sum-fits}
-use Prim.Native.Nat.{_≤_, _-_, _^_}
-use mathlib.Core.Path.{_≡_}
-use lib.ListN.{length, drop}
-use Rattle.numbers.specs.Digits.{runAt}
+use Rattle.numbers.proofs.Digits.{Gathered, none-over, none-low, none-high, run-here, run-on, run-past, within-width, product-fits, sum-fits}
+use Prim.Native.Nat.{_-_, _^_}
+use lib.ListN.{length}
 use borrow.Author.Needs.{needs}
 use Rattle.numbers.proofs.digit_run.Statement.{statement}
 use Rattle.numbers.proofs.digit_run.Tie as tie
@@ -12,7 +10,7 @@ use Rattle.numbers.proofs.digits_end.Reads as digits-end-reads
 use Rattle.numbers.proofs.overflows.Reads as overflows-reads
 
 abbrev Inv-loop : tie.InvT-loop
-Inv-loop text at n₀ i₀ n i = (n ≤ 2 ^ 32 - 1) × (runAt (2 ^ 32 - 1) at (drop at text) ≡ runAfter (2 ^ 32 - 1) n i (drop i text))
+Inv-loop text at n₀ i₀ n i = Gathered (2 ^ 32 - 1) text at n i
 
 abbrev μ-loop : tie.MeasureT-loop
 μ-loop text at n₀ i₀ n i = length text - i
