@@ -10,7 +10,8 @@ use lib.IntN.{ℤ, pos}
 use lib.ListN.{take}
 use Rattle.streams.specs.Calls.{Gave, FileGave, FileRead, AllRead, WroteTo}
 use Rattle.streams.specs.declared.Content.{Content}
-use Rattle.report.specs.Line.{bytes, lineOf, textOf, Ready}
+use Rattle.lists.specs.Bytes.{bytes}
+use Rattle.report.specs.Line.{lineOf, textOf, Ready}
 use Rattle.report.specs.declared.Outcome.{Outcome}
 use Rattle.report.specs.declared.Line.{Line}
 use Rattle.stages.specs.Stages.{headerOf, blocksStage, settingStage, outcomeOf, wantedBy, settingRoom, textRoom}

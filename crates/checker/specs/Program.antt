@@ -7,7 +7,8 @@ use mathlib.Core.List.{List, [], _∷_, _++_}
 use mathlib.Core.Path.{_≡_}
 use lib.IntN.{pos}
 use Rattle.streams.specs.Calls.{Gave, FileGave, WroteTo}
-use Rattle.report.specs.Line.{bytes, lineOf}
+use Rattle.lists.specs.Bytes.{bytes}
+use Rattle.report.specs.Line.{lineOf}
 use Rattle.report.specs.declared.Outcome.{Outcome}
 use Rattle.stages.specs.Stages.{outcomeOf, wantedBy, settingRoom, textRoom}
 use Rattle.stages.specs.declared.Files.{Files}

@@ -1,13 +1,13 @@
 -- A number that is written in decimal digits is read as that number.
 -- Assumes nothing.
-use mathlib.Core.Path.{_≡_, refl, sym, _∙_}
+use mathlib.Core.Path.{_≡_, refl, sym, _∙_, ap}
 use mathlib.Core.Bool.{Bool, true, false, cond, and-true, and-eq-true-iff}
-use mathlib.Core.List.{List, [], _∷_}
+use mathlib.Core.List.{List, [], _∷_, _++_}
 use Prim.Native.Nat.{ℕ, zero, suc, _+_, _-_, _*_, _/_, _%_, _^_, _<_, _≤_}
 use native.Mathlib.Omega.{arith}
 use native.Mathlib.Decide.{ℕ-discrete}
-use borrow.Author.Tests.{leb-true, le-leb, ltb-true, ltb-false, ne-eqb}
-use lib.ListN.{length, getD}
+use borrow.Author.Tests.{leb-true, le-leb, ltb-true, ltb-false, lt-ltb, le-ltb, ne-eqb}
+use lib.ListN.{length, length-append, getD}
 use lib.IntN.{pos, negsuc}
 use lib.Dec.{leb, ltb, leb·zero}
 use Rattle.numbers.specs.Number.{digit, digits, numeral, decimal, natural, integer, numeralIn, numeralOf}
@@ -32,7 +32,7 @@ pub record Numeral (k n : ℕ) (s t : List ℕ) : Type 0 where
   pub some : 0 < length t
   pub first : 0 < n → getD t 0 0 ≡ 48 → ⊥
 
-is-numeral : (n : ℕ) → Numeral (suc n) n [] (numeralOf n)
+pub is-numeral : (n : ℕ) → Numeral (suc n) n [] (numeralOf n)
 unfolding numeralOf decimal digits
 is-numeral n = by-digits Numeral one more (suc n) n [] (omega arith)
   where
@@ -84,3 +84,44 @@ positive-back n l = plain (numeralOf n) (natural-back (2 ^ 63 - 1) n l) (is-nume
 pub negative-back : (n : ℕ) → suc n ≤ 2 ^ 63 → integer (45 ∷ numeralOf (suc n)) ≡ Signed (negsuc n)
 unfolding integer
 negative-back n l = rw (natural-back (2 ^ 63) (suc n) l)
+
+-- ---- the digits one by one
+
+-- more digits than the number has play no part
+fuel : (k j n : ℕ) (s : List ℕ) → n < k → n < j → numeralIn k n s ≡ numeralIn j n s
+unfolding numeralIn
+fuel zero j n s h l = absurd (omega arith)
+fuel (suc k) zero n s h l = absurd (omega arith)
+fuel (suc k) (suc j) n s h l = go (ltb n 10) refl (fuel k j (n / 10) ((48 + n % 10) ∷ s))
+  where
+    go : (b : Bool) → ltb n 10 ≡ b → (n / 10 < k → n / 10 < j → numeralIn k (n / 10) ((48 + n % 10) ∷ s) ≡ numeralIn j (n / 10) ((48 + n % 10) ∷ s))
+        → cond b ((48 + n) ∷ s) (numeralIn k (n / 10) ((48 + n % 10) ∷ s)) ≡ cond b ((48 + n) ∷ s) (numeralIn j (n / 10) ((48 + n % 10) ∷ s))
+    go true e ih = refl
+    go false e ih = let m : 10 ≤ n = ltb-false n 10 e in ih (omega arith) (omega arith)
+
+in-front : (k n : ℕ) (s t : List ℕ) → numeralIn k n (s ++ t) ≡ numeralIn k n s ++ t
+unfolding numeralIn
+in-front zero n s t = refl
+in-front (suc k) n s t = go (ltb n 10) (in-front k (n / 10) ((48 + n % 10) ∷ s) t)
+  where
+    go : (b : Bool) → numeralIn k (n / 10) ((48 + n % 10) ∷ s ++ t) ≡ numeralIn k (n / 10) ((48 + n % 10) ∷ s) ++ t
+        → cond b ((48 + n) ∷ s ++ t) (numeralIn k (n / 10) ((48 + n % 10) ∷ s ++ t)) ≡ cond b ((48 + n) ∷ s) (numeralIn k (n / 10) ((48 + n % 10) ∷ s)) ++ t
+    go true ih = refl
+    go false ih = ih
+
+pub numeral-one : (n : ℕ) → n < 10 → numeralOf n ≡ (48 + n) ∷ []
+unfolding numeralOf numeralIn
+numeral-one n h = rw (lt-ltb n 10 h)
+
+pub numeral-more : (n : ℕ) → 10 ≤ n → numeralOf n ≡ numeralOf (n / 10) ++ (48 + n % 10) ∷ []
+unfolding numeralOf numeralIn
+numeral-more n h = rw (le-ltb n 10 h) (in-front n (n / 10) [] ((48 + n % 10) ∷ []) ∙ ap (λ (s : List ℕ). s ++ (48 + n % 10) ∷ []) (fuel n (suc (n / 10)) (n / 10) [] (omega arith) (omega arith)))
+
+-- a number below 10 to the k has at most k digits
+pub numeral-short : (k n : ℕ) → n < 10 ^ suc k → length (numeralOf n) ≤ suc k
+numeral-short zero n h = rw (numeral-one n (omega arith)) (omega arith)
+numeral-short (suc k) n h = go (ltb n 10) refl (numeral-short k (n / 10))
+  where
+    go : (b : Bool) → ltb n 10 ≡ b → (n / 10 < 10 ^ suc k → length (numeralOf (n / 10)) ≤ suc k) → length (numeralOf n) ≤ suc (suc k)
+    go true e ih = rw (numeral-one n (ltb-true n 10 e)) (omega arith)
+    go false e ih = rw (numeral-more n (ltb-false n 10 e), length-append (numeralOf (n / 10)) ((48 + n % 10) ∷ [])) (omega (arith, ih (omega arith)))

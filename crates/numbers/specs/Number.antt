@@ -5,7 +5,7 @@ use Prim.Native.Nat.{ℕ, zero, suc, _+_, _-_, _*_, _/_, _%_, _^_}
 use mathlib.Core.Bool.{Bool, true, false, cond, not, _&&_}
 use mathlib.Core.List.{List, [], _∷_}
 use lib.Dec.{leb, ltb, eqb}
-use lib.IntN.{pos, negsuc}
+use lib.IntN.{ℤ, pos, negsuc}
 use Rattle.numbers.specs.declared.Value.{Value}
 use Rattle.numbers.specs.declared.Value.the-variants.{Number, Missing, Bad}
 use Rattle.numbers.specs.declared.SignedValue.{SignedValue}
@@ -59,3 +59,8 @@ numeralIn (suc k) n s = cond (ltb n 10) ((48 + n) ∷ s) (numeralIn k (n / 10) (
 
 unfoldable pub numeralOf : ℕ → List ℕ
 numeralOf n = numeralIn (suc n) n []
+
+-- with a minus sign where it is negative
+unfoldable pub integerOf : ℤ → List ℕ
+integerOf (pos n) = numeralOf n
+integerOf (negsuc n) = 45 ∷ numeralOf (suc n)

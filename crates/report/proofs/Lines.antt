@@ -13,53 +13,13 @@ use mir.Val.{Fits, SFits}
 use lib.ListN.{length, length-append, getD, take, set}
 use lib.Seq.{length-take-le, take-all, take-suc, take-suc-set}
 use Rattle.integers.proofs.Laws.{ints, diff}
-use Rattle.numbers.specs.Number.{numeralIn, numeralOf}
-use Rattle.report.specs.Line.{stageWord, integerOf, lineOf, textOf, lineRoom, Room, Wrote, Ready}
+use Rattle.numbers.specs.Number.{numeralOf, integerOf}
+use Rattle.numbers.proofs.Numerals.{numeral-one, numeral-more, numeral-short}
+use Rattle.report.specs.Line.{stageWord, lineOf, textOf, lineRoom, Room, Wrote, Ready}
 use Rattle.report.specs.declared.Stage.{Stage}
 use Rattle.report.specs.declared.Stage.the-variants.{Setting, Blocks, Loops, Table}
 use Rattle.report.specs.declared.Outcome.{Outcome}
 use Rattle.report.specs.declared.Line.{Line}
-
--- ---- numerals
-
--- more digits than the number has play no part
-fuel : (k j n : ℕ) (s : List ℕ) → n < k → n < j → numeralIn k n s ≡ numeralIn j n s
-unfolding numeralIn
-fuel zero j n s h l = absurd (omega arith)
-fuel (suc k) zero n s h l = absurd (omega arith)
-fuel (suc k) (suc j) n s h l = go (ltb n 10) refl (fuel k j (n / 10) ((48 + n % 10) ∷ s))
-  where
-    go : (b : Bool) → ltb n 10 ≡ b → (n / 10 < k → n / 10 < j → numeralIn k (n / 10) ((48 + n % 10) ∷ s) ≡ numeralIn j (n / 10) ((48 + n % 10) ∷ s))
-        → cond b ((48 + n) ∷ s) (numeralIn k (n / 10) ((48 + n % 10) ∷ s)) ≡ cond b ((48 + n) ∷ s) (numeralIn j (n / 10) ((48 + n % 10) ∷ s))
-    go true e ih = refl
-    go false e ih = let m : 10 ≤ n = ltb-false n 10 e in ih (omega arith) (omega arith)
-
-in-front : (k n : ℕ) (s t : List ℕ) → numeralIn k n (s ++ t) ≡ numeralIn k n s ++ t
-unfolding numeralIn
-in-front zero n s t = refl
-in-front (suc k) n s t = go (ltb n 10) (in-front k (n / 10) ((48 + n % 10) ∷ s) t)
-  where
-    go : (b : Bool) → numeralIn k (n / 10) ((48 + n % 10) ∷ s ++ t) ≡ numeralIn k (n / 10) ((48 + n % 10) ∷ s) ++ t
-        → cond b ((48 + n) ∷ s ++ t) (numeralIn k (n / 10) ((48 + n % 10) ∷ s ++ t)) ≡ cond b ((48 + n) ∷ s) (numeralIn k (n / 10) ((48 + n % 10) ∷ s)) ++ t
-    go true ih = refl
-    go false ih = ih
-
-pub numeral-one : (n : ℕ) → n < 10 → numeralOf n ≡ (48 + n) ∷ []
-unfolding numeralOf numeralIn
-numeral-one n h = rw (lt-ltb n 10 h)
-
-pub numeral-more : (n : ℕ) → 10 ≤ n → numeralOf n ≡ numeralOf (n / 10) ++ (48 + n % 10) ∷ []
-unfolding numeralOf numeralIn
-numeral-more n h = rw (le-ltb n 10 h) (in-front n (n / 10) [] ((48 + n % 10) ∷ []) ∙ ap (λ (s : List ℕ). s ++ (48 + n % 10) ∷ []) (fuel n (suc (n / 10)) (n / 10) [] (omega arith) (omega arith)))
-
--- a number below 10 to the k has at most k digits
-pub numeral-short : (k n : ℕ) → n < 10 ^ suc k → length (numeralOf n) ≤ suc k
-numeral-short zero n h = rw (numeral-one n (omega arith)) (omega arith)
-numeral-short (suc k) n h = go (ltb n 10) refl (numeral-short k (n / 10))
-  where
-    go : (b : Bool) → ltb n 10 ≡ b → (n / 10 < 10 ^ suc k → length (numeralOf (n / 10)) ≤ suc k) → length (numeralOf n) ≤ suc (suc k)
-    go true e ih = rw (numeral-one n (ltb-true n 10 e)) (omega arith)
-    go false e ih = rw (numeral-more n (ltb-false n 10 e), length-append (numeralOf (n / 10)) ((48 + n % 10) ∷ [])) (omega (arith, ih (omega arith)))
 
 -- ---- what is written after what
 

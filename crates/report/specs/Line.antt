@@ -1,23 +1,16 @@
 -- Document 01, "One routine in full": the one line that the checking program prints.
 -- Assumes nothing: these are definitions.
-use Prim.Native.Nat.{ℕ, suc, _+_, _≤_}
-use Prim.Native.Char.{code}
-use Prim.Native.String.{String, [] as none, _∷_ as _then_}
+use Prim.Native.Nat.{ℕ, _+_, _≤_}
 use mathlib.Core.Path.{_≡_}
 use mathlib.Core.List.{List, [], _∷_, _++_}
-use lib.IntN.{ℤ, pos, negsuc}
 use lib.ListN.{length, take}
-use Rattle.numbers.specs.Number.{numeralOf}
+use Rattle.lists.specs.Bytes.{bytes}
+use Rattle.numbers.specs.Number.{numeralOf, integerOf}
 use Rattle.report.specs.declared.Stage.{Stage}
 use Rattle.report.specs.declared.Stage.the-variants.{Setting, Blocks, Loops, Table}
 use Rattle.report.specs.declared.Outcome.{Outcome}
 use Rattle.report.specs.declared.Outcome.the-variants.{Accepted, Refused}
 use Rattle.report.specs.declared.Line.{Line}
-
--- the bytes of a word in ASCII
-abbrev pub bytes : String → List ℕ
-bytes none = []
-bytes (c then s) = code c ∷ bytes s
 
 -- "a word for the stage (setting, blocks, loops, table)"
 abbrev pub stageWord : Stage → List ℕ
@@ -25,11 +18,6 @@ stageWord Setting = bytes "setting"
 stageWord Blocks = bytes "blocks"
 stageWord Loops = bytes "loops"
 stageWord Table = bytes "table"
-
--- a bound in decimal, with a minus sign where it is negative
-unfoldable pub integerOf : ℤ → List ℕ
-integerOf (pos n) = numeralOf n
-integerOf (negsuc n) = 45 ∷ numeralOf (suc n)
 
 -- "the one line accepted 30: the word and the bound. A refusal is refused, a word for the stage .., the number and the place, with one
 -- space between; either line ends with LF."

@@ -19,7 +19,7 @@ use Rattle.rows.specs.declared.LoopRow.{LoopRow}
 use Rattle.csv.specs.declared.Ending.{Ending}
 use Rattle.tables.specs.Table as table
 use Rattle.tables.specs.Table.{End, Reading, blockTable, loopTable}
-use Rattle.report.specs.Line.{bytes}
+use Rattle.lists.specs.Bytes.{bytes}
 use Rattle.stages.specs.declared.Header.{Header}
 use Rattle.stages.specs.declared.Header.the-variants.{Absent, Present, Wrong}
 use Rattle.stages.specs.declared.Files.{Files}

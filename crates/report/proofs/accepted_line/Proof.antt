@@ -1,7 +1,8 @@
 use Rattle.report.proofs.Lines.{integer-short, wrote-both, ready}
 use mir.Facts.{toZ-ofZ}
-use Rattle.report.specs.Line.{integerOf, lineOf}
-use Rattle.report.specs.Line.{bytes}
+use Rattle.lists.specs.Bytes.{bytes}
+use Rattle.numbers.specs.Number.{integerOf}
+use Rattle.report.specs.Line.{lineOf}
 use mathlib.Core.List.{[], _∷_}
 use native.Mathlib.Omega.{arith}
 use borrow.Author.Needs.{needs}

@@ -1,6 +1,7 @@
-use Rattle.report.proofs.Lines.{stage-short, numeral-short, wrote-both, ready}
+use Rattle.numbers.proofs.Numerals.{numeral-short}
+use Rattle.report.proofs.Lines.{stage-short, wrote-both, ready}
 use Rattle.report.specs.Line.{stageWord, lineOf}
-use Rattle.report.specs.Line.{bytes}
+use Rattle.lists.specs.Bytes.{bytes}
 use Rattle.numbers.specs.Number.{numeralOf}
 use lib.ListN.{length}
 use Prim.Native.Nat.{_≤_}

@@ -1,4 +1,5 @@
-use Rattle.report.proofs.Lines.{numeral-one, numeral-more, wrote-both, room-only, room-front, room-last}
+use Rattle.numbers.proofs.Numerals.{numeral-one, numeral-more}
+use Rattle.report.proofs.Lines.{wrote-both, room-only, room-front, room-last}
 use native.Mathlib.Omega.{arith}
 use Prim.Native.Nat.{ℕ, _<_}
 use borrow.Fn.Kinds.{In}

@@ -1,5 +1,5 @@
 use Rattle.report.proofs.Lines.{negative-text, positive-text, wrote-both, room-as, room-start, room-rest}
-use Rattle.report.specs.Line.{integerOf}
+use Rattle.numbers.specs.Number.{integerOf}
 use Rattle.numbers.specs.Number.{numeralOf}
 use mir.Facts.{toZ-ofZ}
 use lib.IntN.{natAbs}

@@ -1,0 +1,48 @@
+-- Document 02, §5: "Read by a definition of MPS, the text must give exactly this program's rows, columns and numbers."
+use Prim.Native.Nat.{ℕ, _<_}
+use mathlib.Core.Bool.{true}
+use mathlib.Core.List.{List, [], _∷_, map}
+use mathlib.Core.Option.{Option, some}
+use mathlib.Core.Path.{_≡_}
+use mathlib.Core.Logic.{_⊎_}
+use Rattle.wcet.specs.Table.{Routine, blockCount, loopOf, header, edge}
+use Rattle.mps.specs.Program.{Row, Entry, Column, RowName, Program, rowsOf, edgesOf, programOf}
+use Rattle.lists.specs.Bytes.{bytes}
+use Rattle.mps.specs.Mps.{Bytes, Mps, readMps}
+use Rattle.mps.specs.Text.{rowName, edgeName, mpsText}
+
+-- the program under the names that its text gives the rows and columns
+unfoldable pub namedRow : Row RowName → Row Bytes
+namedRow r = record { kind = r .kind; name = rowName (r .name) }
+
+unfoldable pub namedEntry : Entry RowName → Entry Bytes
+namedEntry x = record { row = rowName (x .row); number = x .number }
+
+unfoldable pub namedColumn : Column ℕ RowName → Column Bytes Bytes
+namedColumn c = record { name = edgeName (c .name); entries = map namedEntry (c .entries) }
+
+unfoldable pub named : Program → Mps
+named p = record {
+  title = [];
+  rows = map namedRow (p .rows);
+  columns = map namedColumn (p .columns);
+  rights = record { name = bytes "RHS"; entries = map namedEntry (p .right) } ∷ [];
+}
+
+abbrev pub ReadsBack : Routine → Type 0
+ReadsBack t = readMps (mpsText t) ≡ some (named (programOf t))
+
+-- What 209 leaves of an edge from a block to itself: it returns to the header of the block's loop. Without this the edge's column could
+-- have no number at all (cost 0, no header), and MPS has no card for such a column.
+abbrev pub SelfEdgesReturn : Routine → Type 0
+SelfEdgesReturn t = (u : ℕ) → u < blockCount t → edge t u u ≡ true → header t (loopOf t u) ≡ u
+
+-- x is one of the list
+abbrev pub Among : {A : Type 0} → A → List A → Type 0
+Among x [] = ⊥
+Among x (y ∷ ys) = (y ≡ x) ⊎ Among x ys
+
+-- different rows have different names, and so have different columns
+pub record NamesApart (t : Routine) : Type 0 where
+  pub rows : (r s : RowName) → Among r (rowsOf t) → Among s (rowsOf t) → rowName r ≡ rowName s → r ≡ s
+  pub edges : (d e : ℕ) → Among d (edgesOf t) → Among e (edgesOf t) → edgeName d ≡ edgeName e → d ≡ e

@@ -1,0 +1,168 @@
+-- Fixed MPS, the layout published by IBM: how a text is read as a linear program. A line is a card; its columns count from 1.
+--   columns 2 and 3     the type of a row
+--   columns 5 to 12     the name of a row, a column or a right side
+--   columns 15 to 22    the name of a row
+--   columns 25 to 36    a number
+-- A card with a word from column 1 on opens a section: NAME, ROWS, COLUMNS, RHS, ENDATA. This reader takes what every reader of MPS
+-- takes, and less: one number a card, whole numbers, and none of the sections that may be left out (RANGES, BOUNDS).
+-- It knows nothing of blocks, loops and edges: a name is its bytes.
+use Prim.Native.Nat.{ℕ, _+_, _-_}
+use Prim.Native.String.{String}
+use mathlib.Core.Bool.{Bool, true, false, cond, _&&_}
+use mathlib.Core.List.{List, [], _∷_}
+use mathlib.Core.Option.{Option, none, some}
+use lib.Dec.{eqb}
+use lib.IntN.{ℤ, pos, negℤ}
+use lib.ListN.{take, drop}
+use Rattle.lists.specs.Bytes.{bytes}
+use Rattle.numbers.specs.Number.{digits, decimal}
+use Rattle.mps.specs.Program.{Kind, free, equal, atMost, atLeast, Row, Entry, Column}
+
+abbrev pub Bytes : Type 0
+Bytes = List ℕ
+
+-- what a text says: the name of the program, its rows, its columns and its right sides
+pub record Mps : Type 0 where
+  pub title : Bytes
+  pub rows : List (Row Bytes)
+  pub columns : List (Column Bytes Bytes)
+  pub rights : List (Column Bytes Bytes)
+
+infixl 1 _>>=_
+abbrev pub _>>=_ : {A B : Type 0} → Option A → (A → Option B) → Option B
+none >>= f = none
+some a >>= f = f a
+
+-- nothing, where the test fails
+abbrev pub provided : {A : Type 0} → Bool → Option A → Option A
+provided true o = o
+provided false o = none
+
+-- what f makes of each element, where it makes something of all
+unfoldable pub each : {A B : Type 0} → (A → Option B) → List A → Option (List B)
+each f [] = some []
+each f (x ∷ xs) = f x >>= λ y. each f xs >>= λ ys. some (y ∷ ys)
+
+-- ---- lines and their columns
+
+-- the lines, each up to its LF
+abbrev pub onto : ℕ → List Bytes → List Bytes
+onto b [] = (b ∷ []) ∷ []
+onto b (l ∷ ls) = (b ∷ l) ∷ ls
+
+unfoldable pub linesOf : Bytes → List Bytes
+linesOf [] = []
+linesOf (b ∷ s) = cond (eqb b 10) ([] ∷ linesOf s) (onto b (linesOf s))
+
+-- without the blanks at the end
+abbrev pub before : ℕ → Bytes → Bytes
+before b [] = cond (eqb b 32) [] (b ∷ [])
+before b (c ∷ s) = b ∷ c ∷ s
+
+unfoldable pub trimmed : Bytes → Bytes
+trimmed [] = []
+trimmed (b ∷ s) = before b (trimmed s)
+
+-- what stands in the columns a to b
+unfoldable pub field : (a b : ℕ) → Bytes → Bytes
+field a b line = trimmed (take (b + 1 - a) (drop (a - 1) line))
+
+abbrev pub isEmpty : Bytes → Bool
+isEmpty [] = true
+isEmpty (b ∷ s) = false
+
+unfoldable pub same : Bytes → Bytes → Bool
+same [] [] = true
+same [] (b ∷ t) = false
+same (a ∷ s) [] = false
+same (a ∷ s) (b ∷ t) = eqb a b && same s t
+
+-- ---- cards
+
+-- only the four fields are filled
+unfoldable pub inFields : Bytes → Bool
+inFields l = isEmpty (field 1 1 l) && isEmpty (field 4 4 l) && isEmpty (field 13 14 l) && isEmpty (field 23 24 l) && isEmpty (drop 36 l)
+
+-- N: no constraint, E: equal to, L: less than or equal to, G: greater than or equal to
+unfoldable pub kindIn : Bytes → Option Kind
+kindIn s =
+    cond (same s (bytes "N")) (some free)
+    (cond (same s (bytes "E")) (some equal)
+    (cond (same s (bytes "L")) (some atMost)
+    (cond (same s (bytes "G")) (some atLeast) none)))
+
+-- a whole number
+abbrev pub naturalIn : Bytes → Option ℕ
+naturalIn [] = none
+naturalIn (b ∷ s) = provided (digits (b ∷ s)) (some (decimal 0 (b ∷ s)))
+
+unfoldable pub numberIn : Bytes → Option ℤ
+numberIn [] = none
+numberIn (b ∷ s) = cond (eqb b 45) (naturalIn s >>= λ n. some (negℤ (pos n))) (naturalIn (b ∷ s) >>= λ n. some (pos n))
+
+-- a card of the section ROWS: a type and a name
+unfoldable pub rowIn : Bytes → Option (Row Bytes)
+rowIn l = provided (inFields l && isEmpty (drop 12 l)) (kindIn (field 2 3 l) >>= λ k. some (record { kind = k; name = field 5 12 l }))
+
+-- a card of COLUMNS or RHS: a name, and a number in a row
+pub record Card : Type 0 where
+  pub name : Bytes
+  pub entry : Entry Bytes
+
+unfoldable pub cardIn : Bytes → Option Card
+cardIn l =
+    provided (inFields l && isEmpty (field 2 3 l))
+    (numberIn (field 25 36 l) >>= λ x. some (record { name = field 5 12 l; entry = record { row = field 15 22 l; number = x } }))
+
+-- cards of one name that follow each other are one column
+abbrev pub joined : Card → List (Column Bytes Bytes) → List (Column Bytes Bytes)
+joined c [] = record { name = c .name; entries = c .entry ∷ [] } ∷ []
+joined c (k ∷ ks) = cond (same (c .name) (k .name))
+    (record { name = c .name; entries = c .entry ∷ k .entries } ∷ ks)
+    (record { name = c .name; entries = c .entry ∷ [] } ∷ k ∷ ks)
+
+unfoldable pub columnsIn : List Card → List (Column Bytes Bytes)
+columnsIn [] = []
+columnsIn (c ∷ cs) = joined c (columnsIn cs)
+
+-- ---- sections
+
+-- a card that opens no section has a blank in column 1
+abbrev pub isData : Bytes → Bool
+isData [] = false
+isData (b ∷ l) = eqb b 32
+
+-- the cards of a section, and the lines behind them
+unfoldable pub cards : List Bytes → List Bytes
+cards [] = []
+cards (l ∷ ls) = cond (isData l) (l ∷ cards ls) []
+
+unfoldable pub behind : List Bytes → List Bytes
+behind [] = []
+behind (l ∷ ls) = cond (isData l) (behind ls) (l ∷ ls)
+
+-- the lines behind the card that opens a section
+unfoldable pub opened : String → List Bytes → Option (List Bytes)
+opened word [] = none
+opened word (l ∷ ls) = provided (same l (bytes word)) (some ls)
+
+-- the name of the program, in columns 15 to 22 of the card NAME, which is the first
+abbrev pub titleIn : List Bytes → Option Bytes
+titleIn [] = none
+titleIn (l ∷ ls) = provided (same (field 1 14 l) (bytes "NAME") && isEmpty (drop 22 l)) (some (field 15 22 l))
+
+abbrev pub ended : List Bytes → Bool
+ended [] = true
+ended (l ∷ ls) = false
+
+unfoldable pub readMps : Bytes → Option Mps
+readMps text =
+    titleIn (linesOf text) >>= λ title.
+    opened "ROWS" (drop 1 (linesOf text)) >>= λ ls₁.
+    each rowIn (cards ls₁) >>= λ rows.
+    opened "COLUMNS" (behind ls₁) >>= λ ls₂.
+    each cardIn (cards ls₂) >>= λ columns.
+    opened "RHS" (behind ls₂) >>= λ ls₃.
+    each cardIn (cards ls₃) >>= λ rights.
+    opened "ENDATA" (behind ls₃) >>= λ ls₄.
+    provided (ended ls₄) (some (record { title = title; rows = rows; columns = columnsIn columns; rights = columnsIn rights }))
