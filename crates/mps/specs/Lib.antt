@@ -4,5 +4,6 @@ pub mod Program
 pub mod Mps
 pub mod Text
 pub mod Claim
+pub mod Reply
 pub mod Flow
 pub mod Pieces

@@ -1,0 +1,4 @@
+pub mod Pieces
+pub mod Spans
+pub mod Edges
+pub mod Reply
