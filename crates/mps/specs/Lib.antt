@@ -6,4 +6,3 @@ pub mod Text
 pub mod Claim
 pub mod Reply
 pub mod Flow
-pub mod Pieces
