@@ -93,22 +93,23 @@ nesting-checked t r N e = record { replied = N .replied ∙ e; sets = N .sets }
 
 -- ---- for the checks that follow
 
+-- each broken rule has a number and a place
+pub refused-by : (f : StructureFault) → (n p : ℕ) × ((A : Type 0) → refusal {A = A} f ≡ refused n p)
+refused-by Sizes = (201, 0, λ A. refl)
+refused-by (Loop l) = (202, l, λ A. refl)
+refused-by (Block u) = (203, u, λ A. refl)
+refused-by (Header l) = (204, l, λ A. refl)
+refused-by (Depth l) = (205, l, λ A. refl)
+refused-by (EntryOrExit u) = (206, u, λ A. refl)
+refused-by (PastHeader u) = (207, u, λ A. refl)
+
+
 -- what the structure check refuses is refused by every list of rules that begins with 201 to 207
 pub refusal-stands : {A : Type 0} (t : Routine) (r : Structured) → StructureChecked t r → (f : StructureFault) → r .answer ≡ Broken f
     → (qs : List Rule) (passed : Reply A) → refusal f ≡ check (structureRules t ++ qs) passed
-refusal-stands t r C f e qs passed = go f (sym (ap structureReply e) ∙ C .replied)
-  where
-    stands : (n p : ℕ) → refused n p ≡ check (structureRules t) (accepted (tt {0})) → refused n p ≡ check (structureRules t ++ qs) passed
-    stands n p q = sym (refused-append (structureRules t) qs tt passed n p (sym q))
-
-    go : (f : StructureFault) → refusal {A = Unit {0}} f ≡ check (structureRules t) (accepted (tt {0})) → refusal f ≡ check (structureRules t ++ qs) passed
-    go Sizes q = stands 201 0 q
-    go (Loop l) q = stands 202 l q
-    go (Block u) q = stands 203 u q
-    go (Header l) q = stands 204 l q
-    go (Depth l) q = stands 205 l q
-    go (EntryOrExit u) q = stands 206 u q
-    go (PastHeader u) q = stands 207 u q
+refusal-stands t r C f e qs passed =
+    let k = refused-by f in
+    k .2 _ ∙ sym (refused-append (structureRules t) qs tt passed (k .0) (k .1) (sym (C .replied) ∙ ap structureReply e ∙ k .2 _))
 
 -- where its answer is Sound, 201 to 207 hold, and the sets are those of the loops around each loop
 pub sound-holds : (t : Routine) (r : Structured) → StructureChecked t r → r .answer ≡ Sound → AllHold (structureRules t)

@@ -15,10 +15,9 @@ use Rattle.wcet.proofs.Nesting.{Nested, nested}
 use Rattle.wcet.proofs.Replies.{decides, hands-on, past-all}
 use Rattle.nesting.specs.Answers.{refusal, StructureChecked}
 use Rattle.nesting.specs.declared.StructureFault.{StructureFault}
-use Rattle.nesting.specs.declared.StructureFault.the-variants.{Sizes, Loop, Block, Header, Depth, EntryOrExit, PastHeader}
 use Rattle.nesting.specs.declared.Structure.the-variants.{Broken}
 use Rattle.nesting.specs.declared.Structured.{Structured}
-use Rattle.nesting.proofs.Chain.{none-left, refusal-stands}
+use Rattle.nesting.proofs.Chain.{none-left, refused-by, refusal-stands}
 use Rattle.order.specs.Ordering.{Ordering}
 use Rattle.order.specs.declared.Order.{Order}
 use Rattle.order.proofs.Orders.{undeclared-test}
@@ -58,16 +57,7 @@ module _ (t : Routine) where
   structure-refused s C f q = rw append-assoc (refusal-stands t s C f q (undeclaredRule t ∷ pathRule ∷ multiplierRule ∷ figureRule ∷ []) result)
 
   pub structure-solved : (s : Structured) → StructureChecked t s → (f : StructureFault) → s .answer ≡ Broken f → Solved t (refusal f) (t .figures) (t .multipliers)
-  structure-solved s C f q = go f (structure-refused s C f q)
-    where
-      go : (g : StructureFault) → refusal g ≡ solveReply t → Solved t (refusal g) (t .figures) (t .multipliers)
-      go Sizes e = refused-solved 201 0 e
-      go (Loop l) e = refused-solved 202 l e
-      go (Block u) e = refused-solved 203 u e
-      go (Header l) e = refused-solved 204 l e
-      go (Depth l) e = refused-solved 205 l e
-      go (EntryOrExit u) e = refused-solved 206 u e
-      go (PastHeader u) e = refused-solved 207 u e
+  structure-solved s C f q = let k = refused-by f in rw (k .2 ℤ) (refused-solved (k .0) (k .1) (sym (k .2 ℤ) ∙ structure-refused s C f q))
 
   -- ---- where 201 to 207 hold
 

@@ -1,22 +1,45 @@
 -- The length of the whole text, and how the writer comes to its reply. Assumes nothing.
-use mathlib.Core.Path.{_≡_, refl, sym, _∙_, ap}
+use mathlib.Core.Path.{_≡_, refl, sym, _∙_, ap, subst}
 use mathlib.Core.Bool.{Bool, true, false}
-use mathlib.Core.List.{List, [], _∷_, _++_}
+use mathlib.Core.List.{List, [], _∷_, _++_, append-assoc}
 use Prim.Native.Nat.{ℕ, _+_, _-_, _*_, _<_, _≤_}
 use native.Mathlib.Omega.{arith}
-use lib.ListN.{length, length-append, drop}
-use lib.Seq.{take-length}
-use borrow.Author.Tests.{le-leb, lt-leb}
+use lib.Dec.{ltb}
+use lib.IntN.{ℤ}
+use lib.ListN.{length, length-append, take, drop}
+use lib.Seq.{take-length, take-at}
+use borrow.Author.Tests.{leb-true, leb-false, le-leb, lt-leb, lt-ltb, le-ltb}
 use Rattle.lists.specs.Bytes.{bytes}
 use Rattle.wcet.specs.Table.{Routine, blockCount}
+use Rattle.wcet.specs.Cycles.{undeclaredLoop}
+use Rattle.wcet.specs.Rules.{Reply, accepted, refused, Rule, check, structureRules, undeclaredRule}
+use Rattle.wcet.specs.Claim.{AllHold}
+use Rattle.wcet.proofs.Nesting.{Nested, nested}
+use Rattle.wcet.proofs.Replies.{decides, hands-on, past-all}
+use Rattle.loopsets.specs.Sets.{setsAround}
+use Rattle.nesting.specs.Columns.{routine, Ranged}
+use Rattle.nesting.specs.Answers.{refusal, StructureChecked}
+use Rattle.nesting.specs.declared.StructureFault.{StructureFault}
+use Rattle.nesting.specs.declared.Structure.the-variants.{Broken}
+use Rattle.nesting.specs.declared.Structured.{Structured}
+use Rattle.nesting.proofs.Stages.{headed, innermost, linked}
+use Rattle.nesting.proofs.Chain.{none-left, refused-by, refusal-stands}
+use Rattle.order.specs.Ordering.{Ordering}
+use Rattle.order.specs.declared.Order.{Order}
+use Rattle.order.proofs.Orders.{undeclared-test}
 use Rattle.mps.specs.Program.{block}
-use Rattle.mps.specs.Text.{digitsIn, rowName}
+use Rattle.mps.specs.Text.{digitsIn, rowName, mpsText}
+use Rattle.mps.specs.Reply.{mpsRules, mpsReply, Exported}
 use Rattle.mps.proofs.Names.{row-named}
+use Rattle.mps.proofs.Routines.{declared-returns, reads-back, names-apart}
 use Rattle.cards.specs.Cards.{Space, Put, head, blockRow, loopRow, card}
+use Rattle.writer.specs.declared.MpsReply.{MpsReply}
 use Rattle.writer.specs.declared.MpsReply.the-variants.{Length, NoRoom}
-use Rattle.writer.specs.Pieces.{span, line, rowsText, edgesText, EdgesLength, columnsText, rightsText, wholeText, fits, Landed}
+use Rattle.writer.specs.Answers.{mpsMeaning}
+use Rattle.writer.specs.Pieces.{textColumns, Readable, loopNumber, edgeTo, span, line, rowsText, edgesText, EdgesLength, columnsText, rightsText, wholeText, fits, Landed}
 use Rattle.writer.proofs.Spans.{span-length}
 use Rattle.writer.proofs.Edges.{head-size, one-card}
+use Rattle.writer.proofs.Whole.{whole-text}
 
 -- ---- the length of the text
 
@@ -76,3 +99,122 @@ landed w d g r e q h p =
     let good : fits w d ≡ true = le-leb (length w) (length d) (omega arith) in
     let z : 0 + length w ≡ length w = omega arith in
     record { replied = rw (good, p .next, z); held = rw good (p .held ∙ rw (take-length w, z)) }
+
+-- ---- the reply
+
+abbrev number : Reply ℕ → ℕ
+number (accepted n) = n
+number (refused n p) = 0
+
+abbrev isRefused : Reply ℕ → Type 0
+isRefused (accepted n) = ⊥
+isRefused (refused n p) = Unit {0}
+
+module _ (t : Routine) (before : List ℕ) where
+  -- 411
+  abbrev roomRule : Rule
+  roomRule = record { number = 411; places = 1; broken = λ _. ltb (length before) (length (mpsText t)) }
+
+  abbrev result : Reply ℕ
+  result = accepted (length (mpsText t))
+
+  -- no refusal writes a byte
+  refused-exported : (n p : ℕ) → refused n p ≡ mpsReply t (length before) → Exported t before (refused n p) before
+  refused-exported n p e = record { replied = e; buffer = refl; reads = λ k q. absurd (no-number q); apart = λ k q. absurd (no-number q) }
+    where
+      no-number : {k : ℕ} → refused n p ≡ accepted k → ⊥
+      no-number q = subst isRefused q tt
+
+  -- 201 to 207
+  pub structure-exported : (s : Structured) → StructureChecked t s → (f : StructureFault) → s .answer ≡ Broken f → Exported t before (refusal f) before
+  unfolding mpsReply mpsRules
+  structure-exported s C f q =
+      let k = refused-by f in
+      rw (k .2 ℕ) (refused-exported (k .0) (k .1) (sym (k .2 ℕ) ∙ rw append-assoc (refusal-stands t s C f q (undeclaredRule t ∷ roomRule ∷ []) result)))
+
+  module _ (h : AllHold (structureRules t)) where
+    later : check (undeclaredRule t ∷ roomRule ∷ []) result ≡ mpsReply t (length before)
+    unfolding mpsReply mpsRules
+    later = sym (rw append-assoc (past-all (structureRules t) (undeclaredRule t ∷ roomRule ∷ []) result h))
+
+    -- 209, by the order of the blocks
+    pub undeclared-exported : (r : Order) → Ordering t r → r .count < blockCount t → Exported t before (refused 209 0) before
+    undeclared-exported r O l =
+        refused-exported 209 0 (sym (decides (undeclaredRule t) (roomRule ∷ []) result 0 (record {
+          below = omega arith;
+          passes = sym (undeclared-test t h r O) ∙ lt-ltb (r .count) (blockCount t) l;
+          lower = λ j z. absurd (omega arith);
+        }))
+        ∙ later)
+
+    module _ (o : Order) (O : Ordering t o) (all : blockCount t ≤ o .count) where
+      declared : undeclaredLoop t ≡ false
+      declared = sym (undeclared-test t h o O) ∙ le-ltb (o .count) (blockCount t) all
+
+      last : check (roomRule ∷ []) result ≡ mpsReply t (length before)
+      last = sym (hands-on (undeclaredRule t) (roomRule ∷ []) result (λ p z. declared)) ∙ later
+
+      abbrev w : List ℕ
+      w = mpsText t
+
+      too-long : length before < length w → Exported t before (refused 411 0) before
+      too-long l =
+          refused-exported 411 0 (sym (decides roomRule [] result 0 (record {
+            below = omega arith;
+            passes = lt-ltb (length before) (length w) l;
+            lower = λ j z. absurd (omega arith);
+          }))
+          ∙ last)
+
+      written : length w ≤ length before → Exported t before result (w ++ drop (length w) before)
+      written l = record {
+        replied = none-left result ∙ sym (hands-on roomRule [] result (λ p z. le-ltb (length before) (length w) l)) ∙ last;
+        buffer = refl;
+        reads = λ n q. rw (← same n q, take-at w (drop (length w) before) (length w) refl) (reads-back t h (declared-returns t h declared));
+        apart = λ n q. names-apart t h;
+      }
+        where
+          same : (n : ℕ) → result ≡ accepted n → length w ≡ n
+          same n q = ap number q
+
+      -- 411, or the length
+      pub text-exported : (sets : List ℕ) → sets ≡ setsAround (t .parents) → (r : MpsReply) (after : List ℕ) → Landed (wholeText sets t) before r after → Exported t before (mpsMeaning r) after
+      text-exported sets e r after L = go (fits w before) refl (rw (e, whole-text t h) at L)
+        where
+          go : (b : Bool) → fits w before ≡ b → Landed w before r after → Exported t before (mpsMeaning r) after
+          go true q L =
+              let p : r ≡ Length (length w) = L .replied ∙ rw q in
+              let k : after ≡ w ++ drop (length w) before = L .held ∙ rw q in
+              rw (p, k) (written (leb-true (length w) (length before) q))
+          go false q L =
+              let p : r ≡ NoRoom = L .replied ∙ rw q in
+              let k : after ≡ before = L .held ∙ rw q in
+              rw (p, k) (too-long (leb-false (length w) (length before) q))
+
+-- ---- what the writer reads of the tables
+
+module _ (costs loops firsts seconds : List ℕ) (figures : List ℤ) (parents headers limits multipliers : List ℕ) where
+  abbrev tables : Routine
+  tables = routine costs loops firsts seconds figures parents headers limits multipliers
+
+  abbrev read : Routine
+  read = textColumns costs loops firsts seconds headers limits
+
+  pub readable : AllHold (structureRules tables) → Readable read × (1 < length costs) × (0 < length headers)
+  readable h =
+      let R = headed tables h .ranged in
+      let N = nested tables h in
+      (
+        record {
+          limited = record { innermost = innermost tables R; sized = R .sized .limits ∙ sym (R .sized .headers); least = λ l b. R .limit-least l (omega (arith, R .sized .headers)) };
+          linked = linked tables R;
+          loops = R .sized .loops;
+        },
+        N .two-blocks,
+        omega (arith, N .some-loop, R .sized .headers),
+      )
+
+  -- the other columns play no part in the text
+  pub same-text : (sets : List ℕ) → wholeText sets read ≡ wholeText sets tables
+  unfolding wholeText columnsText edgesText edgeTo loopNumber
+  same-text sets = refl

@@ -357,7 +357,7 @@ fn put_text(
 
 // ---- the reply
 
-// The reply where 201 to 207 and 209 hold.
+// The reply to tables that pass 201 to 207 and 209: 411 or the length.
 fn write_text(
     text: &mut [u8],
     around: &Sets,
@@ -377,4 +377,107 @@ fn write_text(
     }
     let end = put_text(text, around, cost, loops, first, second, header, limit);
     MpsReply::Length(end)
+}
+
+// The reply to tables that pass 201 to 207, whose loop sets are given: 209, 411 or the length.
+fn mps_sound(
+    around: &Sets,
+    cost: &[u32],
+    loops: &[u16],
+    first: &[u16],
+    second: &[u16],
+    figure: &[i64],
+    parent: &[u16],
+    header: &[u16],
+    limit: &[u32],
+    multiplier: &[u64],
+    text: &mut [u8],
+) -> MpsReply
+    requires { ⌜ AllHold (structureRules (routine (now cost) (now loops) (now first) (now second) (now figure) (now parent) (now header) (now limit) (now multiplier))) × (now around ≡ setsAround (now parent)) ⌝ }
+    ensures { λ r. ⌜ Exported (routine (now (cost .entry)) (now (loops .entry)) (now (first .entry)) (now (second .entry)) (now (figure .entry)) (now (parent .entry)) (now (header .entry)) (now (limit .entry)) (now (multiplier .entry))) (now (text .entry)) (mpsMeaning r) (now (text .exit)) ⌝ }
+{
+    let order = order::order_of(around, loops, first, second, header);
+    if order.count < cost.len() {
+        return MpsReply::UndeclaredLoop;
+    }
+    write_text(text, around, cost, loops, first, second, header, limit)
+}
+
+// The reply to tables whose structure is checked.
+fn mps_checked(
+    checked: Structured,
+    cost: &[u32],
+    loops: &[u16],
+    first: &[u16],
+    second: &[u16],
+    figure: &[i64],
+    parent: &[u16],
+    header: &[u16],
+    limit: &[u32],
+    multiplier: &[u64],
+    text: &mut [u8],
+) -> MpsReply
+    requires { ⌜ StructureChecked (routine (now cost) (now loops) (now first) (now second) (now figure) (now parent) (now header) (now limit) (now multiplier)) checked ⌝ }
+    ensures { λ r. ⌜ Exported (routine (now (cost .entry)) (now (loops .entry)) (now (first .entry)) (now (second .entry)) (now (figure .entry)) (now (parent .entry)) (now (header .entry)) (now (limit .entry)) (now (multiplier .entry))) (now (text .entry)) (mpsMeaning r) (now (text .exit)) ⌝ }
+{
+    let answer = checked.answer;
+    if let Structure::Broken(fault) = answer {
+        return MpsReply::Structure(fault);
+    }
+    let around = checked.around;
+    mps_sound(
+        &around,
+        cost,
+        loops,
+        first,
+        second,
+        figure,
+        parent,
+        header,
+        limit,
+        multiplier,
+        text,
+    )
+}
+
+// Writes the program of the tables into the buffer and returns the length of the text; or the first broken rule, and no byte is written. The
+// contract also says that the text, read by the definition of MPS, gives the program.
+pub fn mps(
+    cost: &[u32],
+    loops: &[u16],
+    first: &[u16],
+    second: &[u16],
+    figure: &[i64],
+    parent: &[u16],
+    header: &[u16],
+    limit: &[u32],
+    multiplier: &[u64],
+    text: &mut [u8],
+) -> MpsReply
+    ensures { λ r. ⌜ Exported (routine (now (cost .entry)) (now (loops .entry)) (now (first .entry)) (now (second .entry)) (now (figure .entry)) (now (parent .entry)) (now (header .entry)) (now (limit .entry)) (now (multiplier .entry))) (now (text .entry)) (mpsMeaning r) (now (text .exit)) ⌝ }
+{
+    let checked = nesting::check_structure(
+        cost,
+        loops,
+        first,
+        second,
+        figure,
+        parent,
+        header,
+        limit,
+        multiplier,
+    );
+    mps_checked(
+        checked,
+        cost,
+        loops,
+        first,
+        second,
+        figure,
+        parent,
+        header,
+        limit,
+        multiplier,
+        text,
+    )
 }
