@@ -190,3 +190,19 @@ module _ (t : Routine) where
   pub headed : AllHold (structureRules t) → Headed t
   unfolding structureRules
   headed h = heads (keeps (fits (h .0 0 (omega arith))) (h .1 .0) (h .1 .1 .0)) (h .1 .1 .1 .0)
+
+-- a number that is no block costs 0, and one that is no loop has limit 0
+module _ (t : Routine) (R : Ranged t) where
+  pub cost-anywhere : (v : ℕ) → cost t v ≤ 1000000
+  cost-anywhere v = go (ltb v (blockCount t)) refl
+    where
+      go : (b : Bool) → ltb v (blockCount t) ≡ b → cost t v ≤ 1000000
+      go true e = R .cost-most v (ltb-true v (blockCount t) e)
+      go false e = omega (arith, List·getD-eq-default (t .costs) 0 {n = v} (ltb-false v (blockCount t) e))
+
+  pub limit-anywhere : (l : ℕ) → limit t l ≤ 65535
+  limit-anywhere l = go (ltb l (loopCount t)) refl
+    where
+      go : (b : Bool) → ltb l (loopCount t) ≡ b → limit t l ≤ 65535
+      go true e = R .limit-most l (ltb-true l (loopCount t) e)
+      go false e = omega (arith, List·getD-eq-default (t .limits) 0 {n = l} (omega (arith, R .sized .limits, ltb-false l (loopCount t) e)))

@@ -24,7 +24,7 @@ use Rattle.wcet.proofs.Walks.{walks-exactly}
 use Rattle.optimum.specs.Columns.{remade}
 use Rattle.optimum.specs.Replies.{solveRules, solveReply}
 use Rattle.nesting.specs.Columns.{Sized, Ranged}
-use Rattle.nesting.proofs.Stages.{fits, headed}
+use Rattle.nesting.proofs.Stages.{fits, headed, cost-anywhere}
 use Rattle.tables.specs.Table as table
 use Rattle.tables.specs.Table.{End, all, Reading}
 use Rattle.tables.specs.Columns.{replyBy, replyOf}
@@ -142,18 +142,10 @@ walk-place t w n p e =
     (l, (b, (l, (l, (b, (b, (omega arith, tt))))))))
     (λ h q. let few : length w ≤ longestWalk = length-kept w (h .1 .1 .1 .1 .1 .1) in omega (arith, blocks-place t w (walked t w) n p q)) e
 
--- a number that is no block costs 0
-cost-most : (t : Routine) → Ranged t → (v : ℕ) → cost t v ≤ 1000000
-cost-most t R v = go (ltb v (blockCount t)) refl
-  where
-    go : (b : Bool) → ltb v (blockCount t) ≡ b → cost t v ≤ 1000000
-    go true e = R .cost-most v (ltb-true v (blockCount t) e)
-    go false e = omega (arith, List·getD-eq-default (t .costs) 0 {n = v} (ltb-false v (blockCount t) e))
-
 run-most : (t : Routine) → Ranged t → (w : List ℕ) → runCost t w ≤ length w * 1000000
 unfolding runCost
 run-most t R [] = omega arith
-run-most t R (v ∷ w) = omega (arith, cost-most t R v, run-most t R w)
+run-most t R (v ∷ w) = omega (arith, cost-anywhere t R v, run-most t R w)
 
 -- an accepted walk is a finished counted run, with its cost and its length less one
 pub record Finished (t : Routine) (w : List ℕ) (x : Walked) : Type 0 where
