@@ -1,12 +1,13 @@
 -- Document 02, §5: the reply of the writer, and the buffer that it leaves.
-use Prim.Native.Nat.{ℕ}
+use Prim.Native.Nat.{ℕ, _≤_}
 use mathlib.Core.Path.{_≡_}
 use mathlib.Core.List.{List, [], _∷_, _++_}
 use mathlib.Core.Option.{some}
 use lib.Dec.{ltb}
 use lib.ListN.{length, take, drop}
 use Rattle.wcet.specs.Table.{Routine}
-use Rattle.wcet.specs.Rules.{Reply, accepted, refused, Rule, check}
+use Rattle.wcet.specs.Rules.{Reply, accepted, refused, Rule, check, structureRules}
+use Rattle.wcet.specs.Claim.{AllHold}
 use Rattle.optimum.specs.Replies.{givenRules}
 use Rattle.mps.specs.Program.{programOf}
 use Rattle.mps.specs.Mps.{Bytes, readMps}
@@ -33,3 +34,10 @@ pub record Exported (t : Routine) (before : Bytes) (r : Reply ℕ) (after : Byte
   pub buffer : after ≡ bufferAfter t before r
   pub reads : (n : ℕ) → r ≡ accepted n → readMps (take n after) ≡ some (named (programOf t))
   pub apart : (n : ℕ) → r ≡ accepted n → NamesApart t
+
+-- No text is longer: a buffer of so many bytes is enough for every pair of tables that passes 201 to 207.
+abbrev pub longestText : ℕ
+longestText = 250217
+
+abbrev pub TextFits : Routine → Type 0
+TextFits t = AllHold (structureRules t) → length (mpsText t) ≤ longestText

@@ -8,6 +8,7 @@ use mir.Syntax.{w64}
 use mir.Val.{SFits, toZ, ofZ}
 use mir.Facts.{toZ-pos, toZ-ofZ}
 use lib.IntN.{ℤ, pos}
+use lib.ListN.{length}
 use Rattle.integers.proofs.Laws.{ints}
 use Rattle.wcet.specs.Table.{Routine}
 use Rattle.wcet.specs.Rules.{Reply as Answer, accepted, refused, tableReply}
@@ -17,6 +18,7 @@ use Rattle.wcet.proofs.Walks.{walks-exactly}
 use Rattle.nesting.specs.Answers.{refusal}
 use Rattle.nesting.specs.declared.StructureFault.{StructureFault}
 use Rattle.nesting.specs.declared.StructureFault.the-variants.{Sizes, Loop, Block, Header, Depth, EntryOrExit, PastHeader}
+use Rattle.nesting.proofs.Chain.{refused-by}
 use Rattle.certificate.specs.Answers.{tableMeaning}
 use Rattle.certificate.specs.declared.TableReply.{TableReply}
 use Rattle.certificate.specs.declared.TableReply.the-variants as table
@@ -24,6 +26,10 @@ use Rattle.optimum.specs.Replies.{solveReply, figuresAfter, multipliersAfter, O
 use Rattle.solver.specs.Answers.{solveMeaning}
 use Rattle.solver.specs.declared.SolveReply.{SolveReply}
 use Rattle.solver.specs.declared.SolveReply.the-variants as solve
+use Rattle.mps.specs.Reply.{mpsReply, bufferAfter, Exported}
+use Rattle.writer.specs.Answers.{mpsMeaning}
+use Rattle.writer.specs.declared.MpsReply.{MpsReply}
+use Rattle.writer.specs.declared.MpsReply.the-variants as mps
 use Rattle.walk.specs.Reply.{meaning}
 use Rattle.walk.specs.declared.WalkReply.{WalkReply}
 use Rattle.walk.specs.declared.WalkReply.the-variants as walk
@@ -35,8 +41,8 @@ use Rattle.limits.specs.Limits.{mostBlocks, mostLoops}
 use Rattle.tables.specs.declared.ReadReply.{ReadReply}
 use Rattle.tables.specs.declared.ReadReply.the-variants.{Rows, Refused}
 use Rattle.rolkeyda.specs.declared.Reply.{Reply}
-use Rattle.rolkeyda.specs.Replies.{acceptance, refusing, ofTables, ofWalk, endingNumber, ofReading, PlaceFits, ValueFits, TablesReplied, TablesSolved, WalkReplied, BlocksReplied, LoopsReplied}
-use Rattle.rolkeyda.proofs.Ranges.{Small, table-place, solve-place, walk-place, Finished, walk-finished, reading-small}
+use Rattle.rolkeyda.specs.Replies.{acceptance, refusing, ofTables, ofText, ofWalk, endingNumber, ofReading, PlaceFits, ValueFits, TablesReplied, TablesSolved, TextReplied, WalkReplied, BlocksReplied, LoopsReplied}
+use Rattle.rolkeyda.proofs.Ranges.{Small, table-place, solve-place, text-place, text-length, walk-place, Finished, walk-finished, reading-small}
 
 -- ---- 201 to 207
 
@@ -63,15 +69,12 @@ module _ {f : StructureFault} (F : PlaceFits (ofTables (refusal f))) where
 pub fault-reply : {f g : StructureFault} {r : Reply} → f ≡ g → r ≡ ofTables (refusal g) → r ≡ ofTables (refusal f)
 fault-reply e q = q ∙ ap (λ (x : StructureFault). ofTables (refusal x)) (sym e)
 
--- a fault has the same fields in the reply to tables and to a walk, and its number is not 0
+-- a fault has the same fields in the reply to tables, to a walk and of the writer, and its number is not 0
 same-fault : (f : StructureFault) → ofTables (refusal f) ≡ ofWalk (refusal f)
-same-fault Sizes = refl
-same-fault (Loop l) = refl
-same-fault (Block u) = refl
-same-fault (Header l) = refl
-same-fault (Depth l) = refl
-same-fault (EntryOrExit u) = refl
-same-fault (PastHeader u) = refl
+same-fault f = let k = refused-by f in ap ofTables (k .2 ℤ) ∙ sym (ap ofWalk (k .2 Walked))
+
+same-text-fault : (f : StructureFault) → ofTables (refusal f) ≡ ofText (refusal f)
+same-text-fault f = let k = refused-by f in ap ofTables (k .2 ℤ) ∙ sym (ap ofText (k .2 ℕ))
 
 fault-number : (f : StructureFault) → ofTables (refusal f) .number ≡ 0 → ⊥
 fault-number Sizes e = omega arith
@@ -153,6 +156,66 @@ module _ (t : Routine) (a : SolveReply) (fs : List ℤ) (ks : List ℕ) (C : Sol
       go solve.Multiplier B z = absurd (omega arith)
       go solve.Figure B z = absurd (omega arith)
 
+-- a number below 2^63, as the value of a reply
+pub value-fits : (n : ℕ) {m : ℕ} → ValueFits (acceptance (pos n) m) → SFits w64 (pos n)
+value-fits n F = record { sfits = omega (ints, F .value) }
+
+-- ---- the writer
+
+module _ {a : MpsReply} (F : PlaceFits (ofText (mpsMeaning a))) where
+  pub text-structure : (f : StructureFault) → a ≡ mps.Structure f → PlaceFits (ofTables (refusal f))
+  text-structure f e = rw (same-text-fault f) (record { place = rw e at (F .place) })
+
+pub text-told : {a g : MpsReply} {r : Reply} → a ≡ g → r ≡ ofText (mpsMeaning g) → r ≡ ofText (mpsMeaning a)
+text-told e q = q ∙ ap (λ (x : MpsReply). ofText (mpsMeaning x)) (sym e)
+
+pub text-fault : {a : MpsReply} {r : Reply} (f : StructureFault) → a ≡ mps.Structure f → r ≡ ofTables (refusal f) → r ≡ ofText (mpsMeaning a)
+text-fault f e q = text-told e (q ∙ same-text-fault f)
+
+module _ {a : MpsReply} (F : ValueFits (ofText (mpsMeaning a))) (n : ℕ) (e : a ≡ mps.Length n) where
+  pub length-fits : SFits w64 (pos n)
+  length-fits = value-fits n {m = 0} (record { value = rw e at (F .value) })
+
+  pub text-accepted : {r : Reply} → r ≡ acceptance (toZ w64 n) 0 → r ≡ ofText (mpsMeaning a)
+  text-accepted q = text-told e (q ∙ ap (λ (z : ℤ). acceptance z 0) (toZ-pos w64 (length-fits .sfits)))
+
+module _ (t : Routine) (before : List ℕ) (a : MpsReply) (after : List ℕ) (C : Exported t before (mpsMeaning a) after) where
+  pub text-small : PlaceFits (ofText (mpsMeaning a)) × ValueFits (ofText (mpsMeaning a))
+  text-small = go (mpsMeaning a) (C .replied)
+    where
+      go : (x : Answer ℕ) → x ≡ mpsReply t (length before) → PlaceFits (ofText x) × ValueFits (ofText x)
+      go (accepted n) e = (record { place = omega arith }, record { value = omega (ints, text-length t (length before) n (sym e)) })
+      go (refused n p) e = (record { place = omega (arith, text-place t (length before) n p (sym e)) }, record { value = omega ints })
+
+  pub text-replied : (r : Reply) → r ≡ ofText (mpsMeaning a) → TextReplied t before r after
+  text-replied r e = rw e record {
+    replied = ap ofText (C .replied);
+    buffer = C .buffer ∙ ap (bufferAfter t before) (C .replied);
+    reads = λ z n q. C .reads n (length-of a z n q);
+    apart = λ z. C .apart (number-of a) (length-of a z (number-of a) (value-of a z));
+  }
+    where
+      number-of : MpsReply → ℕ
+      number-of (mps.Length n) = n
+      number-of (mps.Structure f) = 0
+      number-of mps.UndeclaredLoop = 0
+      number-of mps.NoRoom = 0
+
+      text-number : (f : StructureFault) → ofText (refusal f) .number ≡ 0 → ⊥
+      text-number f z = fault-number f (ap (λ (r : Reply). r .number) (same-text-fault f) ∙ z)
+
+      value-of : (x : MpsReply) → ofText (mpsMeaning x) .number ≡ 0 → ofText (mpsMeaning x) .value ≡ pos (number-of x)
+      value-of (mps.Length n) z = refl
+      value-of (mps.Structure f) z = absurd (text-number f z)
+      value-of mps.UndeclaredLoop z = absurd (omega arith)
+      value-of mps.NoRoom z = absurd (omega arith)
+
+      length-of : (x : MpsReply) → ofText (mpsMeaning x) .number ≡ 0 → (n : ℕ) → ofText (mpsMeaning x) .value ≡ pos n → mpsMeaning x ≡ accepted n
+      length-of (mps.Length k) z n q = let same : k ≡ n = omega (ints, q) in ap accepted same
+      length-of (mps.Structure f) z n q = absurd (text-number f z)
+      length-of mps.UndeclaredLoop z n q = absurd (omega arith)
+      length-of mps.NoRoom z n q = absurd (omega arith)
+
 -- ---- walks
 
 module _ {a : WalkReply} (F : PlaceFits (ofWalk (meaning a))) where
@@ -179,10 +242,6 @@ walk-told e q = q ∙ ap (λ (x : WalkReply). ofWalk (meaning x)) (sym e)
 
 pub walk-fault : {a : WalkReply} {r : Reply} (f : StructureFault) → a ≡ walk.Structure f → r ≡ ofTables (refusal f) → r ≡ ofWalk (meaning a)
 walk-fault f e q = walk-told e (q ∙ same-fault f)
-
--- a number below 2^63, as the value of a reply
-pub value-fits : (n : ℕ) {m : ℕ} → ValueFits (acceptance (pos n) m) → SFits w64 (pos n)
-value-fits n F = record { sfits = omega (ints, F .value) }
 
 module _ {a : WalkReply} (F : ValueFits (ofWalk (meaning a))) (c s : ℕ) (e : a ≡ walk.Accepted c s) where
   pub cost-fits : SFits w64 (pos c)

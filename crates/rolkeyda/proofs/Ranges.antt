@@ -14,7 +14,7 @@ use Rattle.lists.proofs.Search.{Lowest, not-found, found-lowest}
 use Rattle.lists.proofs.Tests.{or-false}
 use Rattle.integers.proofs.Laws.{ints}
 use Rattle.wcet.specs.Table.{Routine, blockCount, exit, cost, edge}
-use Rattle.wcet.specs.Rules.{Reply as Answer, accepted, refused, Rule, refusedAt, check, sizesWrong, structureRules, tableRules, bound, tableReply}
+use Rattle.wcet.specs.Rules.{Reply as Answer, accepted, refused, Rule, refusedAt, check, sizesWrong, structureRules, undeclaredRule, tableRules, bound, tableReply}
 use Rattle.wcet.specs.Run.{State, start, next, passesLimit, runCost}
 use Rattle.limits.specs.Limits.{mostBlocks, longestWalk}
 use Rattle.wcet.specs.Walk.{Walked, walked, lengthRule, walkFrom, walkBlocks, walkReply}
@@ -22,7 +22,10 @@ use Rattle.wcet.specs.Claim.{AllHold, FinishedRun}
 use Rattle.wcet.proofs.Replies.{decides, hands-on, all-append, passes}
 use Rattle.wcet.proofs.Walks.{walks-exactly}
 use Rattle.optimum.specs.Columns.{remade}
-use Rattle.optimum.specs.Replies.{solveRules, solveReply}
+use Rattle.optimum.specs.Replies.{givenRules, solveRules, solveReply}
+use Rattle.mps.specs.Text.{mpsText}
+use Rattle.mps.specs.Reply.{mpsRules, mpsReply, longestText}
+use Rattle.writer.proofs.Longest.{text-fits}
 use Rattle.nesting.specs.Columns.{Sized, Ranged}
 use Rattle.nesting.proofs.Stages.{fits, headed, cost-anywhere}
 use Rattle.tables.specs.Table as table
@@ -89,6 +92,25 @@ solve-place t n p e =
     let l : length (t .parents) ≤ longestWalk = omega (arith, S .few-loops) in
     (l, (b, (l, (l, (b, (b, (omega arith, (b, (omega arith, (omega arith, tt)))))))))))
     (λ h q. absurd (let z : _≡_ {A = ℕ} 0 1 = cc in omega arith)) e
+
+pub text-place : (t : Routine) (room n p : ℕ) → mpsReply t room ≡ refused n p → p ≤ longestWalk
+unfolding mpsReply mpsRules structureRules
+text-place t room n p e =
+    sized-within t longestWalk _ (accepted (length (mpsText t))) n p
+    (λ S.
+    let b : blockCount t ≤ longestWalk = omega (arith, S .few-blocks) in
+    let l : length (t .parents) ≤ longestWalk = omega (arith, S .few-loops) in
+    (l, (b, (l, (l, (b, (b, (omega arith, (omega arith, tt)))))))))
+    (λ h q. absurd (let z : _≡_ {A = ℕ} 0 1 = cc in omega arith)) e
+
+-- an accepted length is that of the text
+pub text-length : (t : Routine) (room n : ℕ) → mpsReply t room ≡ accepted n → n ≤ longestText
+unfolding mpsReply mpsRules
+text-length t room n e =
+    let p = passes (mpsRules t room) (accepted (length (mpsText t))) n e in
+    let h = all-append (structureRules t) (undeclaredRule t ∷ []) (all-append (givenRules t) _ (p .0) .0) .0 in
+    let same : length (mpsText t) ≡ n = cc in
+    omega (arith, text-fits t h)
 
 -- ---- walks
 

@@ -5,7 +5,8 @@ use mathlib.Core.Logic.{_↔_}
 use mathlib.Core.Bool.{Bool}
 use mathlib.Core.List.{List}
 use lib.IntN.{ℤ, pos}
-use lib.ListN.{length}
+use mathlib.Core.Option.{some}
+use lib.ListN.{length, take}
 use lib.Signed.{_<ℤ_}
 use Rattle.wcet.specs.Table.{Routine}
 use Rattle.wcet.specs.Rules.{Reply as Answer, accepted, refused, structureRules, tableReply}
@@ -14,6 +15,10 @@ use Rattle.limits.specs.Limits.{longestWalk}
 use Rattle.wcet.specs.Walk.{Walked, walkReply}
 use Rattle.wcet.specs.Claim.{WcetBound, AllHold, FinishedRun}
 use Rattle.optimum.specs.Replies.{solveReply, figuresAfter, multipliersAfter, Optimum}
+use Rattle.mps.specs.Program.{programOf}
+use Rattle.mps.specs.Mps.{readMps}
+use Rattle.mps.specs.Claim.{named, NamesApart}
+use Rattle.mps.specs.Reply.{mpsReply, bufferAfter}
 use Rattle.csv.specs.declared.Ending.{Ending}
 use Rattle.csv.specs.declared.Ending.the-variants.{CrLf, Lf, EndOfText}
 use Rattle.tables.specs.Table.{blockTable, loopTable}
@@ -34,6 +39,11 @@ refusing number place = record { number = number; place = place; value = pos 0; 
 abbrev pub ofTables : Answer ℤ → Reply
 ofTables (accepted b) = acceptance b 0
 ofTables (refused n p) = refusing n p
+
+-- of the writer, the length of the text
+abbrev pub ofText : Answer ℕ → Reply
+ofText (accepted n) = acceptance (pos n) 0
+ofText (refused n p) = refusing n p
 
 -- of a walk, its cost and its steps
 abbrev pub ofWalk : Answer Walked → Reply
@@ -71,6 +81,14 @@ pub record TablesSolved (t : Routine) (r : Reply) (fs : List ℤ) (ks : List ℕ
   pub figures : fs ≡ figuresAfter t (solveReply t)
   pub multipliers : ks ≡ multipliersAfter t (solveReply t)
   pub optimum : r .number ≡ 0 → Optimum t fs ks (r .value)
+
+-- Document 02, §5: the reply of the writer and the buffer after the call. Where the number is 0, the first bytes of the buffer, as many as the
+-- value says, read as the program, and no two of its rows or columns share a name.
+pub record TextReplied (t : Routine) (before : List ℕ) (r : Reply) (after : List ℕ) : Type 0 where
+  pub replied : r ≡ ofText (mpsReply t (length before))
+  pub buffer : after ≡ bufferAfter t before (mpsReply t (length before))
+  pub reads : r .number ≡ 0 → (n : ℕ) → r .value ≡ pos n → readMps (take n after) ≡ some (named (programOf t))
+  pub apart : r .number ≡ 0 → NamesApart t
 
 -- Demand 2 of the reply to a walk: "A walk within the length limit, over tables that keep those ranges and rules, is accepted exactly when
 -- it is a finished counted run, with its true cost".

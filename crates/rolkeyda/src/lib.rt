@@ -1,4 +1,4 @@
-// The C library: the readers, the table checker, the walk checker and the solver, each with one reply struct for every answer. Nothing is
+// The C library: the readers, the table checker, the walk checker, the solver and the writer, each with one reply struct for every answer. Nothing is
 // decided here; each function hands its answer over in the struct's fields.
 ghost use mathlib.Core.Path.{_≡_};
 ghost use Rattle.nesting.specs.Columns.{routine};
@@ -6,8 +6,9 @@ ghost use Rattle.nesting.specs.Answers.{refusal};
 ghost use Rattle.certificate.specs.Answers.{tableMeaning};
 ghost use Rattle.walk.specs.Reply.{meaning};
 ghost use Rattle.solver.specs.Answers.{solveMeaning};
+ghost use Rattle.writer.specs.Answers.{mpsMeaning};
 ghost use Rattle.tables.specs.Columns.{blocks, loops};
-ghost use Rattle.rolkeyda.specs.Replies.{acceptance, refusing, ofTables, ofWalk, endingNumber, ofReading, PlaceFits, ValueFits, TablesReplied, TablesSolved, WalkReplied, BlocksReplied, LoopsReplied};
+ghost use Rattle.rolkeyda.specs.Replies.{acceptance, refusing, ofTables, ofText, ofWalk, endingNumber, ofReading, PlaceFits, ValueFits, TablesReplied, TablesSolved, TextReplied, WalkReplied, BlocksReplied, LoopsReplied};
 ghost use Prim.Native.Nat.{_<_, _^_};
 use certificate::TableReply;
 use csv::Ending;
@@ -15,8 +16,9 @@ use nesting::StructureFault;
 use solver::SolveReply;
 use tables::ReadReply;
 use walk::WalkReply;
+use writer::MpsReply;
 
-// number 0: accepted, with value the row count, the bound or the cost, and more the line end of a text's first record (0 CR LF, 1 LF, 2 the
+// number 0: accepted, with value the row count, the bound, the cost or the length, and more the line end of a text's first record (0 CR LF, 1 LF, 2 the
 // end of the text) or the steps of a walk. Else the number and place of a refusal.
 #[repr(C)]
 pub struct Reply {
@@ -88,6 +90,18 @@ fn solve_reply(answer: SolveReply) -> Reply
         SolveReply::NoPath(u) => refused(401, u),
         SolveReply::Multiplier => refused(402, 0),
         SolveReply::Figure => refused(403, 0),
+    }
+}
+
+fn mps_reply(answer: MpsReply) -> Reply
+    requires { ⌜ PlaceFits (ofText (mpsMeaning answer)) × ValueFits (ofText (mpsMeaning answer)) ⌝ }
+    ensures { λ r. ⌜ r ≡ ofText (mpsMeaning answer) ⌝ }
+{
+    match answer {
+        MpsReply::Length(length) => accepted(length as i64, 0),
+        MpsReply::Structure(fault) => structure(fault),
+        MpsReply::UndeclaredLoop => refused(209, 0),
+        MpsReply::NoRoom => refused(411, 0),
     }
 }
 
@@ -249,4 +263,35 @@ pub extern "C" fn rolkeyda_solve(
         multiplier,
     );
     solve_reply(answer)
+}
+
+// Writes the program of the tables as MPS into the buffer. The value is the length of the text; a refusal leaves the buffer as it was.
+#[no_mangle]
+pub extern "C" fn rolkeyda_mps(
+    cost: &[u32],
+    loops: &[u16],
+    first: &[u16],
+    second: &[u16],
+    figure: &[i64],
+    parent: &[u16],
+    header: &[u16],
+    limit: &[u32],
+    multiplier: &[u64],
+    text: &mut [u8],
+) -> Reply
+    ensures { λ r. ⌜ TextReplied (routine (now (cost .entry)) (now (loops .entry)) (now (first .entry)) (now (second .entry)) (now (figure .entry)) (now (parent .entry)) (now (header .entry)) (now (limit .entry)) (now (multiplier .entry))) (now (text .entry)) r (now (text .exit)) ⌝ }
+{
+    let answer = writer::mps(
+        cost,
+        loops,
+        first,
+        second,
+        figure,
+        parent,
+        header,
+        limit,
+        multiplier,
+        text,
+    );
+    mps_reply(answer)
 }

@@ -3,6 +3,7 @@ use mathlib.Core.Path.{_≡_, refl, sym, _∙_, ap}
 use mathlib.Core.Bool.{Bool, true, false, cond, not}
 use mathlib.Core.List.{List, [], _∷_, _++_}
 use Prim.Native.Nat.{ℕ, _+_, _-_, _*_, _/_, _%_, _<_, _≤_}
+use native.Mathlib.Decide.{ℕ-discrete}
 use native.Mathlib.Omega.{arith}
 use mir.Syntax.{w64}
 use mir.Val.{Fits}
@@ -95,7 +96,7 @@ head-size name row p q =
       length-replicate {A = ℕ} (8 - length row) 32,
     ) (omega arith)
 
-edge-head : (e : ℕ) (r : RowName) → length (head (edgeName e) (rowName r)) ≡ 24
+pub edge-head : (e : ℕ) (r : RowName) → length (head (edgeName e) (rowName r)) ≡ 24
 edge-head e r = head-size (edgeName e) (rowName r) (edge-named e .size) (row-named r .size)
 
 -- the card of 1 or −1
@@ -126,6 +127,13 @@ ends-length e u v ne = go (ltb u v) (ltb v u) refl refl
 ends-none : (e u v : ℕ) → u ≡ v → length (endsText e u v) ≡ 0
 unfolding endsText
 ends-none e u v q = rw (le-ltb u v (omega arith), le-ltb v u (omega arith))
+
+pub ends-most : (e u v : ℕ) → length (endsText e u v) ≤ 53
+ends-most e u v = go (ℕ-discrete u v)
+  where
+    go : Dec (u ≡ v) → length (endsText e u v) ≤ 53
+    go (yes q) = omega (arith, ends-none e u v q)
+    go (no ne) = omega (arith, ends-length e u v ne)
 
 module _ (x : Edge) (c k : ℕ) (C : CardLength true (x .cost) c) (K : CardLength (x .negative) (x .coefficient) k) where
   three : length (edgeText x) ≡ c + length (endsText (x .number) (x .source) (x .target)) + k

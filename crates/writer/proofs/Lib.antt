@@ -5,3 +5,4 @@ pub mod Edges
 pub mod Short
 pub mod Whole
 pub mod Reply
+pub mod Longest

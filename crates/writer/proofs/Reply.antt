@@ -51,7 +51,7 @@ loop-row-length : (l : ℕ) → length (loopRow l) ≡ 8
 unfolding loopRow rowName digitsIn
 loop-row-length l = refl
 
-rows-length : (n m : ℕ) → 0 < m → length (rowsText n m) + 8 ≡ 19 + 10 * n + 8 * m
+pub rows-length : (n m : ℕ) → 0 < m → length (rowsText n m) + 8 ≡ 19 + 10 * n + 8 * m
 unfolding rowsText
 rows-length n m h =
     rw (
@@ -61,7 +61,7 @@ rows-length n m h =
       span-length loopRow 8 loop-row-length 1 m,
     ) (omega arith)
 
-rights-length : (n : ℕ) → length (rightsText n) ≡ 64
+pub rights-length : (n : ℕ) → length (rightsText n) ≡ 64
 unfolding rightsText
 rights-length n =
     rw (

@@ -23,7 +23,7 @@ module _ (f : ℕ → List ℕ) where
   unfolding span numbersFrom flatMap
   span-none a = let z : a - a ≡ 0 = omega arith in rw z
 
-  span-split : (a i b : ℕ) → a ≤ i → i ≤ b → span f a b ≡ span f a i ++ span f i b
+  pub span-split : (a i b : ℕ) → a ≤ i → i ≤ b → span f a b ≡ span f a i ++ span f i b
   unfolding span
   span-split a i b p q =
       let k : b - a ≡ (i - a) + (b - i) = omega arith in
@@ -45,6 +45,15 @@ module _ (f : ℕ → List ℕ) where
       go : (k a : ℕ) → length (flatMap f (numbersFrom a k)) ≡ c * k
       go zero a = omega arith
       go (suc k) a = rw (length-append (f a) (flatMap f (numbersFrom (suc a) k)), h a, go k (suc a)) (omega arith)
+
+  -- and at most so, where each has at most that
+  pub span-most : (c a b : ℕ) → ((i : ℕ) → a ≤ i → i < b → length (f i) ≤ c) → length (span f a b) ≤ c * (b - a)
+  unfolding span numbersFrom flatMap
+  span-most c a b h = go (b - a) a (λ i p q. h i p (omega arith))
+    where
+      go : (k a : ℕ) → ((i : ℕ) → a ≤ i → i < a + k → length (f i) ≤ c) → length (flatMap f (numbersFrom a k)) ≤ c * k
+      go zero a h = omega arith
+      go (suc k) a h = rw (length-append (f a) (flatMap f (numbersFrom (suc a) k))) (omega (arith, h a (omega arith) (omega arith), go k (suc a) (λ i p q. h i (omega arith) (omega arith))))
 
 -- what a loop has written when it comes to number i, of a to b
 pub record Filled (f : ℕ → List ℕ) (a b at : ℕ) (before : List ℕ) (next i : ℕ) (after : List ℕ) : Type 0 where

@@ -165,7 +165,7 @@ module _ (t : Routine) (h : AllHold (structureRules t)) where
       loop-lines = rw (loop-signed u v p (N .target u v p there)) (card-line (edgeName e) (loop l) (loopNumber sets t u v .negative) (loopNumber sets t u v .size))
 
   -- one that is missing has no line
-  no-lines : (e v : ℕ) → v ≡ missing → edgeText (edgeTo sets t e v) ≡ []
+  pub no-lines : (e v : ℕ) → v ≡ missing → edgeText (edgeTo sets t e v) ≡ []
   unfolding edgeText edgeTo endsText card
   no-lines e v m = rw (eq-eqb v missing m, le-ltb (source e) (source e) (omega arith))
 

@@ -1,0 +1,79 @@
+use Rattle.rolkeyda.proofs.Answers.{text-structure, length-fits, text-accepted, text-fault, text-told}
+use borrow.Author.Needs.{needs}
+use Rattle.rolkeyda.proofs.mps_reply.Statement.{statement}
+use Rattle.rolkeyda.proofs.mps_reply.Tie as tie
+use Rattle.rolkeyda.proofs.mps_reply.Reads as reads
+use Rattle.rolkeyda.proofs.mps_reply.Lts as lts
+use Rattle.rolkeyda.proofs.accepted.Reads as accepted-reads
+use Rattle.rolkeyda.proofs.refused.Reads as refused-reads
+use Rattle.rolkeyda.proofs.structure.Reads as structure-reads
+
+-- src/lib.rt:101:26
+enum-known-answer : tie.Need-enum-known-answer
+enum-known-answer c = search needs
+
+-- src/lib.rt:101:46
+cast-accepted : tie.Need-cast-accepted
+cast-accepted c = search (length-fits, needs)
+
+-- src/lib.rt:101:37
+accepted-requires : tie.Need-accepted-requires
+accepted-requires c κs = search needs
+
+-- src/lib.rt:102:29
+enum-known-answer-2 : tie.Need-enum-known-answer-2
+enum-known-answer-2 c = search needs
+
+-- src/lib.rt:102:39
+structure-requires : tie.Need-structure-requires
+structure-requires c κs = search text-structure
+
+-- src/lib.rt:103:37
+enum-told : tie.Need-enum-told
+enum-told c = search needs
+
+-- src/lib.rt:103:37
+refused-requires : tie.Need-refused-requires
+refused-requires c κs = search needs
+
+-- src/lib.rt:104:29
+enum-told-2 : tie.Need-enum-told-2
+enum-told-2 c = search needs
+
+-- src/lib.rt:104:29
+refused-requires-2 : tie.Need-refused-requires-2
+refused-requires-2 c κs = search needs
+
+-- src/lib.rt:96:1
+returns : tie.Need-returns
+returns c = search (text-accepted, needs)
+
+-- src/lib.rt:96:1
+returns-2 : tie.Need-returns-2
+returns-2 c = search (text-fault, needs)
+
+-- src/lib.rt:96:1
+returns-3 : tie.Need-returns-3
+returns-3 c = search text-told
+
+-- src/lib.rt:96:1
+returns-4 : tie.Need-returns-4
+returns-4 c = search text-told
+
+pub mps-reply-spec : {M : Type 1} → statement M
+mps-reply-spec =
+    tie.close
+    (tie.spec
+    enum-known-answer
+    cast-accepted
+    accepted-requires
+    enum-known-answer-2
+    structure-requires
+    enum-told
+    refused-requires
+    enum-told-2
+    refused-requires-2
+    returns
+    returns-2
+    returns-3
+    returns-4)
