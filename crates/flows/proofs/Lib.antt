@@ -1,0 +1,3 @@
+-- Sums over lists; the program's rows as sums over edges.
+pub mod Totals
+pub mod Rows

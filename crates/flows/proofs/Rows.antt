@@ -1,0 +1,149 @@
+-- The program's rows: each row's number in a column and on the right side is the one that the definition gives it (`row-value`, `right-value`),
+-- and a flow meets all rows where it meets each (`meets-all`, `all-meets`). Assumes nothing.
+use mathlib.Core.Path.{_≡_, refl, sym, _∙_, ap, ap₂}
+use mathlib.Core.Bool.{Bool, true, false, not, true≢false}
+use mathlib.Core.List.{List, [], _∷_, _++_, map}
+use Prim.Native.Nat.{ℕ, zero, suc, _-_, _*_, _<_}
+use native.Mathlib.Omega.{arith}
+use lib.Dec.{eqb}
+use lib.IntN.{ℤ, pos, negsuc, _+ℤ_, _*ℤ_, +ℤ-idl, +ℤ-idr}
+use borrow.Author.Tests.{eq-eqb, ne-eqb}
+use Rattle.lists.specs.Search.{if_then_else_}
+use Rattle.wcet.specs.Table.{Routine, blockCount, loopCount, missing, edge}
+use Rattle.mps.specs.Program.{Row, Entry, RowName, objective, block, loop, kindOf, Program, numbersFrom, keep, rowsOf, source, target, edgesOf, number, rightSide, isZero, entriesOf, columnOf, programOf}
+use Rattle.mps.specs.Flow.{sameRow, numberAt, rowValue, Meets, AllMet}
+use Rattle.mps.proofs.Sections.{All, all-append}
+use Rattle.mps.proofs.Routines.{between-all, kept-all, edge-there}
+use Rattle.flows.proofs.Totals.{total, total-append, total-map, total-none, total-one}
+
+-- the rows beside the objective
+abbrev pub constraints : Routine → List RowName
+constraints t = map block (numbersFrom 0 (blockCount t)) ++ map loop (numbersFrom 1 (loopCount t - 1))
+
+-- a sum over them: over the blocks, and over the loops from 1 up
+pub total-constraints : (t : Routine) (f : RowName → ℤ)
+    → total f (constraints t) ≡ total (λ b. f (block b)) (numbersFrom 0 (blockCount t)) +ℤ total (λ l. f (loop l)) (numbersFrom 1 (loopCount t - 1))
+total-constraints t f =
+    total-append f (map block (numbersFrom 0 (blockCount t))) (map loop (numbersFrom 1 (loopCount t - 1)))
+    ∙ ap₂ _+ℤ_ (total-map f block (numbersFrom 0 (blockCount t))) (total-map f loop (numbersFrom 1 (loopCount t - 1)))
+
+-- a row of the program
+abbrev pub RowOf : Routine → RowName → Type 0
+RowOf t objective = Unit {0}
+RowOf t (block b) = b < blockCount t
+RowOf t (loop l) = (0 < l) × (l < loopCount t)
+
+pub constraint-rows : (t : Routine) → All (RowOf t) (constraints t)
+constraint-rows t =
+    all-append (RowOf t) (map block (numbersFrom 0 (blockCount t))) (map loop (numbersFrom 1 (loopCount t - 1)))
+    (between-all (RowOf t) block (blockCount t) 0 (λ i c l. omega arith)) (between-all (RowOf t) loop (loopCount t - 1) 1 (λ i c l. (omega arith, omega arith)))
+
+-- ---- the number of a row
+
+is-zero : (z : ℤ) → isZero z ≡ true → z ≡ pos 0
+is-zero (pos zero) e = refl
+is-zero (pos (suc n)) e = absurd (true≢false (sym e))
+is-zero (negsuc n) e = absurd (true≢false (sym e))
+
+-- f's number in row s, as row r sees it
+abbrev seen : (RowName → ℤ) → RowName → RowName → ℤ
+seen f r s = if sameRow s r then f s else pos 0
+
+number-total : (f : RowName → ℤ) (r : RowName) (rows : List RowName) → numberAt r (entriesOf f rows) ≡ total (seen f r) rows
+unfolding entriesOf keep numberAt total
+number-total f r [] = refl
+number-total f r (s ∷ rows) = first (isZero (f s)) refl ∙ ap (λ (z : ℤ). seen f r s +ℤ z) (number-total f r rows)
+  where
+    here : Entry RowName
+    here = record { row = s; number = f s }
+
+    rest : List (Entry RowName)
+    rest = entriesOf f rows
+
+    none : (b : Bool) → numberAt r rest ≡ (if b then pos 0 else pos 0) +ℤ numberAt r rest
+    none true = sym (+ℤ-idl (numberAt r rest))
+    none false = sym (+ℤ-idl (numberAt r rest))
+
+    some : (b : Bool) → (if b then f s +ℤ numberAt r rest else numberAt r rest) ≡ (if b then f s else pos 0) +ℤ numberAt r rest
+    some true = refl
+    some false = sym (+ℤ-idl (numberAt r rest))
+
+    first : (z : Bool) → isZero (f s) ≡ z → numberAt r (if not z then here ∷ rest else rest) ≡ seen f r s +ℤ numberAt r rest
+    first true e = rw (is-zero (f s) e) (none (sameRow s r))
+    first false e = some (sameRow s r)
+
+-- a row stands once among the rows
+pub number-at : (t : Routine) (f : RowName → ℤ) (r : RowName) → RowOf t r → numberAt r (entriesOf f (rowsOf t)) ≡ f r
+unfolding rowsOf total
+number-at t f r h = number-total f r (rowsOf t) ∙ ap (λ (z : ℤ). seen f r objective +ℤ z) (total-constraints t (seen f r)) ∙ go r h
+  where
+    n : ℕ
+    n = blockCount t
+
+    m : ℕ
+    m = loopCount t - 1
+
+    go : (r : RowName) → RowOf t r → seen f r objective +ℤ (total (λ b. seen f r (block b)) (numbersFrom 0 n) +ℤ total (λ l. seen f r (loop l)) (numbersFrom 1 m)) ≡ f r
+    go objective h = rw (total-none (λ b. pos 0) n 0 (λ i p q. refl), total-none (λ l. pos 0) m 1 (λ i p q. refl)) (+ℤ-idr (f objective))
+    go (block b) h =
+        rw (
+          total-one (λ i. f (block i)) (λ i. eqb i b) b n 0 (omega arith) (omega arith) (eq-eqb b b refl) (λ i ne. ne-eqb i b ne),
+          total-none (λ l. pos 0) m 1 (λ i p q. refl),
+          +ℤ-idr (f (block b)),
+        )
+        (+ℤ-idl (f (block b)))
+    go (loop l) h =
+        rw (
+          total-none (λ b. pos 0) n 0 (λ i p q. refl),
+          total-one (λ i. f (loop i)) (λ i. eqb i l) l m 1 (h .0) (omega (arith, h .1)) (eq-eqb l l refl) (λ i ne. ne-eqb i l ne),
+          +ℤ-idl (f (loop l)),
+        )
+        (+ℤ-idl (f (loop l)))
+
+-- ---- a column and a row
+
+-- an edge of the program
+pub record EdgeOf (t : Routine) (e : ℕ) : Type 0 where
+  pub from : source e < blockCount t
+  pub there : edge t (source e) (target t e) ≡ true
+
+pub edges-all : (t : Routine) → All (EdgeOf t) (edgesOf t)
+unfolding edgesOf
+edges-all t = kept-all (EdgeOf t) (λ e. not (eqb (target t e) missing)) (2 * blockCount t) 0 (λ e l h. record { from = omega arith; there = edge-there t e h })
+
+-- the number of edge e in row r
+abbrev pub edgeNumber : Routine → RowName → ℕ → ℤ
+edgeNumber t r e = number t (source e) (target t e) r
+
+columns-value : (t : Routine) (x : ℕ → ℕ) (r : RowName) → RowOf t r → (es : List ℕ) → rowValue (map (columnOf t) es) x r ≡ total (λ e. pos (x e) *ℤ edgeNumber t r e) es
+unfolding rowValue total columnOf
+columns-value t x r h [] = refl
+columns-value t x r h (e ∷ es) = ap₂ (λ (a b : ℤ). pos (x e) *ℤ a +ℤ b) (number-at t (number t (source e) (target t e)) r h) (columns-value t x r h es)
+
+pub row-value : (t : Routine) (x : ℕ → ℕ) (r : RowName) → RowOf t r
+    → rowValue (programOf t .columns) x r ≡ total (λ e. pos (x e) *ℤ edgeNumber t r e) (edgesOf t)
+unfolding programOf
+row-value t x r h = columns-value t x r h (edgesOf t)
+
+pub right-value : (t : Routine) (r : RowName) → RowOf t r → numberAt r (programOf t .right) ≡ rightSide t r
+unfolding programOf
+right-value t r h = number-at t (rightSide t) r h
+
+-- ---- all rows are met exactly where each is
+
+-- what the row says of a flow, times q
+abbrev pub Met : Routine → ℕ → (ℕ → ℕ) → RowName → Type 0
+Met t q x r = Meets (kindOf r) (rowValue (programOf t .columns) x r) (pos q *ℤ rightSide t r)
+
+abbrev rowOf : RowName → Row RowName
+rowOf r = record { kind = kindOf r; name = r }
+
+pub meets-all : (t : Routine) (q : ℕ) (x : ℕ → ℕ) (rows : List RowName) → All (RowOf t) rows → AllMet (programOf t) q x (map rowOf rows)
+    → All (λ r. RowOf t r × Met t q x r) rows
+meets-all t q x [] a m = tt
+meets-all t q x (r ∷ rows) a m = ((a .0, rw (right-value t r (a .0)) at (m .0)), meets-all t q x rows (a .1) (m .1))
+
+pub all-meets : (t : Routine) (q : ℕ) (x : ℕ → ℕ) → ((r : RowName) → RowOf t r → Met t q x r) → (rows : List RowName) → All (RowOf t) rows
+    → AllMet (programOf t) q x (map rowOf rows)
+all-meets t q x h [] a = tt
+all-meets t q x h (r ∷ rows) a = (rw (right-value t r (a .0)) (h r (a .0)), all-meets t q x h rows (a .1))

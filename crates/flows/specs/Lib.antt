@@ -1,0 +1,1 @@
+-- The definitions and the claims stand in crates/mps/specs/Flow.antt.
