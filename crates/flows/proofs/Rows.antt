@@ -1,5 +1,5 @@
 -- The program's rows: each row's number in a column and on the right side is the one that the definition gives it (`row-value`, `right-value`),
--- and a flow meets all rows where it meets each (`meets-all`, `all-meets`). Assumes nothing.
+-- and a flow meets all rows where it meets each (`feasible-each`, `each-feasible`). Assumes nothing.
 use mathlib.Core.Path.{_≡_, refl, sym, _∙_, ap, ap₂}
 use mathlib.Core.Bool.{Bool, true, false, not, true≢false}
 use mathlib.Core.List.{List, [], _∷_, _++_, map}
@@ -7,25 +7,22 @@ use Prim.Native.Nat.{ℕ, zero, suc, _-_, _*_, _<_}
 use native.Mathlib.Omega.{arith}
 use lib.Dec.{eqb}
 use lib.IntN.{ℤ, pos, negsuc, _+ℤ_, _*ℤ_, +ℤ-idl, +ℤ-idr}
-use borrow.Author.Tests.{eq-eqb, ne-eqb}
+use borrow.Author.Tests.{eqb-true, eqb-false, eq-eqb, ne-eqb}
 use Rattle.lists.specs.Search.{if_then_else_}
-use Rattle.wcet.specs.Table.{Routine, blockCount, loopCount, missing, edge}
+use Rattle.wcet.specs.Table.{Routine, blockCount, loopCount, exit, missing, edge}
 use Rattle.mps.specs.Program.{Row, Entry, RowName, objective, block, loop, kindOf, Program, numbersFrom, keep, rowsOf, source, target, edgesOf, number, rightSide, isZero, entriesOf, columnOf, programOf}
-use Rattle.mps.specs.Flow.{sameRow, numberAt, rowValue, Meets, AllMet}
+use Rattle.mps.specs.Flow.{sameRow, numberAt, rowValue, Meets, AllMet, Feasible}
 use Rattle.mps.proofs.Sections.{All, all-append}
 use Rattle.mps.proofs.Routines.{between-all, kept-all, edge-there}
 use Rattle.flows.proofs.Totals.{total, total-append, total-map, total-none, total-one}
 
--- the rows beside the objective
-abbrev pub constraints : Routine → List RowName
-constraints t = map block (numbersFrom 0 (blockCount t)) ++ map loop (numbersFrom 1 (loopCount t - 1))
-
--- a sum over them: over the blocks, and over the loops from 1 up
-pub total-constraints : (t : Routine) (f : RowName → ℤ)
-    → total f (constraints t) ≡ total (λ b. f (block b)) (numbersFrom 0 (blockCount t)) +ℤ total (λ l. f (loop l)) (numbersFrom 1 (loopCount t - 1))
-total-constraints t f =
-    total-append f (map block (numbersFrom 0 (blockCount t))) (map loop (numbersFrom 1 (loopCount t - 1)))
-    ∙ ap₂ _+ℤ_ (total-map f block (numbersFrom 0 (blockCount t))) (total-map f loop (numbersFrom 1 (loopCount t - 1)))
+-- a sum over the rows: the objective, the blocks, and the loops from 1 up
+pub total-rows : (t : Routine) (f : RowName → ℤ)
+    → total f (rowsOf t) ≡ f objective +ℤ (total (λ b. f (block b)) (numbersFrom 0 (blockCount t)) +ℤ total (λ l. f (loop l)) (numbersFrom 1 (loopCount t - 1)))
+unfolding rowsOf total
+total-rows t f =
+    ap (λ (z : ℤ). f objective +ℤ z) (total-append f (map block (numbersFrom 0 (blockCount t))) (map loop (numbersFrom 1 (loopCount t - 1)))
+    ∙ ap₂ _+ℤ_ (total-map f block (numbersFrom 0 (blockCount t))) (total-map f loop (numbersFrom 1 (loopCount t - 1))))
 
 -- a row of the program
 abbrev pub RowOf : Routine → RowName → Type 0
@@ -33,10 +30,13 @@ RowOf t objective = Unit {0}
 RowOf t (block b) = b < blockCount t
 RowOf t (loop l) = (0 < l) × (l < loopCount t)
 
-pub constraint-rows : (t : Routine) → All (RowOf t) (constraints t)
-constraint-rows t =
-    all-append (RowOf t) (map block (numbersFrom 0 (blockCount t))) (map loop (numbersFrom 1 (loopCount t - 1)))
-    (between-all (RowOf t) block (blockCount t) 0 (λ i c l. omega arith)) (between-all (RowOf t) loop (loopCount t - 1) 1 (λ i c l. (omega arith, omega arith)))
+pub rows-all : (t : Routine) → All (RowOf t) (rowsOf t)
+unfolding rowsOf
+rows-all t = (
+  tt,
+  all-append (RowOf t) (map block (numbersFrom 0 (blockCount t))) (map loop (numbersFrom 1 (loopCount t - 1)))
+  (between-all (RowOf t) block (blockCount t) 0 (λ i c l. omega arith)) (between-all (RowOf t) loop (loopCount t - 1) 1 (λ i c l. (omega arith, omega arith))),
+)
 
 -- ---- the number of a row
 
@@ -74,8 +74,7 @@ number-total f r (s ∷ rows) = first (isZero (f s)) refl ∙ ap (λ (z : ℤ). 
 
 -- a row stands once among the rows
 pub number-at : (t : Routine) (f : RowName → ℤ) (r : RowName) → RowOf t r → numberAt r (entriesOf f (rowsOf t)) ≡ f r
-unfolding rowsOf total
-number-at t f r h = number-total f r (rowsOf t) ∙ ap (λ (z : ℤ). seen f r objective +ℤ z) (total-constraints t (seen f r)) ∙ go r h
+number-at t f r h = number-total f r (rowsOf t) ∙ total-rows t (seen f r) ∙ go r h
   where
     n : ℕ
     n = blockCount t
@@ -129,6 +128,18 @@ pub right-value : (t : Routine) (r : RowName) → RowOf t r → numberAt r (prog
 unfolding programOf
 right-value t r h = number-at t (rightSide t) r h
 
+eqb-sym : (a b : ℕ) → eqb a b ≡ eqb b a
+eqb-sym a b = go (eqb a b) refl
+  where
+    go : (c : Bool) → eqb a b ≡ c → c ≡ eqb b a
+    go true e = sym (eq-eqb b a (sym (eqb-true a b e)))
+    go false e = sym (ne-eqb b a (λ q. eqb-false a b e (sym q)))
+
+-- a block's right side is its number in an edge from the entry to the exit
+pub right-block : (t : Routine) (b : ℕ) → rightSide t (block b) ≡ number t 0 (exit t) (block b)
+unfolding rightSide number
+right-block t b = rw (eqb-sym b 0, eqb-sym b (exit t))
+
 -- ---- all rows are met exactly where each is
 
 -- what the row says of a flow, times q
@@ -138,12 +149,20 @@ Met t q x r = Meets (kindOf r) (rowValue (programOf t .columns) x r) (pos q *ℤ
 abbrev rowOf : RowName → Row RowName
 rowOf r = record { kind = kindOf r; name = r }
 
-pub meets-all : (t : Routine) (q : ℕ) (x : ℕ → ℕ) (rows : List RowName) → All (RowOf t) rows → AllMet (programOf t) q x (map rowOf rows)
+met-each : (t : Routine) (q : ℕ) (x : ℕ → ℕ) (rows : List RowName) → All (RowOf t) rows → AllMet (programOf t) q x (map rowOf rows)
     → All (λ r. RowOf t r × Met t q x r) rows
-meets-all t q x [] a m = tt
-meets-all t q x (r ∷ rows) a m = ((a .0, rw (right-value t r (a .0)) at (m .0)), meets-all t q x rows (a .1) (m .1))
+met-each t q x [] a m = tt
+met-each t q x (r ∷ rows) a m = ((a .0, rw (right-value t r (a .0)) at (m .0)), met-each t q x rows (a .1) (m .1))
 
-pub all-meets : (t : Routine) (q : ℕ) (x : ℕ → ℕ) → ((r : RowName) → RowOf t r → Met t q x r) → (rows : List RowName) → All (RowOf t) rows
+each-met : (t : Routine) (q : ℕ) (x : ℕ → ℕ) → ((r : RowName) → RowOf t r → Met t q x r) → (rows : List RowName) → All (RowOf t) rows
     → AllMet (programOf t) q x (map rowOf rows)
-all-meets t q x h [] a = tt
-all-meets t q x h (r ∷ rows) a = (rw (right-value t r (a .0)) (h r (a .0)), all-meets t q x h rows (a .1))
+each-met t q x h [] a = tt
+each-met t q x h (r ∷ rows) a = (rw (right-value t r (a .0)) (h r (a .0)), each-met t q x h rows (a .1))
+
+pub feasible-each : (t : Routine) (q : ℕ) (x : ℕ → ℕ) → Feasible (programOf t) q x → All (λ r. RowOf t r × Met t q x r) (rowsOf t)
+unfolding Feasible programOf
+feasible-each t q x h = met-each t q x (rowsOf t) (rows-all t) h
+
+pub each-feasible : (t : Routine) (q : ℕ) (x : ℕ → ℕ) → ((r : RowName) → RowOf t r → Met t q x r) → Feasible (programOf t) q x
+unfolding Feasible programOf
+each-feasible t q x h = each-met t q x h (rowsOf t) (rows-all t)
