@@ -3,3 +3,8 @@ pub mod Totals
 pub mod Rows
 -- No solution costs more than an accepted bound.
 pub mod Duality
+-- A run as a flow: sums over the edges that it takes; every finished counted run is a solution, at its own cost.
+pub mod Steps
+pub mod Runs
+-- The solver's bound is the program's optimum.
+pub mod Optimum
