@@ -2,19 +2,18 @@
 -- of the rows: an edge's numbers times them add up to 0 or more, because the edge keeps its inequality (208). Assumes nothing.
 use mathlib.Core.Path.{_≡_, refl, sym, _∙_, ap, ap₂, fun-ext}
 use mathlib.Core.Bool.{Bool, true, false, not}
-use mathlib.Core.List.{List, _∷_}
 use Prim.Native.Nat.{ℕ, _+_, _-_, _*_, _≤_, _<_}
 use native.Mathlib.Decide.{ℕ-discrete}
 use native.Mathlib.Omega.{arith}
 use lib.Dec.{eqb}
 use borrow.Author.Tests.{eq-eqb, ne-eqb}
-use lib.IntN.{ℤ, pos, negℤ, _+ℤ_, _-ℤ_, _*ℤ_, +ℤ-idl, +ℤ-idr, +ℤ-invr, +ℤ-comm, +ℤ-assoc, *ℤ-one, *ℤ-zero, zero-*ℤ, *ℤ-negsuc, *ℤ-comm}
+use lib.IntN.{ℤ, pos, negℤ, _+ℤ_, _-ℤ_, _*ℤ_, +ℤ-idl, +ℤ-idr, +ℤ-invr, +ℤ-comm, +ℤ-assoc, *ℤ-one, *ℤ-zero, zero-*ℤ, *ℤ-negsuc}
 use lib.Signed.{_≤ℤ_}
 use Rattle.lists.specs.Search.{if_then_else_}
 use Rattle.integers.specs.Parts.{up, dn}
 use Rattle.integers.proofs.Laws.{ints, sum, diff, times}
 use Rattle.wcet.specs.Table.{Routine, blockCount, loopCount, exit, cost, loopOf, figure, header, limit, multiplier, edge, inside, isHeader}
-use Rattle.wcet.specs.Rules.{accepted, inequality, edgeHolds, tableRules, bound, tableReply}
+use Rattle.wcet.specs.Rules.{inequality, edgeHolds, tableRules, bound}
 use Rattle.wcet.specs.Claim.{AllHold}
 use Rattle.wcet.proofs.Nesting.{Nested}
 use Rattle.wcet.proofs.Around.{header-of}
@@ -22,7 +21,8 @@ use Rattle.wcet.proofs.Replies.{replies-exactly}
 use Rattle.wcet.proofs.Bound.{Facts, facts}
 use Rattle.mps.specs.Program.{RowName, objective, block, loop, numbersFrom, rowsOf, source, target, edgesOf, one, number, rightSide, programOf}
 use Rattle.mps.specs.Flow.{rowValue, Feasible, flowCost, WeakDuality}
-use Rattle.flows.proofs.Totals.{spread, times-le, reorder, total, total-plus, total-times, total-zero, total-same, total-le, total-swap, total-none, total-only, total-one}
+use Rattle.flows.proofs.Totals.{spread, reorder, times-le, total, total-plus, total-times, total-zero, total-same, total-le, total-swap}
+use Rattle.flows.proofs.Totals.{total-none, total-only, total-one}
 use Rattle.flows.proofs.Rows.{total-rows, RowOf, rows-all, EdgeOf, edges-all, edgeNumber, row-value, right-block, Met, feasible-each}
 
 -- ---- what the figures and multipliers give of an edge's numbers
@@ -127,8 +127,11 @@ module _ (t : Routine) (F : Facts t) where
           total-same (RowOf t) (λ r. dual t r *ℤ total (λ e. pos (x e) *ℤ edgeNumber t r e) (edgesOf t)) (λ r. dual t r *ℤ value r)
           (λ r h. ap (λ (z : ℤ). dual t r *ℤ z) (sym (row-value t x r h))) (rowsOf t) (rows-all t),
         ) at
-        (total-le (EdgeOf t) (λ e. pos (x e) *ℤ pos 0) (λ e. pos (x e) *ℤ total (λ r. dual t r *ℤ edgeNumber t r e) (rowsOf t))
-        (λ e h. times-le (x e) (pos 0) (total (λ r. dual t r *ℤ edgeNumber t r e) (rowsOf t)) (not-negative (source e) (target t e) (h .from) (h .there))) (edgesOf t) (edges-all t))
+        (total-le (EdgeOf t) (λ e. pos (x e) *ℤ pos 0) (λ e. pos (x e) *ℤ priced e)
+        (λ e h. times-le (x e) (pos 0) (priced e) (not-negative (source e) (target t e) (h .from) (h .there))) (edgesOf t) (edges-all t))
+      where
+        priced : ℕ → ℤ
+        priced e = total (λ r. dual t r *ℤ edgeNumber t r e) (rowsOf t)
 
     -- what a row that is met allows
     abbrev allowed : RowName → ℤ

@@ -39,7 +39,8 @@ module _ (t : Routine) (fs : List ℤ) (ks : List ℕ) where
   same-program : programOf t′ ≡ programOf t
   unfolding programOf rowsOf edgesOf
   same-program =
-      ap₂ (λ (c : ℕ → Column ℕ RowName) (f : RowName → ℤ). record { rows = programOf t .rows; columns = map c (edgesOf t); right = entriesOf f (rowsOf t) }) (fun-ext same-column) (fun-ext same-right)
+      ap₂ (λ (c : ℕ → Column ℕ RowName) (f : RowName → ℤ). record { rows = programOf t .rows; columns = map c (edgesOf t); right = entriesOf f (rowsOf t) })
+      (fun-ext same-column) (fun-ext same-right)
 
   -- so whatever columns give a bound, it is one for the solutions of t's program
   bounded : (b : ℤ) → tableReply t′ ≡ accepted b → (q : ℕ) (x : ℕ → ℕ) → Feasible (programOf t) q x → flowCost t q x ≤ℤ (pos q *ℤ b)

@@ -2,7 +2,7 @@
 -- and a flow meets all rows where it meets each (`feasible-each`, `each-feasible`). Assumes nothing.
 use mathlib.Core.Path.{_≡_, refl, sym, _∙_, ap, ap₂}
 use mathlib.Core.Bool.{Bool, true, false, not, true≢false}
-use mathlib.Core.List.{List, [], _∷_, _++_, map}
+use mathlib.Core.List.{List, [], _∷_, map}
 use Prim.Native.Nat.{ℕ, zero, suc, _-_, _*_, _<_}
 use native.Mathlib.Omega.{arith}
 use lib.Dec.{eqb}
@@ -10,7 +10,8 @@ use lib.IntN.{ℤ, pos, negsuc, _+ℤ_, _*ℤ_, +ℤ-idl, +ℤ-idr}
 use borrow.Author.Tests.{eqb-true, eqb-false, eq-eqb, ne-eqb}
 use Rattle.lists.specs.Search.{if_then_else_}
 use Rattle.wcet.specs.Table.{Routine, blockCount, loopCount, exit, missing, edge}
-use Rattle.mps.specs.Program.{Row, Entry, RowName, objective, block, loop, kindOf, Program, numbersFrom, keep, rowsOf, source, target, edgesOf, number, rightSide, isZero, entriesOf, columnOf, programOf}
+use Rattle.mps.specs.Program.{Row, Entry, RowName, objective, block, loop, kindOf, numbersFrom, keep, rowsOf, source, target, edgesOf, number, rightSide, isZero}
+use Rattle.mps.specs.Program.{entriesOf, columnOf, programOf}
 use Rattle.mps.specs.Flow.{sameRow, numberAt, rowValue, Meets, AllMet, Feasible}
 use Rattle.mps.proofs.Sections.{All, all-append}
 use Rattle.mps.proofs.Routines.{between-all, kept-all, edge-there}
@@ -110,9 +111,12 @@ pub edges-all : (t : Routine) → All (EdgeOf t) (edgesOf t)
 unfolding edgesOf
 edges-all t = kept-all (EdgeOf t) (λ e. not (eqb (target t e) missing)) (2 * blockCount t) 0 (λ e l h. record { from = omega arith; there = edge-there t e h })
 
--- the number of edge e in row r
+-- the number in row r of an edge from u to v, and of edge e
+abbrev pub inRow : Routine → RowName → (u v : ℕ) → ℤ
+inRow t r u v = number t u v r
+
 abbrev pub edgeNumber : Routine → RowName → ℕ → ℤ
-edgeNumber t r e = number t (source e) (target t e) r
+edgeNumber t r e = inRow t r (source e) (target t e)
 
 columns-value : (t : Routine) (x : ℕ → ℕ) (r : RowName) → RowOf t r → (es : List ℕ) → rowValue (map (columnOf t) es) x r ≡ total (λ e. pos (x e) *ℤ edgeNumber t r e) es
 unfolding rowValue total columnOf

@@ -6,49 +6,53 @@ use Prim.Native.Nat.{ℕ, _+_, _-_, _≤_, _<_}
 use native.Mathlib.Omega.{arith}
 use lib.Dec.{eqb}
 use borrow.Author.Tests.{eqb-true, eq-eqb, ne-eqb}
-use lib.IntN.{ℤ, pos, negℤ, _+ℤ_, _-ℤ_, _*ℤ_, +ℤ-invr, negℤ-+ℤ, negℤ-negℤ}
+use lib.IntN.{ℤ, pos, negℤ, _+ℤ_, _-ℤ_, +ℤ-invr, negℤ-+ℤ, negℤ-negℤ}
 use lib.ListN.{length, getD}
 use lib.Signed.{_≤ℤ_}
 use Rattle.lists.specs.Search.{if_then_else_}
 use Rattle.lists.proofs.Tests.{and-true}
 use Rattle.integers.proofs.Laws.{ints, sum, diff, times}
 use Rattle.wcet.specs.Table.{Routine, blockCount, loopCount, exit, cost, header, limit, edge, inside}
-use Rattle.wcet.specs.Rules.{structureRules}
 use Rattle.wcet.specs.Run.{path, run, State, start, nextCount, next, after, passesLimit, keepsLimits, countedRun, runCost}
-use Rattle.wcet.specs.Claim.{AllHold, FinishedRun}
 use Rattle.wcet.proofs.Nesting.{Nested, nested}
 use Rattle.wcet.proofs.Entry.{inside-0}
-use Rattle.wcet.proofs.Limits.{WithinLimits, keeps-each}
+use Rattle.wcet.proofs.Limits.{keeps-each}
 use Rattle.wcet.proofs.Counts.{header-inside}
 use Rattle.mps.specs.Program.{RowName, objective, block, loop, one, number, rightSide, programOf}
-use Rattle.mps.specs.Flow.{rowValue, Feasible, flowCost, flowOf, RunIsFlow, RunsAreFlows}
-use Rattle.flows.proofs.Rows.{RowOf, row-value, right-block, Met, each-feasible}
+use Rattle.mps.specs.Flow.{rowValue, flowCost, flowOf, RunIsFlow, RunsAreFlows}
+use Rattle.flows.proofs.Rows.{RowOf, inRow, row-value, right-block, Met, each-feasible}
 use Rattle.flows.proofs.Steps.{steps, sum-taken}
 
 -- ---- the numbers of a row, added up along a path
 
 -- COST: the cost of the blocks after the first, negated
-cost-steps : (t : Routine) (w : List ℕ) (u : ℕ) → steps (λ u v. number t u v objective) u w ≡ negℤ (pos (runCost t w))
+cost-steps : (t : Routine) (w : List ℕ) (u : ℕ) → steps (inRow t objective) u w ≡ negℤ (pos (runCost t w))
 unfolding steps number runCost
 cost-steps t [] u = refl
 cost-steps t (v ∷ w) u = ap (λ (z : ℤ). negℤ (pos (cost t v)) +ℤ z) (cost-steps t w v) ∙ sym (negℤ-+ℤ (pos (cost t v)) (pos (runCost t w)))
 
--- a block: what an edge from the first to the last block of the path has
-block-steps : (t : Routine) (b : ℕ) (w : List ℕ) (u : ℕ) → steps (λ u v. number t u v (block b)) u w ≡ number t u (getD (u ∷ w) (length w) 0) (block b)
+-- a block: the number of an edge from the first block of the path to the last
+joined : (x y z : ℤ) → x -ℤ y +ℤ (y -ℤ z) ≡ x -ℤ z
+joined x y z = omega (ints, diff x y, diff y z, diff x z, sum (x -ℤ y) (y -ℤ z))
+
+block-steps : (t : Routine) (b : ℕ) (w : List ℕ) (u : ℕ) → steps (inRow t (block b)) u w ≡ inRow t (block b) u (getD (u ∷ w) (length w) 0)
 unfolding steps number
 block-steps t b [] u = sym (+ℤ-invr (one (eqb u b)))
-block-steps t b (v ∷ w) u = ap (λ (z : ℤ). one (eqb u b) -ℤ one (eqb v b) +ℤ z) (block-steps t b w v) ∙ joined (one (eqb u b)) (one (eqb v b)) (one (eqb (getD (v ∷ w) (length w) 0) b))
-  where
-    joined : (x y z : ℤ) → x -ℤ y +ℤ (y -ℤ z) ≡ x -ℤ z
-    joined x y z = omega (ints, diff x y, diff y z, diff x z, sum (x -ℤ y) (y -ℤ z))
+block-steps t b (v ∷ w) u =
+    ap (λ (z : ℤ). inRow t (block b) u v +ℤ z) (block-steps t b w v) ∙ joined (one (eqb u b)) (one (eqb v b)) (one (eqb (getD (v ∷ w) (length w) 0) b))
 
--- a loop: no more than the visits that are left of its limit b, where the path starts inside of it and has c visits behind it
+-- a loop: what is left of its limit b after c visits, where the path starts inside of it
 abbrev left : Bool → ℕ → ℕ → ℤ
 left i b c = if i then pos b -ℤ pos c else pos 0
 
+left-most : (i : Bool) (b c : ℕ) → c ≤ b → pos 0 ≤ℤ left i b c
+left-most true b c h = omega (ints, diff (pos b) (pos c))
+left-most false b c h = omega ints
+
 -- one step, by its tests: u and v inside the loop, v its header
 loop-step : (iu iv eh : Bool) (b c : ℕ) → (eh ≡ true → iv ≡ true) → (iv ≡ true → iu ≡ false → eh ≡ true) → c ≤ b
-    → ((if not eh then pos 0 else if iu then pos 1 else pos 1 -ℤ pos b) +ℤ left iv b (if iu && not iv then 0 else if not eh then c else if iu then c + 1 else 1)) ≤ℤ left iu b c
+    → ((if not eh then pos 0 else if iu then pos 1 else pos 1 -ℤ pos b)
+    +ℤ left iv b (if iu && not iv then 0 else if not eh then c else if iu then c + 1 else 1)) ≤ℤ left iu b c
 loop-step true true true b c p q h = omega (ints, diff (pos b) (pos (c + 1)), sum (pos 1) (pos b -ℤ pos (c + 1)), diff (pos b) (pos c))
 loop-step true true false b c p q h = omega (ints, sum (pos 0) (pos b -ℤ pos c))
 loop-step true false true b c p q h = absurd (false≢true (p refl))
@@ -58,48 +62,58 @@ loop-step false true false b c p q h = absurd (false≢true (q refl refl))
 loop-step false false true b c p q h = absurd (false≢true (p refl))
 loop-step false false false b c p q h = omega ints
 
-within : (i : Bool) (b c : ℕ) → c ≤ b → pos 0 ≤ℤ left i b c
-within true b c h = omega (ints, diff (pos b) (pos c))
-within false b c h = omega ints
-
--- so along a step, and what follows it
-follows : (a x y z : ℤ) → (a +ℤ y) ≤ℤ z → x ≤ℤ y → (a +ℤ x) ≤ℤ z
-follows a x y z h k = omega (ints, sum a x, sum a y)
+-- a step, and those after it
+chained : (a x y z : ℤ) → (a +ℤ y) ≤ℤ z → x ≤ℤ y → (a +ℤ x) ≤ℤ z
+chained a x y z h k = omega (ints, sum a x, sum a y)
 
 module _ (t : Routine) (N : Nested t) where
-  loop-steps : (l : ℕ) → l < loopCount t → (w : List ℕ) (s : State) → s .block < blockCount t → path t (s .block) w ≡ true → keepsLimits t s w ≡ true
-      → steps (λ u v. number t u v (loop l)) (s .block) w ≤ℤ left (inside t (s .block) l) (limit t l) (s .count l)
-  unfolding steps path keepsLimits after number next nextCount
-  loop-steps l m [] s b h k = within (inside t (s .block) l) (limit t l) (s .count l) (keeps-each t [] s k 0 (omega arith) l m)
-  loop-steps l m (v ∷ w) s b h k =
-      let p : (edge t (s .block) v ≡ true) × (path t v w ≡ true) = and-true _ _ h in
-      follows (number t (s .block) v (loop l)) (steps (λ u v. number t u v (loop l)) v w) (left (inside t v l) (limit t l) (next t s v .count l)) (left (inside t (s .block) l) (limit t l) (s .count l))
-      (loop-step (inside t (s .block) l) (inside t v l) (eqb (header t l) v) (limit t l) (s .count l)
-      (λ e. rw (eqb-true (header t l) v e) at (header-inside t N l m)) (λ i o. eq-eqb (header t l) v (N .at-header (s .block) v l b (p .0) m i o)) (keeps-each t (v ∷ w) s k 0 (omega arith) l m))
-      (loop-steps l m w (next t s v) (N .target (s .block) v b (p .0)) (p .1) (and-true (not (passesLimit t s)) _ k .1))
+  module _ (l : ℕ) (m : l < loopCount t) where
+    abbrev leftAt : State → ℤ
+    leftAt s = left (inside t (s .block) l) (limit t l) (s .count l)
+
+    -- 204: the header is inside; 207: the loop is entered there
+    state-step : (s : State) (v : ℕ) → s .block < blockCount t → edge t (s .block) v ≡ true → s .count l ≤ limit t l
+        → (inRow t (loop l) (s .block) v +ℤ leftAt (next t s v)) ≤ℤ leftAt s
+    unfolding number next nextCount
+    state-step s v b e =
+        loop-step (inside t (s .block) l) (inside t v l) (eqb (header t l) v) (limit t l) (s .count l)
+        (λ q. rw (eqb-true (header t l) v q) at (header-inside t N l m)) (λ i o. eq-eqb (header t l) v (N .at-header (s .block) v l b e m i o))
+
+    loop-steps : (w : List ℕ) (s : State) → s .block < blockCount t → path t (s .block) w ≡ true → keepsLimits t s w ≡ true
+        → steps (inRow t (loop l)) (s .block) w ≤ℤ leftAt s
+    unfolding steps path keepsLimits next after
+    loop-steps [] s b h k = left-most (inside t (s .block) l) (limit t l) (s .count l) (keeps-each t [] s k 0 (omega arith) l m)
+    loop-steps (v ∷ w) s b h k =
+        let p : (edge t (s .block) v ≡ true) × (path t v w ≡ true) = and-true _ _ h in
+        chained (inRow t (loop l) (s .block) v) (steps (inRow t (loop l)) v w) (leftAt (next t s v)) (leftAt s)
+        (state-step s v b (p .0) (keeps-each t (v ∷ w) s k 0 (omega arith) l m))
+        (loop-steps w (next t s v) (N .target (s .block) v b (p .0)) (p .1) (and-true (not (passesLimit t s)) _ k .1))
 
   -- ---- a finished run
 
-  module _ (w : List ℕ) (follows-edges : path t 0 w ≡ true) (kept : keepsLimits t start w ≡ true) (at-exit : getD (0 ∷ w) (length w) 0 ≡ exit t) where
-    abbrev value : RowName → ℤ
-    value r = rowValue (programOf t .columns) (flowOf t (0 ∷ w)) r
+  module _ (w : List ℕ) (edges : path t 0 w ≡ true) (limits : keepsLimits t start w ≡ true) (at-exit : getD (0 ∷ w) (length w) 0 ≡ exit t) where
+    abbrev flow : ℕ → ℕ
+    flow = flowOf t (0 ∷ w)
 
-    along : (r : RowName) → RowOf t r → value r ≡ steps (λ u v. number t u v r) 0 w
+    along : (r : RowName) → RowOf t r → rowValue (programOf t .columns) flow r ≡ steps (inRow t r) 0 w
     unfolding flowOf
-    along r h = row-value t (flowOf t (0 ∷ w)) r h ∙ sum-taken t N (λ u v. number t u v r) w 0 (omega (arith, N .two-blocks)) follows-edges
+    along r h = row-value t flow r h ∙ sum-taken t N (inRow t r) w 0 (omega (arith, N .two-blocks)) edges
 
-    met : (r : RowName) → RowOf t r → Met t 1 (flowOf t (0 ∷ w)) r
+    met : (r : RowName) → RowOf t r → Met t 1 flow r
     unfolding rightSide start
     met objective h = tt
     met (block b) h =
-        let e : value (block b) ≡ rightSide t (block b) = along (block b) h ∙ block-steps t b w 0 ∙ ap (λ (v : ℕ). number t 0 v (block b)) at-exit ∙ sym (right-block t b) in
+        let e : rowValue (programOf t .columns) flow (block b) ≡ rightSide t (block b)
+        = along (block b) h ∙ block-steps t b w 0 ∙ ap (inRow t (block b) 0) at-exit ∙ sym (right-block t b) in
         omega (ints, times 1 (rightSide t (block b)))
-    met (loop l) h = rw (along (loop l) h) (rw (inside-0 t N l, ne-eqb 0 l (λ e. omega (arith, h .0))) at (loop-steps l (h .1) w start (omega (arith, N .two-blocks)) follows-edges kept))
+    met (loop l) h =
+        rw (along (loop l) h)
+        (rw (inside-0 t N l, ne-eqb 0 l (λ e. omega (arith, h .0))) at (loop-steps l (h .1) w start (omega (arith, N .two-blocks)) edges limits))
 
     pub run-flow : RunIsFlow t (0 ∷ w)
     unfolding flowCost runCost
     run-flow = record {
-      feasible = each-feasible t 1 (flowOf t (0 ∷ w)) met;
+      feasible = each-feasible t 1 flow met;
       costs = rw (along objective tt, cost-steps t w 0, negℤ-negℤ (pos (runCost t w))) (ap pos (omega arith));
     }
 

@@ -13,7 +13,7 @@ use Rattle.integers.proofs.Laws.{ints, sum, times}
 use Rattle.wcet.specs.Table.{Routine, blockCount, missing, first, second, someEdge, edge}
 use Rattle.wcet.specs.Run.{path}
 use Rattle.wcet.proofs.Nesting.{Nested}
-use Rattle.mps.specs.Program.{numbersFrom, keep, source, target, edgesOf}
+use Rattle.mps.specs.Program.{numbersFrom, source, target, edgesOf}
 use Rattle.mps.specs.Flow.{edgeTaken, taken}
 use Rattle.flows.proofs.Totals.{total, total-plus, total-zero, total-keep, total-only}
 
@@ -74,9 +74,9 @@ module _ (t : Routine) where
       other : (i : ℕ) → 0 ≤ i → i < 0 + 2 * blockCount t → (i ≡ k → ⊥) → (if present i then (if eqb k i then g i else pos 0) else pos 0) ≡ pos 0
       other i c d ne = rw (ne-eqb k i (λ e. ne (sym e))) (none (present i))
 
-  once-more : (b : Bool) (n : ℕ) (z : ℤ) → pos ((if b then 1 else 0) + n) *ℤ z ≡ (if b then z else pos 0) +ℤ pos n *ℤ z
-  once-more true n z = omega (ints, times (1 + n) z, times n z, sum z (pos n *ℤ z))
-  once-more false n z = omega (ints, times (0 + n) z, times n z, sum (pos 0) (pos n *ℤ z))
+  times-counted : (b : Bool) (n : ℕ) (z : ℤ) → pos ((if b then 1 else 0) + n) *ℤ z ≡ (if b then z else pos 0) +ℤ pos n *ℤ z
+  times-counted true n z = omega (ints, times (1 + n) z, times n z, sum z (pos n *ℤ z))
+  times-counted false n z = omega (ints, times (0 + n) z, times n z, sum (pos 0) (pos n *ℤ z))
 
   pub sum-taken : Nested t → (f : ℕ → ℕ → ℤ) (w : List ℕ) (u : ℕ) → u < blockCount t → path t u w ≡ true
       → total (λ e. pos (taken t u w e) *ℤ f (source e) (target t e)) (edgesOf t) ≡ steps f u w
@@ -85,6 +85,6 @@ module _ (t : Routine) where
   sum-taken N f (v ∷ w) u b h =
       let q : (edge t u v ≡ true) × (path t v w ≡ true) = and-true _ _ h in
       let E : EdgeFrom t u v (edgeTaken t u v) = taken-edge t u v (q .0) in
-      ap (λ (g : ℕ → ℤ). total g (edgesOf t)) (fun-ext (λ e. once-more (eqb (edgeTaken t u v) e) (taken t v w e) (f (source e) (target t e))))
+      ap (λ (g : ℕ → ℤ). total g (edgesOf t)) (fun-ext (λ e. times-counted (eqb (edgeTaken t u v) e) (taken t v w e) (f (source e) (target t e))))
       ∙ total-plus (λ e. if eqb (edgeTaken t u v) e then f (source e) (target t e) else pos 0) (λ e. pos (taken t v w e) *ℤ f (source e) (target t e)) (edgesOf t)
       ∙ ap₂ _+ℤ_ (one-edge (λ e. f (source e) (target t e)) u v (edgeTaken t u v) b E ∙ ap₂ f (E .from) (E .to)) (sum-taken N f w v (N .target u v b (q .0)) (q .1))
