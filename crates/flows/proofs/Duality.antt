@@ -125,7 +125,7 @@ module _ (t : Routine) (F : Facts t) where
           total-zero (λ e. pos (x e) *ℤ pos 0) (λ e. *ℤ-zero (pos (x e))) (edgesOf t),
           total-swap x (dual t) (λ e r. edgeNumber t r e) (edgesOf t) (rowsOf t),
           total-same (RowOf t) (λ r. dual t r *ℤ total (λ e. pos (x e) *ℤ edgeNumber t r e) (edgesOf t)) (λ r. dual t r *ℤ value r)
-          (λ r h. ap (λ (z : ℤ). dual t r *ℤ z) (sym (row-value t x r h))) (rowsOf t) (rows-all t),
+              (λ r h. ap (λ (z : ℤ). dual t r *ℤ z) (sym (row-value t x r h))) (rowsOf t) (rows-all t),
         ) at
         (total-le (EdgeOf t) (λ e. pos (x e) *ℤ pos 0) (λ e. pos (x e) *ℤ priced e)
         (λ e h. times-le (x e) (pos 0) (priced e) (not-negative (source e) (target t e) (h .from) (h .there))) (edgesOf t) (edges-all t))

@@ -36,7 +36,7 @@ unfolding rowsOf
 rows-all t = (
   tt,
   all-append (RowOf t) (map block (numbersFrom 0 (blockCount t))) (map loop (numbersFrom 1 (loopCount t - 1)))
-  (between-all (RowOf t) block (blockCount t) 0 (λ i c l. omega arith)) (between-all (RowOf t) loop (loopCount t - 1) 1 (λ i c l. (omega arith, omega arith))),
+      (between-all (RowOf t) block (blockCount t) 0 (λ i c l. omega arith)) (between-all (RowOf t) loop (loopCount t - 1) 1 (λ i c l. (omega arith, omega arith))),
 )
 
 -- ---- the number of a row
