@@ -35,7 +35,7 @@ one-term z true false = *ℤ-one z ∙ sym (+ℤ-idr z)
 one-term z false true = *ℤ-negsuc z 0 ∙ ap negℤ (*ℤ-one z) ∙ sym (+ℤ-idl (negℤ z))
 one-term z false false = *ℤ-zero z
 
-pub over-blocks : (f : ℕ → ℤ) (n u v : ℕ) → u < n → v < n → total (λ b. f b *ℤ (one (eqb u b) -ℤ one (eqb v b))) (numbersFrom 0 n) ≡ f u -ℤ f v
+over-blocks : (f : ℕ → ℤ) (n u v : ℕ) → u < n → v < n → total (λ b. f b *ℤ (one (eqb u b) -ℤ one (eqb v b))) (numbersFrom 0 n) ≡ f u -ℤ f v
 over-blocks f n u v hu hv =
     ap (λ (g : ℕ → ℤ). total g (numbersFrom 0 n)) (fun-ext (λ b. one-term (f b) (eqb u b) (eqb v b)))
     ∙ total-plus (λ b. if eqb u b then f b else pos 0) (λ b. if eqb v b then negℤ (f b) else pos 0) (numbersFrom 0 n)
@@ -159,7 +159,7 @@ module _ (t : Routine) (F : Facts t) where
           +ℤ-idr,
         )
 
-    pub no-more : Feasible (programOf t) q x → flowCost t q x ≤ℤ (pos q *ℤ bound t)
+    no-more : Feasible (programOf t) q x → flowCost t q x ≤ℤ (pos q *ℤ bound t)
     unfolding flowCost bound
     no-more h = rw (scaled (pos (cost t 0)) (figure t 0) (figure t (exit t))) (omega (ints, base, sum v d, diff (pos (q * cost t 0)) v, sum (pos (q * cost t 0)) d))
       where

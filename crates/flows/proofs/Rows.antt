@@ -1,5 +1,5 @@
--- The program's rows: each row's number in a column and on the right side is the one that the definition gives it (`row-value`, `right-value`),
--- and a flow meets all rows where it meets each (`feasible-each`, `each-feasible`). Assumes nothing.
+-- The program's rows. A row's number in a column, and on the right side, is the one that the definition gives it; so a flow's value in a row is a
+-- sum over edges (`row-value`), and a flow is a solution exactly where it meets each row (`feasible-each`, `each-feasible`). Assumes nothing.
 use mathlib.Core.Path.{_≡_, refl, sym, _∙_, ap, ap₂}
 use mathlib.Core.Bool.{Bool, true, false, not, true≢false}
 use mathlib.Core.List.{List, [], _∷_, map}
@@ -74,7 +74,7 @@ number-total f r (s ∷ rows) = first (isZero (f s)) refl ∙ ap (λ (z : ℤ). 
     first false e = some (sameRow s r)
 
 -- a row stands once among the rows
-pub number-at : (t : Routine) (f : RowName → ℤ) (r : RowName) → RowOf t r → numberAt r (entriesOf f (rowsOf t)) ≡ f r
+number-at : (t : Routine) (f : RowName → ℤ) (r : RowName) → RowOf t r → numberAt r (entriesOf f (rowsOf t)) ≡ f r
 number-at t f r h = number-total f r (rowsOf t) ∙ total-rows t (seen f r) ∙ go r h
   where
     n : ℕ
@@ -128,7 +128,7 @@ pub row-value : (t : Routine) (x : ℕ → ℕ) (r : RowName) → RowOf t r
 unfolding programOf
 row-value t x r h = columns-value t x r h (edgesOf t)
 
-pub right-value : (t : Routine) (r : RowName) → RowOf t r → numberAt r (programOf t .right) ≡ rightSide t r
+right-value : (t : Routine) (r : RowName) → RowOf t r → numberAt r (programOf t .right) ≡ rightSide t r
 unfolding programOf
 right-value t r h = number-at t (rightSide t) r h
 

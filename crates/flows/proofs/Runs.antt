@@ -110,7 +110,7 @@ module _ (t : Routine) (N : Nested t) where
         rw (along (loop l) h)
         (rw (inside-0 t N l, ne-eqb 0 l (λ e. omega (arith, h .0))) at (loop-steps l (h .1) w start (omega (arith, N .two-blocks)) edges limits))
 
-    pub run-flow : RunIsFlow t (0 ∷ w)
+    run-flow : RunIsFlow t (0 ∷ w)
     unfolding flowCost runCost
     run-flow = record {
       feasible = each-feasible t 1 flow met;
