@@ -20,10 +20,10 @@ use Rattle.wcet.proofs.Around.{header-of}
 use Rattle.wcet.proofs.Replies.{replies-exactly}
 use Rattle.wcet.proofs.Bound.{Facts, facts}
 use Rattle.mps.specs.Program.{RowName, objective, block, loop, numbersFrom, rowsOf, source, target, edgesOf, one, number, rightSide, programOf}
-use Rattle.mps.specs.Flow.{rowValue, Feasible, flowCost, WeakDuality}
+use Rattle.flows.specs.Flow.{rowValue, sameRow, SolutionOf, flowCost, WeakDuality}
 use Rattle.flows.proofs.Totals.{spread, reorder, times-le, total, total-plus, total-times, total-zero, total-same, total-le, total-swap}
 use Rattle.flows.proofs.Totals.{total-none, total-only, total-one}
-use Rattle.flows.proofs.Rows.{total-rows, RowOf, rows-all, EdgeOf, edges-all, edgeNumber, row-value, right-block, Met, feasible-each}
+use Rattle.flows.proofs.Rows.{total-rows, RowOf, rows-all, EdgeOf, edges-all, edgeNumber, row-value, right-block, Met, solution-each}
 
 -- ---- what the figures and multipliers give of an edge's numbers
 
@@ -116,7 +116,7 @@ module _ (t : Routine) (F : Facts t) where
   module _ (q : ℕ) (x : ℕ → ℕ) where
     -- what flow x makes of row r
     abbrev value : RowName → ℤ
-    value r = rowValue (programOf t .columns) x r
+    value r = rowValue sameRow (programOf t .columns) x r
 
     -- over all edges, as often as the flow takes them; and so over all rows
     all-edges : pos 0 ≤ℤ total (λ r. dual t r *ℤ value r) (rowsOf t)
@@ -159,7 +159,7 @@ module _ (t : Routine) (F : Facts t) where
           +ℤ-idr,
         )
 
-    no-more : Feasible (programOf t) q x → flowCost t q x ≤ℤ (pos q *ℤ bound t)
+    no-more : SolutionOf t q x → flowCost t q x ≤ℤ (pos q *ℤ bound t)
     unfolding flowCost bound
     no-more h = rw (scaled (pos (cost t 0)) (figure t 0) (figure t (exit t))) (omega (ints, base, sum v d, diff (pos (q * cost t 0)) v, sum (pos (q * cost t 0)) d))
       where
@@ -170,7 +170,7 @@ module _ (t : Routine) (F : Facts t) where
         d = pos q *ℤ (figure t 0 -ℤ figure t (exit t))
 
         base : pos 0 ≤ℤ (v +ℤ d)
-        base = omega (ints, all-edges, total-le (λ r. RowOf t r × Met t q x r) (λ r. dual t r *ℤ value r) allowed met-row (rowsOf t) (feasible-each t q x h), all-allowed)
+        base = omega (ints, all-edges, total-le (λ r. RowOf t r × Met t q x r) (λ r. dual t r *ℤ value r) allowed met-row (rowsOf t) (solution-each t q x h), all-allowed)
 
         scaled : (a b c : ℤ) → pos q *ℤ (a +ℤ b -ℤ c) ≡ pos q *ℤ a +ℤ pos q *ℤ (b -ℤ c)
         scaled a b c = ap (λ (z : ℤ). pos q *ℤ z) (+ℤ-assoc a b (negℤ c)) ∙ spread (pos q) a (b -ℤ c)

@@ -1,8 +1,7 @@
 -- The solver's bound is the optimum of the program (`solves-program`). Assumes nothing.
 use mathlib.Core.Path.{_≡_, refl, _∙_, ap, ap₂, fun-ext}
 use mathlib.Core.List.{List, map}
-use lib.IntN.{ℤ, pos, _*ℤ_}
-use lib.Signed.{_≤ℤ_}
+use lib.IntN.{ℤ}
 use Prim.Native.Nat.{ℕ}
 use Rattle.wcet.specs.Table.{Routine, inside}
 use Rattle.wcet.specs.Rules.{accepted, tableReply}
@@ -11,7 +10,7 @@ use Rattle.optimum.specs.Columns.{remadeFigures, remadeMultipliers}
 use Rattle.optimum.specs.Replies.{Optimum}
 use Rattle.optimum.proofs.Replies.{given, own-rules, solves-exactly, optimum-of}
 use Rattle.mps.specs.Program.{Column, RowName, objective, block, loop, rowsOf, source, target, edgesOf, number, rightSide, entriesOf, columnOf, programOf}
-use Rattle.mps.specs.Flow.{Feasible, flowCost, RunIsFlow, SolvesProgram}
+use Rattle.flows.specs.Flow.{flowCost, NoneOver, RunIsFlow, SolvesProgram}
 use Rattle.flows.proofs.Duality.{weak-duality}
 use Rattle.flows.proofs.Runs.{runs-are-flows}
 
@@ -43,7 +42,7 @@ module _ (t : Routine) (fs : List ℤ) (ks : List ℕ) where
       (fun-ext same-column) (fun-ext same-right)
 
   -- so whatever columns give a bound, it is one for the solutions of t's program
-  bounded : (b : ℤ) → tableReply t′ ≡ accepted b → (q : ℕ) (x : ℕ → ℕ) → Feasible (programOf t) q x → flowCost t q x ≤ℤ (pos q *ℤ b)
+  bounded : (b : ℤ) → tableReply t′ ≡ accepted b → NoneOver t b
   unfolding flowCost
   bounded b e q x h = rw same-program at (weak-duality t′ b e q x (rw same-program h))
 

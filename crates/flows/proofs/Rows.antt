@@ -1,5 +1,5 @@
 -- The program's rows. A row's number in a column, and on the right side, is the one that the definition gives it; so a flow's value in a row is a
--- sum over edges (`row-value`), and a flow is a solution exactly where it meets each row (`feasible-each`, `each-feasible`). Assumes nothing.
+-- sum over edges (`row-value`), and a flow is a solution exactly where it meets each row (`solution-each`, `each-solution`). Assumes nothing.
 use mathlib.Core.Path.{_≡_, refl, sym, _∙_, ap, ap₂}
 use mathlib.Core.Bool.{Bool, true, false, not, true≢false}
 use mathlib.Core.List.{List, [], _∷_, map}
@@ -12,7 +12,7 @@ use Rattle.lists.specs.Search.{if_then_else_}
 use Rattle.wcet.specs.Table.{Routine, blockCount, loopCount, exit, missing, edge}
 use Rattle.mps.specs.Program.{Row, Entry, RowName, objective, block, loop, kindOf, numbersFrom, keep, rowsOf, source, target, edgesOf, number, rightSide, isZero}
 use Rattle.mps.specs.Program.{entriesOf, columnOf, programOf}
-use Rattle.mps.specs.Flow.{sameRow, numberAt, rowValue, Meets, AllMet, Feasible}
+use Rattle.flows.specs.Flow.{numberAt, rowValue, Meets, Solution, sameRow, SolutionOf}
 use Rattle.mps.proofs.Sections.{All, all-append}
 use Rattle.mps.proofs.Routines.{between-all, kept-all, edge-there}
 use Rattle.flows.proofs.Totals.{total, total-append, total-map, total-none, total-one}
@@ -50,7 +50,7 @@ is-zero (negsuc n) e = absurd (true≢false (sym e))
 abbrev seen : (RowName → ℤ) → RowName → RowName → ℤ
 seen f r s = if sameRow s r then f s else pos 0
 
-number-total : (f : RowName → ℤ) (r : RowName) (rows : List RowName) → numberAt r (entriesOf f rows) ≡ total (seen f r) rows
+number-total : (f : RowName → ℤ) (r : RowName) (rows : List RowName) → numberAt sameRow r (entriesOf f rows) ≡ total (seen f r) rows
 unfolding entriesOf keep numberAt total
 number-total f r [] = refl
 number-total f r (s ∷ rows) = first (isZero (f s)) refl ∙ ap (λ (z : ℤ). seen f r s +ℤ z) (number-total f r rows)
@@ -61,20 +61,20 @@ number-total f r (s ∷ rows) = first (isZero (f s)) refl ∙ ap (λ (z : ℤ). 
     rest : List (Entry RowName)
     rest = entriesOf f rows
 
-    none : (b : Bool) → numberAt r rest ≡ (if b then pos 0 else pos 0) +ℤ numberAt r rest
-    none true = sym (+ℤ-idl (numberAt r rest))
-    none false = sym (+ℤ-idl (numberAt r rest))
+    none : (b : Bool) → numberAt sameRow r rest ≡ (if b then pos 0 else pos 0) +ℤ numberAt sameRow r rest
+    none true = sym (+ℤ-idl (numberAt sameRow r rest))
+    none false = sym (+ℤ-idl (numberAt sameRow r rest))
 
-    some : (b : Bool) → (if b then f s +ℤ numberAt r rest else numberAt r rest) ≡ (if b then f s else pos 0) +ℤ numberAt r rest
+    some : (b : Bool) → (if b then f s +ℤ numberAt sameRow r rest else numberAt sameRow r rest) ≡ (if b then f s else pos 0) +ℤ numberAt sameRow r rest
     some true = refl
-    some false = sym (+ℤ-idl (numberAt r rest))
+    some false = sym (+ℤ-idl (numberAt sameRow r rest))
 
-    first : (z : Bool) → isZero (f s) ≡ z → numberAt r (if not z then here ∷ rest else rest) ≡ seen f r s +ℤ numberAt r rest
+    first : (z : Bool) → isZero (f s) ≡ z → numberAt sameRow r (if not z then here ∷ rest else rest) ≡ seen f r s +ℤ numberAt sameRow r rest
     first true e = rw (is-zero (f s) e) (none (sameRow s r))
     first false e = some (sameRow s r)
 
 -- a row stands once among the rows
-number-at : (t : Routine) (f : RowName → ℤ) (r : RowName) → RowOf t r → numberAt r (entriesOf f (rowsOf t)) ≡ f r
+number-at : (t : Routine) (f : RowName → ℤ) (r : RowName) → RowOf t r → numberAt sameRow r (entriesOf f (rowsOf t)) ≡ f r
 number-at t f r h = number-total f r (rowsOf t) ∙ total-rows t (seen f r) ∙ go r h
   where
     n : ℕ
@@ -118,17 +118,17 @@ inRow t r u v = number t u v r
 abbrev pub edgeNumber : Routine → RowName → ℕ → ℤ
 edgeNumber t r e = inRow t r (source e) (target t e)
 
-columns-value : (t : Routine) (x : ℕ → ℕ) (r : RowName) → RowOf t r → (es : List ℕ) → rowValue (map (columnOf t) es) x r ≡ total (λ e. pos (x e) *ℤ edgeNumber t r e) es
+columns-value : (t : Routine) (x : ℕ → ℕ) (r : RowName) → RowOf t r → (es : List ℕ) → rowValue sameRow (map (columnOf t) es) x r ≡ total (λ e. pos (x e) *ℤ edgeNumber t r e) es
 unfolding rowValue total columnOf
 columns-value t x r h [] = refl
 columns-value t x r h (e ∷ es) = ap₂ (λ (a b : ℤ). pos (x e) *ℤ a +ℤ b) (number-at t (number t (source e) (target t e)) r h) (columns-value t x r h es)
 
 pub row-value : (t : Routine) (x : ℕ → ℕ) (r : RowName) → RowOf t r
-    → rowValue (programOf t .columns) x r ≡ total (λ e. pos (x e) *ℤ edgeNumber t r e) (edgesOf t)
+    → rowValue sameRow (programOf t .columns) x r ≡ total (λ e. pos (x e) *ℤ edgeNumber t r e) (edgesOf t)
 unfolding programOf
 row-value t x r h = columns-value t x r h (edgesOf t)
 
-right-value : (t : Routine) (r : RowName) → RowOf t r → numberAt r (programOf t .right) ≡ rightSide t r
+right-value : (t : Routine) (r : RowName) → RowOf t r → numberAt sameRow r (programOf t .right) ≡ rightSide t r
 unfolding programOf
 right-value t r h = number-at t (rightSide t) r h
 
@@ -148,25 +148,27 @@ right-block t b = rw (eqb-sym b 0, eqb-sym b (exit t))
 
 -- what the row says of a flow, times q
 abbrev pub Met : Routine → ℕ → (ℕ → ℕ) → RowName → Type 0
-Met t q x r = Meets (kindOf r) (rowValue (programOf t .columns) x r) (pos q *ℤ rightSide t r)
+Met t q x r = Meets (kindOf r) (rowValue sameRow (programOf t .columns) x r) (pos q *ℤ rightSide t r)
 
 abbrev rowOf : RowName → Row RowName
 rowOf r = record { kind = kindOf r; name = r }
 
-met-each : (t : Routine) (q : ℕ) (x : ℕ → ℕ) (rows : List RowName) → All (RowOf t) rows → AllMet (programOf t) q x (map rowOf rows)
+met-each : (t : Routine) (q : ℕ) (x : ℕ → ℕ) (rows : List RowName) → All (RowOf t) rows → Solution sameRow (map rowOf rows) (programOf t .columns) (programOf t .right) q x
     → All (λ r. RowOf t r × Met t q x r) rows
+unfolding Solution
 met-each t q x [] a m = tt
 met-each t q x (r ∷ rows) a m = ((a .0, rw (right-value t r (a .0)) at (m .0)), met-each t q x rows (a .1) (m .1))
 
 each-met : (t : Routine) (q : ℕ) (x : ℕ → ℕ) → ((r : RowName) → RowOf t r → Met t q x r) → (rows : List RowName) → All (RowOf t) rows
-    → AllMet (programOf t) q x (map rowOf rows)
+    → Solution sameRow (map rowOf rows) (programOf t .columns) (programOf t .right) q x
+unfolding Solution
 each-met t q x h [] a = tt
 each-met t q x h (r ∷ rows) a = (rw (right-value t r (a .0)) (h r (a .0)), each-met t q x h rows (a .1))
 
-pub feasible-each : (t : Routine) (q : ℕ) (x : ℕ → ℕ) → Feasible (programOf t) q x → All (λ r. RowOf t r × Met t q x r) (rowsOf t)
-unfolding Feasible programOf
-feasible-each t q x h = met-each t q x (rowsOf t) (rows-all t) h
+pub solution-each : (t : Routine) (q : ℕ) (x : ℕ → ℕ) → SolutionOf t q x → All (λ r. RowOf t r × Met t q x r) (rowsOf t)
+unfolding programOf
+solution-each t q x h = met-each t q x (rowsOf t) (rows-all t) h
 
-pub each-feasible : (t : Routine) (q : ℕ) (x : ℕ → ℕ) → ((r : RowName) → RowOf t r → Met t q x r) → Feasible (programOf t) q x
-unfolding Feasible programOf
-each-feasible t q x h = each-met t q x h (rowsOf t) (rows-all t)
+pub each-solution : (t : Routine) (q : ℕ) (x : ℕ → ℕ) → ((r : RowName) → RowOf t r → Met t q x r) → SolutionOf t q x
+unfolding programOf
+each-solution t q x h = each-met t q x h (rowsOf t) (rows-all t)

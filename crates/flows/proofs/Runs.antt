@@ -19,8 +19,8 @@ use Rattle.wcet.proofs.Entry.{inside-0}
 use Rattle.wcet.proofs.Limits.{keeps-each}
 use Rattle.wcet.proofs.Counts.{header-inside}
 use Rattle.mps.specs.Program.{RowName, objective, block, loop, one, number, rightSide, programOf}
-use Rattle.mps.specs.Flow.{rowValue, flowCost, flowOf, RunIsFlow, RunsAreFlows}
-use Rattle.flows.proofs.Rows.{RowOf, inRow, row-value, right-block, Met, each-feasible}
+use Rattle.flows.specs.Flow.{rowValue, sameRow, flowCost, flowOf, RunIsFlow, RunsAreFlows}
+use Rattle.flows.proofs.Rows.{RowOf, inRow, row-value, right-block, Met, each-solution}
 use Rattle.flows.proofs.Steps.{steps, sum-taken}
 
 -- ---- the numbers of a row, added up along a path
@@ -95,7 +95,7 @@ module _ (t : Routine) (N : Nested t) where
     abbrev flow : ℕ → ℕ
     flow = flowOf t (0 ∷ w)
 
-    along : (r : RowName) → RowOf t r → rowValue (programOf t .columns) flow r ≡ steps (inRow t r) 0 w
+    along : (r : RowName) → RowOf t r → rowValue sameRow (programOf t .columns) flow r ≡ steps (inRow t r) 0 w
     unfolding flowOf
     along r h = row-value t flow r h ∙ sum-taken t N (inRow t r) w 0 (omega (arith, N .two-blocks)) edges
 
@@ -103,7 +103,7 @@ module _ (t : Routine) (N : Nested t) where
     unfolding rightSide start
     met objective h = tt
     met (block b) h =
-        let e : rowValue (programOf t .columns) flow (block b) ≡ rightSide t (block b)
+        let e : rowValue sameRow (programOf t .columns) flow (block b) ≡ rightSide t (block b)
         = along (block b) h ∙ block-steps t b w 0 ∙ ap (inRow t (block b) 0) at-exit ∙ sym (right-block t b) in
         omega (ints, times 1 (rightSide t (block b)))
     met (loop l) h =
@@ -113,7 +113,7 @@ module _ (t : Routine) (N : Nested t) where
     run-flow : RunIsFlow t (0 ∷ w)
     unfolding flowCost runCost
     run-flow = record {
-      feasible = each-feasible t 1 flow met;
+      solution = each-solution t 1 flow met;
       costs = rw (along objective tt, cost-steps t w 0, negℤ-negℤ (pos (runCost t w))) (ap pos (omega arith));
     }
 

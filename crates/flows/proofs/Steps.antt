@@ -14,7 +14,7 @@ use Rattle.wcet.specs.Table.{Routine, blockCount, missing, first, second, someE
 use Rattle.wcet.specs.Run.{path}
 use Rattle.wcet.proofs.Nesting.{Nested}
 use Rattle.mps.specs.Program.{numbersFrom, source, target, edgesOf}
-use Rattle.mps.specs.Flow.{edgeTaken, taken}
+use Rattle.flows.specs.Flow.{edgeTaken, taken}
 use Rattle.flows.proofs.Totals.{total, total-plus, total-zero, total-keep, total-only}
 
 -- what f gives for each step from u along w, added up
