@@ -6,5 +6,7 @@ pub mod Duality
 -- A run as a flow: sums over the edges that it takes; every finished counted run is a solution, at its own cost.
 pub mod Steps
 pub mod Runs
+-- The text has the program's solutions.
+pub mod Texts
 -- The solver's bound is the program's optimum.
 pub mod Optimum

@@ -4,15 +4,17 @@ use mathlib.Core.List.{List, map}
 use lib.IntN.{ℤ}
 use Prim.Native.Nat.{ℕ}
 use Rattle.wcet.specs.Table.{Routine, inside}
-use Rattle.wcet.specs.Rules.{accepted, tableReply}
+use Rattle.wcet.specs.Rules.{accepted, structureRules, tableReply}
+use Rattle.wcet.specs.Claim.{AllHold}
 use Rattle.optimum.specs.Remade.{withColumns}
 use Rattle.optimum.specs.Columns.{remadeFigures, remadeMultipliers}
 use Rattle.optimum.specs.Replies.{Optimum}
 use Rattle.optimum.proofs.Replies.{given, own-rules, solves-exactly, optimum-of}
 use Rattle.mps.specs.Program.{Column, RowName, objective, block, loop, rowsOf, source, target, edgesOf, number, rightSide, entriesOf, columnOf, programOf}
-use Rattle.flows.specs.Flow.{flowCost, NoneOver, RunIsFlow, SolvesProgram}
+use Rattle.flows.specs.Flow.{flowCost, flowOf, NoneOver, RunIsFlow, SolvesProgram}
 use Rattle.flows.proofs.Duality.{weak-duality}
 use Rattle.flows.proofs.Runs.{runs-are-flows}
+use Rattle.flows.proofs.Texts.{read-optimum}
 
 -- the program reads neither figures nor multipliers
 module _ (t : Routine) (fs : List ℤ) (ks : List ℕ) where
@@ -51,10 +53,14 @@ pub solves-program : (t : Routine) → SolvesProgram t
 solves-program t b e = record {
   most = bounded t (remadeFigures t) (remadeMultipliers t) b (O .result);
   attained = (O .run .0, O .run .1, flow, flow .costs ∙ O .run .2);
+  read = read-optimum t rules b (bounded t (remadeFigures t) (remadeMultipliers t) b (O .result)) (flowOf t (O .run .0)) (flow .solution) (flow .costs ∙ O .run .2);
 }
   where
     O : Optimum t (remadeFigures t) (remadeMultipliers t) b
     O = optimum-of t b e
 
+    rules : AllHold (structureRules t)
+    rules = given t (own-rules t (solves-exactly t .accepts b .0 e .0) .0) .0
+
     flow : RunIsFlow t (O .run .0)
-    flow = runs-are-flows t (given t (own-rules t (solves-exactly t .accepts b .0 e .0) .0) .0) (O .run .0) (O .run .1)
+    flow = runs-are-flows t rules (O .run .0) (O .run .1)

@@ -1,6 +1,7 @@
 -- What the program means: its solutions, the value of its objective, and the flow of a run. The inequalities of 208 are the dual of this program.
 use Prim.Native.Nat.{ℕ, _+_, _*_}
 use mathlib.Core.Path.{_≡_}
+use mathlib.Core.Logic.{_↔_}
 use mathlib.Core.Bool.{Bool, true, false, not, _&&_}
 use mathlib.Core.List.{List, [], _∷_}
 use lib.Dec.{eqb}
@@ -15,6 +16,8 @@ use Rattle.wcet.specs.Claim.{AllHold, FinishedRun}
 use Rattle.optimum.specs.Replies.{solveReply}
 use Rattle.mps.specs.Program.{Kind, free, equal, atMost, atLeast, Row, Entry, Column, RowName, objective, block, loop, programOf}
 use Rattle.mps.specs.Mps.{Bytes, Mps, same}
+use Rattle.mps.specs.Text.{edgeName}
+use Rattle.mps.specs.Claim.{named}
 
 -- ---- the solutions of a linear program, over the names R of its rows and C of its columns, by a test of row names
 
@@ -117,10 +120,23 @@ pub record RunIsFlow (t : Routine) (w : List ℕ) : Type 0 where
 abbrev pub RunsAreFlows : Routine → Type 0
 RunsAreFlows t = AllHold (structureRules t) → (w : List ℕ) → FinishedRun t w → RunIsFlow t w
 
--- The solver's bound is the optimum of the program: no solution costs more, and a finished counted run is one that costs it.
+-- The text has the program's solutions, under the names that it gives the edges, and its row COST has the value of their objective: so the
+-- least value that a solver finds for COST is q times the entry's cost less the largest `flowCost`.
+pub record ReadSolutions (t : Routine) : Type 0 where
+  pub solutions : (q : ℕ) (x : Bytes → ℕ) → MpsSolution (named (programOf t)) q x ↔ SolutionOf t q (λ e. x (edgeName e))
+  pub objectives : (x : Bytes → ℕ) → mpsObjective (named (programOf t)) x ≡ objectiveOf t (λ e. x (edgeName e))
+
+-- The same optimum of a program m that was read, where the entry costs c: no solution goes below c - b in COST, and one attains it.
+pub record ReadOptimum (m : Mps) (c : ℕ) (b : ℤ) : Type 0 where
+  pub most : (q : ℕ) (x : Bytes → ℕ) → MpsSolution m q x → (pos (q * c) -ℤ mpsObjective m x) ≤ℤ (pos q *ℤ b)
+  pub attained : (x : Bytes → ℕ) × MpsSolution m 1 x × (pos c -ℤ mpsObjective m x ≡ b)
+
+-- The solver's bound is the optimum of the program: no solution costs more, and a finished counted run is one that costs it. It is the optimum of
+-- the program's text as well.
 pub record ProgramOptimum (t : Routine) (b : ℤ) : Type 0 where
   pub most : NoneOver t b
   pub attained : (w : List ℕ) × FinishedRun t w × RunIsFlow t w × (flowCost t 1 (flowOf t w) ≡ b)
+  pub read : ReadOptimum (named (programOf t)) (cost t 0) b
 
 abbrev pub SolvesProgram : Routine → Type 0
 SolvesProgram t = (b : ℤ) → solveReply t ≡ accepted b → ProgramOptimum t b
