@@ -120,19 +120,19 @@ pub record RunIsFlow (t : Routine) (w : List ℕ) : Type 0 where
 abbrev pub RunsAreFlows : Routine → Type 0
 RunsAreFlows t = AllHold (structureRules t) → (w : List ℕ) → FinishedRun t w → RunIsFlow t w
 
--- The text has the program's solutions, under the names that it gives the edges, and its row COST has the value of their objective: so the
--- least value that a solver finds for COST is q times the entry's cost less the largest `flowCost`.
+-- What reads the program's text gets the program's solutions, under the names of the edges, and in the row COST the value of their objective: so
+-- what a solver reports for COST is `flowCost` less q times the entry's cost, negated.
 pub record ReadSolutions (t : Routine) : Type 0 where
   pub solutions : (q : ℕ) (x : Bytes → ℕ) → MpsSolution (named (programOf t)) q x ↔ SolutionOf t q (λ e. x (edgeName e))
   pub objectives : (x : Bytes → ℕ) → mpsObjective (named (programOf t)) x ≡ objectiveOf t (λ e. x (edgeName e))
 
--- The same optimum of a program m that was read, where the entry costs c: no solution goes below c - b in COST, and one attains it.
+-- b as the optimum of a program that was read, where the entry costs c: no solution has less than c - b in COST, and one has just that.
 pub record ReadOptimum (m : Mps) (c : ℕ) (b : ℤ) : Type 0 where
   pub most : (q : ℕ) (x : Bytes → ℕ) → MpsSolution m q x → (pos (q * c) -ℤ mpsObjective m x) ≤ℤ (pos q *ℤ b)
   pub attained : (x : Bytes → ℕ) × MpsSolution m 1 x × (pos c -ℤ mpsObjective m x ≡ b)
 
--- The solver's bound is the optimum of the program: no solution costs more, and a finished counted run is one that costs it. It is the optimum of
--- the program's text as well.
+-- The solver's bound is the optimum of the program: no solution costs more, and a finished counted run is one that costs it. To what reads the
+-- program's text it is the optimum too.
 pub record ProgramOptimum (t : Routine) (b : ℤ) : Type 0 where
   pub most : NoneOver t b
   pub attained : (w : List ℕ) × FinishedRun t w × RunIsFlow t w × (flowCost t 1 (flowOf t w) ≡ b)
