@@ -48,6 +48,7 @@ Solution test (r ∷ rows) columns right q x =
 
 -- ---- of a routine's program
 
+-- whether two names are of one row
 abbrev pub sameRow : RowName → RowName → Bool
 sameRow objective objective = true
 sameRow objective (block v) = false
@@ -98,6 +99,7 @@ unfoldable pub taken : Routine → ℕ → List ℕ → ℕ → ℕ
 taken t u [] e = 0
 taken t u (v ∷ w) e = (if eqb (edgeTaken t u v) e then 1 else 0) + taken t v w e
 
+-- the flow of a run: how often it takes edge e
 unfoldable pub flowOf : Routine → List ℕ → ℕ → ℕ
 flowOf t [] e = 0
 flowOf t (u ∷ w) e = taken t u w e
