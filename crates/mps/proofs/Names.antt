@@ -94,7 +94,7 @@ unfolding same
 same-refl [] = refl
 same-refl (b ∷ s) = rw (eq-eqb b b refl, same-refl s)
 
-same-true : (s t : Bytes) → same s t ≡ true → s ≡ t
+pub same-true : (s t : Bytes) → same s t ≡ true → s ≡ t
 unfolding same
 same-true [] [] e = refl
 same-true [] (b ∷ t) e = absurd (false≢true e)

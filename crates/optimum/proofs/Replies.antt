@@ -35,7 +35,7 @@ module _ (t : Routine) where
   given h = let q : AllHold (structureRules t) × AllHold (undeclaredRule t ∷ []) = all-append (structureRules t) (undeclaredRule t ∷ []) h in (q .0, q .1 .0 0 (omega arith))
 
   -- what the rules of the solver say beside those that are given
-  own-rules : AllHold (solveRules t) → AllHold (givenRules t) × ((u : ℕ) → u < blockCount t → noPath t u ≡ false) × (multiplierOver (remade t) ≡ false) × (figureOver (remade t) ≡ false)
+  pub own-rules : AllHold (solveRules t) → AllHold (givenRules t) × ((u : ℕ) → u < blockCount t → noPath t u ≡ false) × (multiplierOver (remade t) ≡ false) × (figureOver (remade t) ≡ false)
   unfolding solveRules
   own-rules h = let q = all-append (givenRules t) _ h in (q .0, q .1 .0, q .1 .1 .0 0 (omega arith), q .1 .1 .1 .0 0 (omega arith))
 
