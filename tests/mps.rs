@@ -38,6 +38,8 @@ use writing::{Program, Row};
 /// The replies of rolkeyda_mps, each of which is wanted so often.
 const NUMBERS: [u32; 10] = [0, 201, 202, 203, 204, 205, 206, 207, 209, 411];
 const OFTEN: u64 = 50;
+/// The failures that are printed.
+const SHOWN: u64 = 10;
 /// Rounds of random tables.
 const ROUNDS: usize = 20_000;
 
@@ -106,7 +108,7 @@ impl Written<'_> {
 #[derive(Default)]
 struct Tally {
     passed: u64,
-    failures: Vec<String>,
+    failed: u64,
     replies: BTreeMap<u32, u64>,
     written: [u64; WRITTEN.len()],
 }
@@ -115,7 +117,12 @@ impl Tally {
     fn test(&mut self, name: &str, outcome: Result<(), String>) {
         match outcome {
             Ok(()) => self.passed += 1,
-            Err(why) => self.failures.push(format!("{name}: {why}")),
+            Err(why) => {
+                self.failed += 1;
+                if self.failed <= SHOWN {
+                    println!("FAILED {name}: {why}");
+                }
+            }
         }
     }
 
@@ -466,13 +473,13 @@ fn main() {
     named(&mut bench, &mut tally);
     random_tables(&mut bench, &mut tally);
     coverage(&mut tally);
-    println!("routines whose texts the solvers read");
-    named_programs(&mut tally, folder);
-    random_programs(&mut tally, folder);
-    damaged_programs(&mut tally, folder);
-    for what in tally.failures.iter().take(10) {
-        println!("FAILED {what}");
+    // a text that is wrong already is not for the solvers
+    if tally.failed == 0 {
+        println!("routines whose texts the solvers read");
+        named_programs(&mut tally, folder);
+        random_programs(&mut tally, folder);
+        damaged_programs(&mut tally, folder);
     }
-    println!("{} passed, {} failed", tally.passed, tally.failures.len());
-    std::process::exit(i32::from(!tally.failures.is_empty()));
+    println!("{} passed, {} failed", tally.passed, tally.failed);
+    std::process::exit(i32::from(tally.failed > 0));
 }
