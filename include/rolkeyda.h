@@ -2,8 +2,8 @@
  * Rolkeyda: the importer, the final checker and a solver for a worst-case execution time (WCET) analysis, proved. For C11 and C++11.
  *
  * Every function takes any input, checks it and returns a rolkeyda_reply by value. No function allocates, keeps a pointer or fails in
- * another way. A column is a pointer to its first value and then its length, a count of values (of bytes for a text). A column that a
- * function writes must not overlap any other column of the call, nor the text. A column of length 0 may have any pointer that is not NULL.
+ * another way. A column is a pointer to its first value and then its length, a count of values (of bytes for a text). A column or text that a
+ * function writes must not overlap any other column or text of the call. A column of length 0 may have any pointer that is not NULL.
  *
  * Build the library with `rt staticlib rolkeyda`.
  */
@@ -60,7 +60,7 @@ extern "C" {
  *
  * number   0: accepted. Else the number of the first rule that is broken:
  *          101 to 106 and 108 for a text, 201 to 209 for a pair of tables, 301 to 303 and 311 to 314 for a walk, 401 to 403 for the solver,
- *          411 for an MPS text.
+ *          411 for an MPS text that does not fit.
  * place    where: the record of a text (the first is 1), the block or loop of a table (0 for 201, 209, 402, 403 and 411), the index in a walk.
  *          0 when accepted.
  * value    when accepted: the count of rows, the bound, the cost, or the length of the MPS text. Else 0.
@@ -159,10 +159,10 @@ rolkeyda_reply rolkeyda_solve(
     uint64_t *multiplier, size_t multiplier_length);
 
 /*
- * Writes the path-counting program of a pair of tables that keep rules 201 to 207 and 209 as text, for a linear solver: fixed MPS, in ASCII, lines that end
- * in LF, no zero byte at the end. (208 is not checked.) Accepted: the first `value` bytes of the buffer `text` are the program, and later bytes keep
- * their contents. Refused: no byte is changed. 411 where the text is longer than the buffer. Where rolkeyda_solve accepts the tables, the program's
- * minimum is the cost of block 0 less the bound. Stack: ROLKEYDA_STACK_MPS.
+ * Writes the path-counting program of a pair of tables that keep rules 201 to 207 and 209 (208 is not checked), for a linear solver: fixed MPS in
+ * ASCII, with LF line ends and no zero byte behind it. Accepted: the first `value` bytes of the buffer `text` are the program, and later bytes keep
+ * their contents. Refused: no byte is changed. 411 where the buffer is shorter than the text; ROLKEYDA_MPS_MOST bytes are always enough. Where
+ * rolkeyda_solve accepts the tables, the program's minimum is the cost of block 0 less the bound. Stack: ROLKEYDA_STACK_MPS.
  */
 rolkeyda_reply rolkeyda_mps(
     const uint32_t *cost, size_t cost_length,
