@@ -56,6 +56,13 @@ extern "C" {
         limit: *const u32, limit_length: usize, multiplier: *const u64, multiplier_length: usize,
         blocks: *const u16, blocks_length: usize,
     ) -> Reply;
+    fn rolkeyda_mps(
+        cost: *const u32, cost_length: usize, loops: *const u16, loops_length: usize, first: *const u16, first_length: usize,
+        second: *const u16, second_length: usize, figure: *const i64, figure_length: usize,
+        parent: *const u16, parent_length: usize, header: *const u16, header_length: usize,
+        limit: *const u32, limit_length: usize, multiplier: *const u64, multiplier_length: usize,
+        text: *mut u8, text_length: usize,
+    ) -> Reply;
 }
 
 #[rustfmt::skip]
@@ -147,6 +154,19 @@ impl Library {
                 b.cost.as_ptr(), n, b.loops.as_ptr(), n, b.first.as_ptr(), n, b.second.as_ptr(), n, b.figure.as_ptr(), n,
                 l.parent.as_ptr(), m, l.header.as_ptr(), m, l.limit.as_ptr(), m, l.multiplier.as_ptr(), m,
                 walk.as_ptr(), walk.len(),
+            )
+        }
+    }
+
+    pub fn mps(t: &Routine, text: &mut [u8]) -> Reply {
+        let (b, l) = (&t.blocks, &t.loops);
+        let (n, m) = (b.cost.len(), l.parent.len());
+        // SAFETY: each pointer comes with the length of its own column or buffer, and the buffer overlaps no column.
+        unsafe {
+            rolkeyda_mps(
+                b.cost.as_ptr(), n, b.loops.as_ptr(), n, b.first.as_ptr(), n, b.second.as_ptr(), n, b.figure.as_ptr(), n,
+                l.parent.as_ptr(), m, l.header.as_ptr(), m, l.limit.as_ptr(), m, l.multiplier.as_ptr(), m,
+                text.as_mut_ptr(), text.len(),
             )
         }
     }

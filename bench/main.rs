@@ -5,6 +5,7 @@ mod program;
 mod reading;
 mod routine;
 mod straight;
+mod writing;
 
 use library::Library;
 use routine::Routine;
@@ -299,6 +300,29 @@ fn walking(routine: &Routine) {
     );
 }
 
+// The program as MPS beside straight C, on a routine of 1,024 blocks and on a smaller one. Both ask 201 to 207 and 209 first.
+fn writing_mps() {
+    for routine in [Routine::nested_six(), Routine::sized(256)] {
+        let mut ours = vec![b'x'; 1 << 18];
+        let mut theirs = ours.clone();
+        let reply = Library::mps(&routine, &mut ours);
+        assert_eq!((reply.number, reply.place), (0, 0));
+        assert_eq!(writing::straight(&routine, &mut theirs), Ok(reply.value as usize));
+        assert!(ours == theirs);
+        let (n, loops, edges) = (routine.blocks.cost.len(), routine.loops.parent.len() - 1, routine.edges());
+        compare(
+            &format!("writing {n} blocks, {loops} loops and {edges} edges as MPS, {} bytes (goal 500 MB/s, or the ratio)", reply.value),
+            (reply.value as f64, "B"),
+            (400, 5),
+            &[1.0],
+            &mut [
+                Measure::new("rolkeyda_mps", || keep(Library::mps(black_box(&routine), &mut ours))),
+                Measure::new("straight C", || keep(writing::straight(black_box(&routine), &mut theirs))),
+            ],
+        );
+    }
+}
+
 // One run of a program on a setting, in a folder.
 fn run(program: &Path, folder: &Path) -> Vec<u8> {
     let mut child = Command::new(program).current_dir(folder).stdin(Stdio::piped()).stdout(Stdio::piped()).spawn().unwrap();
@@ -336,6 +360,9 @@ fn main() {
     }
     if wanted("solve") {
         solving("target/bench");
+    }
+    if wanted("mps") {
+        writing_mps();
     }
     if wanted("walk") {
         walking(&routine);

@@ -145,6 +145,15 @@ pub fn check(t: &Routine) -> Result<i64, Refusal> {
     Ok(i64::from(b.cost[0]) + b.figure[0] - b.figure[n - 1])
 }
 
+// 201 to 207, then 209: the loops around each loop, or the first refusal.
+pub fn structure_and_cycles(t: &Routine) -> Result<[u64; 64], Refusal> {
+    let around = structure(t)?;
+    let mut onward = Onward { ends: [[MISSING; 2]; 1024], incoming: [0; 1024] };
+    places(t, &around, &mut onward);
+    order(t.blocks.cost.len(), &mut onward)?;
+    Ok(around)
+}
+
 const NONE: i64 = -1;
 const CAP: i64 = 1 << 62;
 const LOWEST: i64 = -(1 << 62);

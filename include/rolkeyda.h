@@ -2,8 +2,8 @@
  * Rolkeyda: the importer, the final checker and a solver for a worst-case execution time (WCET) analysis, proved. For C11 and C++11.
  *
  * Every function takes any input, checks it and returns a rolkeyda_reply by value. No function allocates, keeps a pointer or fails in
- * another way. A column is a pointer to its first value and then its length, a count of values (of bytes for a text). A column that a
- * function writes must not overlap any other column of the call, nor the text. A column of length 0 may have any pointer that is not NULL.
+ * another way. A column is a pointer to its first value and then its length, a count of values (of bytes for a text). A column or text that a
+ * function writes must not overlap any other column or text of the call. A column of length 0 may have any pointer that is not NULL.
  *
  * Build the library with `rt staticlib rolkeyda`.
  */
@@ -40,6 +40,9 @@ extern "C" {
 #define ROLKEYDA_MOST_TEXT_BYTES 65536u
 #define ROLKEYDA_LONGEST_WALK 1048576u
 
+/* The greatest length of an MPS text: a buffer of so many bytes holds any. tests/mps makes tables with a text of this length. */
+#define ROLKEYDA_MPS_MOST 250217u
+
 /*
  * The stack that a call of each function needs, in bytes, with its arguments and some headroom. It includes what a dynamic linker takes at
  * the first call to bind memcpy and memset. Measured, not proved: tests/stack runs the largest and the most deeply quoted inputs on stacks
@@ -50,15 +53,17 @@ extern "C" {
 #define ROLKEYDA_STACK_CHECK 16384u
 #define ROLKEYDA_STACK_WALK 8192u
 #define ROLKEYDA_STACK_SOLVE 81920u
+#define ROLKEYDA_STACK_MPS 16384u
 
 /*
  * The reply of every function (`Reply` in the crate).
  *
  * number   0: accepted. Else the number of the first rule that is broken:
- *          101 to 106 and 108 for a text, 201 to 209 for a pair of tables, 301 to 303 and 311 to 314 for a walk, 401 to 403 for the solver.
- * place    where: the record of a text (the first is 1), the block or loop of a table (0 for 201, 209, 402 and 403), the index in a walk.
+ *          101 to 106 and 108 for a text, 201 to 209 for a pair of tables, 301 to 303 and 311 to 314 for a walk, 401 to 403 for the solver,
+ *          411 for an MPS text that does not fit.
+ * place    where: the record of a text (the first is 1), the block or loop of a table (0 for 201, 209, 402, 403 and 411), the index in a walk.
  *          0 when accepted.
- * value    when accepted: the count of rows, the bound, or the cost. Else 0.
+ * value    when accepted: the count of rows, the bound, the cost, or the length of the MPS text. Else 0.
  * more     when a text is accepted: the line end of record 1, a header included (ROLKEYDA_CR_LF, ROLKEYDA_LF or ROLKEYDA_END_OF_TEXT).
  *          When a walk is accepted: its steps, the length less one. Else 0.
  */
@@ -152,6 +157,24 @@ rolkeyda_reply rolkeyda_solve(
     const uint16_t *header, size_t header_length,
     const uint32_t *limit, size_t limit_length,
     uint64_t *multiplier, size_t multiplier_length);
+
+/*
+ * Writes the path-counting program of a pair of tables that keep rules 201 to 207 and 209 (208 is not checked), for a linear solver: fixed MPS in
+ * ASCII, with LF line ends and no zero byte behind it. Accepted: the first `value` bytes of the buffer `text` are the program, and later bytes keep
+ * their contents. Refused: no byte is changed. 411 where the buffer is shorter than the text; ROLKEYDA_MPS_MOST bytes are always enough. Where
+ * rolkeyda_solve accepts the tables, the program's minimum is the cost of block 0 less the bound. Stack: ROLKEYDA_STACK_MPS.
+ */
+rolkeyda_reply rolkeyda_mps(
+    const uint32_t *cost, size_t cost_length,
+    const uint16_t *loops, size_t loops_length,
+    const uint16_t *first, size_t first_length,
+    const uint16_t *second, size_t second_length,
+    const int64_t *figure, size_t figure_length,
+    const uint16_t *parent, size_t parent_length,
+    const uint16_t *header, size_t header_length,
+    const uint32_t *limit, size_t limit_length,
+    const uint64_t *multiplier, size_t multiplier_length,
+    uint8_t *text, size_t text_length);
 
 #ifdef __cplusplus
 }

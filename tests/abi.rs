@@ -48,6 +48,15 @@ extern "C" {
         parent: *const u16, parent_length: usize, header: *const u16, header_length: usize,
         limit: *const u32, limit_length: usize, multiplier: *mut u64, multiplier_length: usize,
     ) -> Reply;
+
+    fn rolkeyda_mps(
+        cost: *const u32, cost_length: usize, inner: *const u16, inner_length: usize,
+        first: *const u16, first_length: usize, second: *const u16, second_length: usize,
+        figure: *const i64, figure_length: usize,
+        parent: *const u16, parent_length: usize, header: *const u16, header_length: usize,
+        limit: *const u32, limit_length: usize, multiplier: *const u64, multiplier_length: usize,
+        text: *mut u8, text_length: usize,
+    ) -> Reply;
 }
 
 /// The nine columns of a pair of tables.
@@ -127,6 +136,21 @@ pub fn solve(
             figure.as_mut_ptr(), figure.len(),
             parent.as_ptr(), parent.len(), header.as_ptr(), header.len(),
             limit.as_ptr(), limit.len(), multiplier.as_mut_ptr(), multiplier.len(),
+        )
+    }
+}
+
+/// (For tests/mps.rs.)
+#[allow(dead_code)]
+pub fn mps(c: Columns, text: &mut [u8]) -> Reply {
+    unsafe {
+        rolkeyda_mps(
+            c.cost.as_ptr(), c.cost.len(), c.inner.as_ptr(), c.inner.len(),
+            c.first.as_ptr(), c.first.len(), c.second.as_ptr(), c.second.len(),
+            c.figure.as_ptr(), c.figure.len(),
+            c.parent.as_ptr(), c.parent.len(), c.header.as_ptr(), c.header.len(),
+            c.limit.as_ptr(), c.limit.len(), c.multiplier.as_ptr(), c.multiplier.len(),
+            text.as_mut_ptr(), text.len(),
         )
     }
 }

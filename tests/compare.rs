@@ -186,4 +186,19 @@ impl Bench {
         self.kept(&after)?;
         Ok((given, after))
     }
+
+    /// The program of the tables as MPS, in a lent buffer of this length that has other bytes in it. What is wanted is the text, or a refusal.
+    /// (For tests/mps.rs.)
+    #[allow(dead_code)]
+    pub fn mps(&mut self, tables: &Tables, length: usize, wanted: Result<&[u8], Refusal>) -> Result<Reply, String> {
+        let columns = self.lend(tables);
+        let Bench { text, random, .. } = self;
+        let old: Vec<u8> = (0..length).map(|_| random.next() as u8).collect();
+        let given = abi::mps(columns, text.lend(&old, random));
+        let written = wanted.unwrap_or_default();
+        agree(reply(wanted.map(|text| (text.len() as i64, 0))), given)?;
+        self.kept(tables)?;
+        unchanged(self.text.holds(&filled(&old, written)), "the buffer")?;
+        Ok(given)
+    }
 }

@@ -53,6 +53,8 @@ static uint64_t multiplier[LOOPS + 1];
 static size_t n, m;
 static uint16_t list[LENGTH + 1];
 static size_t list_length;
+static uint8_t program[ROLKEYDA_MPS_MOST];
+static size_t program_length;
 static rolkeyda_reply reply;
 
 static void read_blocks(void)
@@ -80,6 +82,12 @@ static void solve(void)
     reply = rolkeyda_solve(cost, n, loops, n, first, n, second, n, figure, n, parent, m, header, m, limit, m, multiplier, m);
 }
 
+static void mps(void)
+{
+    reply = rolkeyda_mps(
+        cost, n, loops, n, first, n, second, n, figure, n, parent, m, header, m, limit, m, multiplier, m, program, program_length);
+}
+
 struct function {
     const char *name;
     void (*call)(void);
@@ -94,8 +102,9 @@ static struct function functions[] = {
     {"rolkeyda_check", check, ROLKEYDA_STACK_CHECK, 0, 0},
     {"rolkeyda_walk", walk, ROLKEYDA_STACK_WALK, 0, 0},
     {"rolkeyda_solve", solve, ROLKEYDA_STACK_SOLVE, 0, 0},
+    {"rolkeyda_mps", mps, ROLKEYDA_STACK_MPS, 0, 0},
 };
-enum { READ_BLOCKS, READ_LOOPS, CHECK, WALK, SOLVE };
+enum { READ_BLOCKS, READ_LOOPS, CHECK, WALK, SOLVE, MPS };
 
 /* What a process of a call hands back: the reply, and the stack of a first call and of the next. */
 static struct outcome {
@@ -418,11 +427,50 @@ static void largest_tables(void)
     }
 }
 
+/* The bytes of a line of an MPS text that has a number: 24 in front of it and the line end. There is none for 0. */
+static int64_t line_bytes(long number)
+{
+    return number == 0 ? 0 : 25 + snprintf(NULL, 0, "%ld", number);
+}
+
+/* Whether a block is inside a loop. */
+static bool inside(size_t u, uint16_t l)
+{
+    uint16_t around = loops[u];
+    while (around > l)
+        around = parent[around];
+    return around == l;
+}
+
+/* The length of the tables' MPS text. */
+static int64_t mps_bytes(void)
+{
+    int64_t bytes = 91 + 10 * (int64_t)n + 8 * (int64_t)(m - 1);
+    for (size_t edge = 0; edge < 2 * n; edge++) {
+        size_t u = edge / 2;
+        uint16_t v = edge % 2 == 0 ? first[u] : second[u];
+        if (v == ROLKEYDA_MISSING)
+            continue;
+        bytes += line_bytes(-(long)cost[v]);
+        if (u != v)
+            bytes += line_bytes(1) + line_bytes(-1);
+        if (loops[v] > 0 && header[loops[v]] == v)
+            bytes += line_bytes(inside(u, loops[v]) ? 1 : 1 - (long)limit[loops[v]]);
+    }
+    return bytes;
+}
+
+/* Tables that are accepted: the reply is the bound, or the length of the text. */
+static void good_tables(int which, const char *name, int64_t bound)
+{
+    accepted(which, name, which == MPS ? mps_bytes() : bound, 0);
+}
+
 /* The largest tables, and with each of 201 to 207 broken at the last place where it can be. */
 static void structures(int which)
 {
     largest_tables();
-    accepted(which, "the largest tables", BLOCKS, 0);
+    good_tables(which, "the largest tables", BLOCKS);
     n = BLOCKS + 1;
     refused(which, "one block more", 201, 0);
     largest_tables();
@@ -482,30 +530,30 @@ static void closed_walks(int which)
     free_tables(false);
     for (uint16_t l = 1; l < LOOPS; l++)
         second[l] = l;
-    accepted(which, "every header names itself", 0, 0);
+    good_tables(which, "every header names itself", 0);
     second[BLOCKS - 2] = BLOCKS - 2;
     refused(which, "and so does the last block but one", 209, 0);
     free_tables(false);
     second[BLOCKS - 2] = 1;
     refused(which, "1,022 blocks in a cycle", 209, 0);
     free_tables(true);
-    accepted(which, "doubled edges", 0, 0);
+    good_tables(which, "doubled edges", 0);
     first[BLOCKS - 2] = second[BLOCKS - 2] = 1;
     refused(which, "1,022 blocks with doubled edges in a cycle", 209, 0);
     free_tables_downwards();
-    accepted(which, "a row downwards", 0, 0);
+    good_tables(which, "a row downwards", 0);
     second[LOOPS] = BLOCKS - 2;
     refused(which, "a row downwards in a cycle", 209, 0);
     free_tables(false);
     for (size_t u = 0; u < BLOCKS - 1; u++)
         first[u] = second[u] = BLOCKS - 1;
-    accepted(which, "2,046 edges to the exit", 0, 0);
+    good_tables(which, "2,046 edges to the exit", 0);
     for (size_t u = 0; u < BLOCKS - 1; u++)
         first[u] = second[u] = ROLKEYDA_MISSING;
     if (which == SOLVE)
         refused(which, "no edges", 401, 0);
     else
-        accepted(which, "no edges", 0, 0);
+        good_tables(which, "no edges", 0);
     for (uint16_t u = 1; u < BLOCKS - 1; u++)
         first[u] = u;
     refused(which, "1,022 blocks that name themselves", 209, 0);
@@ -637,6 +685,37 @@ static void solutions(void)
     refused(SOLVE, "a multiplier over 2^40 in the last tower", 402, 0);
 }
 
+/* The tables of the longest text: all edges enter a loop from outside, at a header that costs most. The last 63 blocks are the headers. */
+static void longest_program(void)
+{
+    largest_tables();
+    for (size_t u = 0; u < BLOCKS; u++) {
+        uint16_t next = (uint16_t)(u <= BLOCKS - LOOPS ? BLOCKS - LOOPS + 1 : u + 1);
+        cost[u] = 1000000;
+        loops[u] = (uint16_t)(u <= BLOCKS - LOOPS ? 0 : u - (BLOCKS - LOOPS));
+        first[u] = second[u] = u + 1 < BLOCKS ? next : ROLKEYDA_MISSING;
+    }
+    for (uint16_t l = 1; l < LOOPS; l++) {
+        parent[l] = 0;
+        header[l] = (uint16_t)(BLOCKS - LOOPS + l);
+    }
+}
+
+static void programs(void)
+{
+    program_length = ROLKEYDA_MPS_MOST;
+    structures(MPS);
+    closed_walks(MPS);
+    rounds(65535);
+    good_tables(MPS, "rounds 16 deep", 0);
+    longest_program();
+    accepted(MPS, "the longest text", ROLKEYDA_MPS_MOST, 0);
+    program_length--;
+    refused(MPS, "a buffer that is one byte short", 411, 0);
+    program_length = 0;
+    refused(MPS, "no buffer", 411, 0);
+}
+
 int main(void)
 {
     outcome = mmap(NULL, sizeof *outcome, PROT_READ | PROT_WRITE, MAP_SHARED | MAP_ANONYMOUS, -1, 0);
@@ -647,6 +726,7 @@ int main(void)
     closed_walks(CHECK);
     walks();
     solutions();
+    programs();
     for (size_t i = 0; i < sizeof functions / sizeof functions[0]; i++) {
         const struct function *function = &functions[i];
         printf("%-20s %6zu bytes of stack measured, %6zu at the first call, %6zu stated\n", function->name, function->again, function->first,
