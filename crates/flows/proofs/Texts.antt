@@ -15,13 +15,14 @@ use Rattle.numbers.specs.Number.{decimal}
 use Rattle.wcet.specs.Table.{Routine, blockCount, missing, cost}
 use Rattle.wcet.specs.Rules.{structureRules}
 use Rattle.wcet.specs.Claim.{AllHold}
+use Rattle.nesting.proofs.Stages.{headed}
 use Rattle.mps.specs.Program.{Row, Entry, Column, RowName, objective, block, loop, kindOf, keep, rowsOf, target, edgesOf, isZero, entriesOf, columnOf, programOf}
 use Rattle.mps.specs.Mps.{Bytes, same}
 use Rattle.mps.specs.Text.{rowName, edgeName}
 use Rattle.mps.specs.Claim.{namedRow, namedEntry, namedColumn, named, Among, NamesApart}
 use Rattle.mps.proofs.Names.{same-refl, same-true, four-digits}
 use Rattle.mps.proofs.Sections.{All, all-map}
-use Rattle.mps.proofs.Routines.{ranges, kept-all, names-apart}
+use Rattle.mps.proofs.Routines.{kept-all, names-apart}
 use Rattle.flows.specs.Flow.{numberAt, rowValue, Solution, sameRow, SolutionOf, objectiveOf, flowCost, MpsSolution, mpsObjective, NoneOver, ReadSolutions, ReadOptimum}
 
 -- ---- comparing rows
@@ -144,7 +145,7 @@ by-name : (t : Routine) → AllHold (structureRules t) → (y : ℕ → ℕ) →
 unfolding edgesOf edgeName decimal
 by-name t h y =
     kept-all (λ e. byName y (edgeName e) ≡ y e) (λ e. not (eqb (target t e) missing)) (2 * blockCount t) 0
-    (λ e l p. ap y (four-digits e [] (omega (arith, ranges t h .blocks))))
+    (λ e l p. ap y (four-digits e [] (omega (arith, headed t h .ranged .sized .few-blocks))))
 
 pub read-optimum : (t : Routine) → AllHold (structureRules t) → (b : ℤ) → NoneOver t b → (y : ℕ → ℕ) → SolutionOf t 1 y → flowCost t 1 y ≡ b
     → ReadOptimum (named (programOf t)) (cost t 0) b

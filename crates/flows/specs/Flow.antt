@@ -4,6 +4,7 @@ use mathlib.Core.Path.{_≡_}
 use mathlib.Core.Logic.{_↔_}
 use mathlib.Core.Bool.{Bool, true, false, not, _&&_}
 use mathlib.Core.List.{List, [], _∷_}
+use mathlib.Core.Option.{some}
 use lib.Dec.{eqb}
 use lib.IntN.{ℤ, pos, _+ℤ_, _-ℤ_, _*ℤ_}
 use lib.Signed.{_≤ℤ_}
@@ -15,8 +16,8 @@ use Rattle.wcet.specs.Run.{runCost}
 use Rattle.wcet.specs.Claim.{AllHold, FinishedRun}
 use Rattle.optimum.specs.Replies.{solveReply}
 use Rattle.mps.specs.Program.{Kind, free, equal, atMost, atLeast, Row, Entry, Column, RowName, objective, block, loop, programOf}
-use Rattle.mps.specs.Mps.{Bytes, Mps, same}
-use Rattle.mps.specs.Text.{edgeName}
+use Rattle.mps.specs.Mps.{Bytes, Mps, same, readMps}
+use Rattle.mps.specs.Text.{edgeName, mpsText}
 use Rattle.mps.specs.Claim.{named}
 
 -- ---- the solutions of a linear program, over the names R of its rows and C of its columns, by a test of row names
@@ -123,7 +124,7 @@ abbrev pub RunsAreFlows : Routine → Type 0
 RunsAreFlows t = AllHold (structureRules t) → (w : List ℕ) → FinishedRun t w → RunIsFlow t w
 
 -- What reads the program's text gets the program's solutions, under the names of the edges, and in the row COST the value of their objective: so
--- what a solver reports for COST is `flowCost` less q times the entry's cost, negated.
+-- what a solver reports for COST, for q = 1, is the entry's cost less `flowCost`.
 pub record ReadSolutions (t : Routine) : Type 0 where
   pub solutions : (q : ℕ) (x : Bytes → ℕ) → MpsSolution (named (programOf t)) q x ↔ SolutionOf t q (λ e. x (edgeName e))
   pub objectives : (x : Bytes → ℕ) → mpsObjective (named (programOf t)) x ≡ objectiveOf t (λ e. x (edgeName e))
@@ -133,12 +134,12 @@ pub record ReadOptimum (m : Mps) (c : ℕ) (b : ℤ) : Type 0 where
   pub most : (q : ℕ) (x : Bytes → ℕ) → MpsSolution m q x → (pos (q * c) -ℤ mpsObjective m x) ≤ℤ (pos q *ℤ b)
   pub attained : (x : Bytes → ℕ) × MpsSolution m 1 x × (pos c -ℤ mpsObjective m x ≡ b)
 
--- The solver's bound is the optimum of the program: no solution costs more, and a finished counted run is one that costs it. To what reads the
--- program's text it is the optimum too.
+-- The solver's bound is the optimum of the program: no solution costs more, and a finished counted run is one that costs it. It is also the
+-- optimum of whatever the text is read as.
 pub record ProgramOptimum (t : Routine) (b : ℤ) : Type 0 where
   pub most : NoneOver t b
   pub attained : (w : List ℕ) × FinishedRun t w × RunIsFlow t w × (flowCost t 1 (flowOf t w) ≡ b)
-  pub read : ReadOptimum (named (programOf t)) (cost t 0) b
+  pub read : (m : Mps) → readMps (mpsText t) ≡ some m → ReadOptimum m (cost t 0) b
 
 abbrev pub SolvesProgram : Routine → Type 0
 SolvesProgram t = (b : ℤ) → solveReply t ≡ accepted b → ProgramOptimum t b
