@@ -1,23 +1,18 @@
 -- The solver's bound is the optimum of the program (`solves-program`). Assumes nothing.
-use mathlib.Core.Path.{_≡_, refl, sym, _∙_, ap, ap₂, fun-ext}
-use mathlib.Core.Bool.{false}
+use mathlib.Core.Path.{_≡_, refl, _∙_, ap, ap₂, fun-ext}
 use mathlib.Core.List.{List, map}
-use mathlib.Core.Option.{Option, none, some}
 use lib.IntN.{ℤ}
 use Prim.Native.Nat.{ℕ}
 use Rattle.wcet.specs.Table.{Routine, inside}
-use Rattle.wcet.specs.Cycles.{undeclaredLoop}
 use Rattle.wcet.specs.Rules.{accepted, structureRules, tableReply}
 use Rattle.wcet.specs.Claim.{AllHold}
 use Rattle.optimum.specs.Remade.{withColumns}
 use Rattle.optimum.specs.Columns.{remadeFigures, remadeMultipliers}
-use Rattle.optimum.specs.Replies.{Optimum}
+use Rattle.optimum.specs.Replies.{givenRules, Optimum}
 use Rattle.optimum.proofs.Replies.{given, own-rules, solves-exactly, optimum-of}
 use Rattle.mps.specs.Program.{Column, RowName, objective, block, loop, rowsOf, source, target, edgesOf, number, rightSide, entriesOf, columnOf, programOf}
-use Rattle.mps.specs.Mps.{Mps, readMps}
-use Rattle.mps.specs.Text.{mpsText}
 use Rattle.mps.specs.Claim.{named}
-use Rattle.mps.proofs.Routines.{declared-returns, reads-back}
+use Rattle.mps.proofs.Routines.{reads-back}
 use Rattle.flows.specs.Flow.{flowCost, flowOf, NoneOver, RunIsFlow, SolvesProgram}
 use Rattle.flows.proofs.Duality.{weak-duality}
 use Rattle.flows.proofs.Runs.{runs-are-flows}
@@ -55,29 +50,22 @@ module _ (t : Routine) (fs : List ℤ) (ks : List ℕ) where
   unfolding flowCost
   bounded b e q x h = rw same-program at (weak-duality t′ b e q x (rw same-program h))
 
-abbrev from : Mps → Option Mps → Mps
-from d none = d
-from d (some m) = m
-
 -- THEOREM: no solution costs more than the solver's bound, and a finished counted run is one that costs it.
 pub solves-program : (t : Routine) → SolvesProgram t
 solves-program t b e = record {
   most = bounded t (remadeFigures t) (remadeMultipliers t) b (O .result);
-  attained = (O .run .0, O .run .1, flow, flow .costs ∙ O .run .2);
-  read = λ m q. rw (sym (is-named m q)) (read-optimum t rules b (bounded t (remadeFigures t) (remadeMultipliers t) b (O .result)) (flowOf t (O .run .0)) (flow .solution) (flow .costs ∙ O .run .2));
+  attained = (O .run .0, O .run .1, flow, O .run .2);
+  read = (named (programOf t), reads-back t given-rules, read-optimum t rules b (bounded t (remadeFigures t) (remadeMultipliers t) b (O .result)) (flowOf t (O .run .0)) (flow .solution) (flow .costs ∙ O .run .2));
 }
   where
     O : Optimum t (remadeFigures t) (remadeMultipliers t) b
     O = optimum-of t b e
 
-    kept : AllHold (structureRules t) × (undeclaredLoop t ≡ false)
-    kept = given t (own-rules t (solves-exactly t .accepts b .0 e .0) .0)
+    given-rules : AllHold (givenRules t)
+    given-rules = own-rules t (solves-exactly t .accepts b .0 e .0) .0
 
     rules : AllHold (structureRules t)
-    rules = kept .0
-
-    is-named : (m : Mps) → readMps (mpsText t) ≡ some m → named (programOf t) ≡ m
-    is-named m q = ap (from (named (programOf t))) (sym (reads-back t rules (declared-returns t rules (kept .1))) ∙ q)
+    rules = given t given-rules .0
 
     flow : RunIsFlow t (O .run .0)
     flow = runs-are-flows t rules (O .run .0) (O .run .1)

@@ -1,4 +1,4 @@
--- The text has the program's solutions, and its row COST the value of their objective (`read-solutions`): different rows have different names.
+-- The program under its names has the program's solutions and the value of their objective (`read-solutions`): different rows have different names.
 -- Assumes nothing.
 use mathlib.Core.Path.{_≡_, refl, sym, _∙_, ap}
 use mathlib.Core.Logic.{_↔_, inl, inr}
@@ -121,11 +121,11 @@ module _ (t : Routine) (A : NamesApart t) where
         (all-map (λ (r : Row RowName). In (r .name)) In (λ r. record { kind = kindOf r; name = r }) (λ r p. p) (rowsOf t) all-in)
 
     objective-named : All Agree (edgesOf t) → mpsObjective (named (programOf t)) x ≡ objectiveOf t y
-    unfolding named programOf rowName rowsOf
+    unfolding named namedRow programOf rowName rowsOf
     objective-named a = value-named objective (inl refl) (programOf t .columns) (columns-in (edgesOf t) a)
 
--- THEOREM: the text has the program's solutions, and its row COST the value of their objective.
-pub read-solutions : (t : Routine) → AllHold (structureRules t) → ReadSolutions t
+-- THEOREM: the program under its names has the program's solutions and the value of their objective.
+pub read-solutions : (t : Routine) → ReadSolutions t
 read-solutions t h = record {
   solutions = λ q x. solutions-named t (names-apart t h) x (λ e. x (edgeName e)) q (agree x (edgesOf t));
   objectives = λ x. objective-named t (names-apart t h) x (λ e. x (edgeName e)) (agree x (edgesOf t));

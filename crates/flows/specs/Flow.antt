@@ -1,4 +1,5 @@
--- What the program means: its solutions, the value of its objective, and the flow of a run. The inequalities of 208 are the dual of this program.
+-- What the program means: its solutions, the value of its objective, and the flow of a run. The inequalities of 208 are the constraints of the
+-- program's dual: the figures are the dual variables of the E rows, the multipliers those of the L rows.
 use Prim.Native.Nat.{ℕ, _+_, _*_}
 use mathlib.Core.Path.{_≡_}
 use mathlib.Core.Logic.{_↔_}
@@ -8,7 +9,6 @@ use mathlib.Core.Option.{some}
 use lib.Dec.{eqb}
 use lib.IntN.{ℤ, pos, _+ℤ_, _-ℤ_, _*ℤ_}
 use lib.Signed.{_≤ℤ_}
-use Rattle.lists.specs.Bytes.{bytes}
 use Rattle.lists.specs.Search.{if_then_else_}
 use Rattle.wcet.specs.Table.{Routine, missing, cost, first}
 use Rattle.wcet.specs.Rules.{accepted, structureRules, tableReply}
@@ -22,13 +22,13 @@ use Rattle.mps.specs.Claim.{named}
 
 -- ---- the solutions of a linear program, over the names R of its rows and C of its columns, by a test of row names
 
--- the number that entries give row r: 0 where they have none
+-- the number that entries give row r: 0 where they have none, and the sum where they have several
 unfoldable pub numberAt : {R : Type 0} → (R → R → Bool) → R → List (Entry R) → ℤ
 numberAt test r [] = pos 0
 numberAt test r (x ∷ xs) = if test (x .row) r then x .number +ℤ numberAt test r xs else numberAt test r xs
 
--- A flow x has a number for each column: a natural one, because 0 is MPS's default lower bound.
--- What it makes of row r: each column's number there times the flow through the column, added up.
+-- A point x has a number for each column. Without BOUNDS a column's value is 0 or more, with no upper bound; x holds it times some q, so as natural
+-- numbers. What x makes of row r: each column's number there times the column's, added up.
 unfoldable pub rowValue : {C R : Type 0} → (R → R → Bool) → List (Column C R) → (C → ℕ) → R → ℤ
 rowValue test [] x r = pos 0
 rowValue test (c ∷ cs) x r = pos (x (c .name)) *ℤ numberAt test r (c .entries) +ℤ rowValue test cs x r
@@ -40,8 +40,8 @@ Meets equal value right = value ≡ right
 Meets atMost value right = value ≤ℤ right
 Meets atLeast value right = right ≤ℤ value
 
--- x divided by q is a solution: x meets every row with its right side times q. Each rational solution is one of these.
--- For q = 0, x is a direction in which solutions can go on.
+-- x divided by q is a (feasible) solution: x meets every row with its right side times q. Each rational solution is one of these; the data are
+-- whole, so real ones do no better, which is not stated here. For q = 0, x is a ray: a direction in which solutions can go on.
 unfoldable pub Solution : {C R : Type 0} → (R → R → Bool) → List (Row R) → List (Column C R) → List (Entry R) → ℕ → (C → ℕ) → Type 0
 Solution test [] columns right q x = Unit {0}
 Solution test (r ∷ rows) columns right q x =
@@ -75,6 +75,12 @@ flowCost t q x = pos (q * cost t 0) -ℤ objectiveOf t x
 
 -- ---- of what a text in MPS was read as, where a name is its bytes
 
+abbrev pub ifFree : Kind → Bytes → Bytes → Bytes
+ifFree free name other = name
+ifFree equal name other = other
+ifFree atMost name other = other
+ifFree atLeast name other = other
+
 -- the numbers of the first right side, or none
 abbrev pub firstRight : List (Column Bytes Bytes) → List (Entry Bytes)
 firstRight [] = []
@@ -84,9 +90,14 @@ firstRight (c ∷ cs) = c .entries
 abbrev pub MpsSolution : Mps → ℕ → (Bytes → ℕ) → Type 0
 MpsSolution m q x = Solution same (m .rows) (m .columns) (firstRight (m .rights)) q x
 
--- what x makes of the row named COST: the number that a solver minimises
+-- the name of the first row of type N, which is the objective; where there is none, no name
+abbrev pub firstFree : List (Row Bytes) → Bytes
+firstFree [] = []
+firstFree (r ∷ rows) = ifFree (r .kind) (r .name) (firstFree rows)
+
+-- what x makes of it: the number that a solver minimises
 abbrev pub mpsObjective : Mps → (Bytes → ℕ) → ℤ
-mpsObjective m x = rowValue same (m .columns) x (bytes "COST")
+mpsObjective m x = rowValue same (m .columns) x (firstFree (m .rows))
 
 -- ---- the flow of a run
 
@@ -123,23 +134,26 @@ pub record RunIsFlow (t : Routine) (w : List ℕ) : Type 0 where
 abbrev pub RunsAreFlows : Routine → Type 0
 RunsAreFlows t = AllHold (structureRules t) → (w : List ℕ) → FinishedRun t w → RunIsFlow t w
 
--- What reads the program's text gets the program's solutions, under the names of the edges, and in the row COST the value of their objective: so
--- what a solver reports for COST, for q = 1, is the entry's cost less `flowCost`.
-pub record ReadSolutions (t : Routine) : Type 0 where
+-- The program under its names has the program's solutions, under the names of the edges, and the value of their objective: so what a solver
+-- reports for the objective, for q = 1, is the entry's cost less `flowCost`.
+pub record SameSolutions (t : Routine) : Type 0 where
   pub solutions : (q : ℕ) (x : Bytes → ℕ) → MpsSolution (named (programOf t)) q x ↔ SolutionOf t q (λ e. x (edgeName e))
   pub objectives : (x : Bytes → ℕ) → mpsObjective (named (programOf t)) x ≡ objectiveOf t (λ e. x (edgeName e))
 
--- b as the optimum of a program that was read, where the entry costs c: no solution has less than c - b in COST, and one has just that.
+abbrev pub ReadSolutions : Routine → Type 0
+ReadSolutions t = AllHold (structureRules t) → SameSolutions t
+
+-- b as the optimum of a program that was read, where the entry costs c: no solution has an objective below c - b, and one has just that.
 pub record ReadOptimum (m : Mps) (c : ℕ) (b : ℤ) : Type 0 where
   pub most : (q : ℕ) (x : Bytes → ℕ) → MpsSolution m q x → (pos (q * c) -ℤ mpsObjective m x) ≤ℤ (pos q *ℤ b)
   pub attained : (x : Bytes → ℕ) × MpsSolution m 1 x × (pos c -ℤ mpsObjective m x ≡ b)
 
--- The solver's bound is the optimum of the program: no solution costs more, and a finished counted run is one that costs it. It is also the
--- optimum of whatever the text is read as.
+-- The solver's bound is the optimum of the program: no solution costs more, and a finished counted run is one that costs it. The text is read,
+-- and the bound is the optimum of what it is read as.
 pub record ProgramOptimum (t : Routine) (b : ℤ) : Type 0 where
   pub most : NoneOver t b
-  pub attained : (w : List ℕ) × FinishedRun t w × RunIsFlow t w × (flowCost t 1 (flowOf t w) ≡ b)
-  pub read : (m : Mps) → readMps (mpsText t) ≡ some m → ReadOptimum m (cost t 0) b
+  pub attained : (w : List ℕ) × FinishedRun t w × RunIsFlow t w × (pos (runCost t w) ≡ b)
+  pub read : (m : Mps) × (readMps (mpsText t) ≡ some m) × ReadOptimum m (cost t 0) b
 
 abbrev pub SolvesProgram : Routine → Type 0
 SolvesProgram t = (b : ℤ) → solveReply t ≡ accepted b → ProgramOptimum t b

@@ -49,7 +49,7 @@ text-of-A = refl
 
 pub A-reads-back : ReadsBack A
 unfolding around inside numeralIn numeralOf numbersFrom keep rowsOf edgesOf number rightSide entriesOf columnOf programOf digitsIn rowName edgeName integerOf filled rowLine entryLine columnLines linesIn mathlib.Core.List.flatten textOf mpsText mathlib.Core.List.flatMap digits decimal each linesOf trimmed field same inFields kindIn numberIn rowIn cardIn columnsIn cards behind opened readMps namedRow namedEntry namedColumn named
-A-reads-back = refl
+A-reads-back g = refl
 
 -- What is no MPS: a text that stops before ENDATA, a row name one column too far left, a number that begins in the gap before its columns.
 pub refusals : (readMps (line "NAME" ++ line "ROWS" ++ line " N  COST") ≡ none)

@@ -1,11 +1,12 @@
 -- Document 02, §5: "Read by a definition of MPS, the text must give exactly this program's rows, columns and numbers."
-use Prim.Native.Nat.{ℕ, _<_}
-use mathlib.Core.Bool.{true}
+use Prim.Native.Nat.{ℕ}
 use mathlib.Core.List.{List, [], _∷_, map}
-use mathlib.Core.Option.{Option, some}
+use mathlib.Core.Option.{some}
 use mathlib.Core.Path.{_≡_}
 use mathlib.Core.Logic.{_⊎_}
-use Rattle.wcet.specs.Table.{Routine, blockCount, loopOf, header, edge}
+use Rattle.wcet.specs.Table.{Routine}
+use Rattle.wcet.specs.Claim.{AllHold}
+use Rattle.optimum.specs.Replies.{givenRules}
 use Rattle.mps.specs.Program.{Row, Entry, Column, RowName, Program, rowsOf, edgesOf, programOf}
 use Rattle.lists.specs.Bytes.{bytes}
 use Rattle.mps.specs.Mps.{Bytes, Mps, readMps}
@@ -29,13 +30,10 @@ named p = record {
   rights = record { name = bytes "RHS"; entries = map namedEntry (p .right) } ∷ [];
 }
 
+-- Of tables that pass 201 to 207 and 209. Without 209 an edge from a block to itself could have no number at all (cost 0, no header), and as
+-- only numbers other than 0 are written, no card would name its column.
 abbrev pub ReadsBack : Routine → Type 0
-ReadsBack t = readMps (mpsText t) ≡ some (named (programOf t))
-
--- What 209 leaves of an edge from a block to itself: it returns to the header of the block's loop. Without this the edge's column could
--- have no number at all (cost 0, no header), and MPS has no card for such a column.
-abbrev pub SelfEdgesReturn : Routine → Type 0
-SelfEdgesReturn t = (u : ℕ) → u < blockCount t → edge t u u ≡ true → header t (loopOf t u) ≡ u
+ReadsBack t = AllHold (givenRules t) → readMps (mpsText t) ≡ some (named (programOf t))
 
 -- x is one of the list
 abbrev pub Among : {A : Type 0} → A → List A → Type 0

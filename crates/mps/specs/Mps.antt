@@ -1,10 +1,12 @@
 -- Fixed MPS, the layout published by IBM: how a text is read as a linear program. A line is a card; its columns count from 1.
---   columns 2 and 3     the type of a row
+--   column 2 (or 3)     the type of a row
 --   columns 5 to 12     the name of a row, a column or a right side
 --   columns 15 to 22    the name of a row
 --   columns 25 to 36    a number
--- A card with a word from column 1 on opens a section: NAME, ROWS, COLUMNS, RHS, ENDATA. This reader takes what every reader of MPS
--- takes, and less: one number a card, whole numbers, and none of the sections that may be left out (RANGES, BOUNDS).
+-- A card with a word from column 1 on opens a section: NAME, ROWS, COLUMNS, RHS, ENDATA. This reader takes less than others do: one number a
+-- card, whole and left-justified, as are names; types in column 2; no comment, no blank after a section's word but NAME, and none of the
+-- sections that may be left out (RANGES, BOUNDS). It does not ask that names differ and that the rows of COLUMNS and RHS are those of ROWS: of
+-- the program's text the first is `NamesApart`, and the second is plain from `entriesOf`.
 -- It knows nothing of blocks, loops and edges: a name is its bytes.
 use Prim.Native.Nat.{ℕ, _+_, _-_}
 use Prim.Native.String.{String}
@@ -45,20 +47,22 @@ each f (x ∷ xs) = f x >>= λ y. each f xs >>= λ ys. some (y ∷ ys)
 
 -- ---- lines and their columns
 
--- the lines, each up to its LF
+-- a byte in front of the first line
 abbrev pub onto : ℕ → List Bytes → List Bytes
 onto b [] = (b ∷ []) ∷ []
 onto b (l ∷ ls) = (b ∷ l) ∷ ls
 
+-- the lines, each up to its LF; the last may lack it
 unfoldable pub linesOf : Bytes → List Bytes
 linesOf [] = []
 linesOf (b ∷ s) = cond (eqb b 10) ([] ∷ linesOf s) (onto b (linesOf s))
 
--- without the blanks at the end
+-- a byte in front, unless it is a blank and nothing follows
 abbrev pub before : ℕ → Bytes → Bytes
 before b [] = cond (eqb b 32) [] (b ∷ [])
 before b (c ∷ s) = b ∷ c ∷ s
 
+-- without the blanks at the end
 unfoldable pub trimmed : Bytes → Bytes
 trimmed [] = []
 trimmed (b ∷ s) = before b (trimmed s)

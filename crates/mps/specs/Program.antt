@@ -89,7 +89,8 @@ number t u v (loop l) =
     if not (eqb (header t l) v) then pos 0 else
     if inside t u l then pos 1 else pos 1 -ℤ pos (limit t l)
 
--- "right side 1 for block 0 and −1 for the exit"; of a loop's row "right side 0"; "the entry's own cost is left out"
+-- "right side 1 for block 0 and −1 for the exit"; of a loop's row "right side 0"; "the entry's own cost is left out": a right side of the
+-- objective would be a constant of it
 unfoldable pub rightSide : Routine → RowName → ℤ
 rightSide t objective = pos 0
 rightSide t (block b) = one (eqb b 0) -ℤ one (eqb b (exit t))
@@ -100,7 +101,7 @@ isZero (pos zero) = true
 isZero (pos (suc n)) = false
 isZero (negsuc n) = false
 
--- "Only numbers other than 0 .., in row order": those that f gives the rows
+-- "Only numbers other than 0 .. in row order": those that f gives the rows
 unfoldable pub entriesOf : (RowName → ℤ) → List RowName → List (Entry RowName)
 entriesOf f rows = keep (λ x. not (isZero (x .number))) (map (λ r. record { row = r; number = f r }) rows)
 

@@ -22,7 +22,7 @@ mpsRules t room = givenRules t ++ record { number = 411; places = 1; broken = λ
 unfoldable pub mpsReply : Routine → ℕ → Reply ℕ
 mpsReply t room = check (mpsRules t room) (accepted (length (mpsText t)))
 
--- "The text lands in a lent buffer .. and later bytes are untouched", "no refusal writes a byte"
+-- "The text lands in a lent buffer .. and later bytes are untouched"; "no refusal writes a byte": the buffer is as before
 abbrev pub bufferAfter : Routine → Bytes → Reply ℕ → Bytes
 bufferAfter t before (accepted n) = mpsText t ++ drop n before
 bufferAfter t before (refused number place) = before
@@ -35,7 +35,8 @@ pub record Exported (t : Routine) (before : Bytes) (r : Reply ℕ) (after : Byte
   pub reads : (n : ℕ) → r ≡ accepted n → readMps (take n after) ≡ some (named (programOf t))
   pub apart : (n : ℕ) → r ≡ accepted n → NamesApart t
 
--- No text is longer: a buffer of so many bytes is enough for every pair of tables that passes 201 to 207.
+-- No text is longer: a buffer of so many bytes is enough for every pair of tables that passes 201 to 207. tests/mps.rs has a table whose text is
+-- as long.
 abbrev pub longestText : ℕ
 longestText = 250217
 

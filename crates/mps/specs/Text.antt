@@ -8,7 +8,7 @@ use Rattle.wcet.specs.Table.{Routine}
 use Rattle.mps.specs.Program.{Kind, free, equal, atMost, atLeast, Row, Entry, Column, RowName, objective, block, loop, Program, programOf}
 use Rattle.mps.specs.Mps.{Bytes}
 
--- n in k decimal digits, in front of s
+-- the last k decimal digits of n, in front of s
 unfoldable pub digitsIn : ℕ → ℕ → Bytes → Bytes
 digitsIn zero n s = s
 digitsIn (suc k) n s = digitsIn k (n / 10) ((48 + n % 10) ∷ s)

@@ -15,7 +15,7 @@ use Rattle.wcet.specs.Cycles.{undeclaredLoop}
 use Rattle.wcet.specs.Rules.{Reply, accepted, refused, Rule, check, structureRules, undeclaredRule}
 use Rattle.wcet.specs.Claim.{AllHold}
 use Rattle.wcet.proofs.Nesting.{Nested, nested}
-use Rattle.wcet.proofs.Replies.{decides, hands-on, past-all}
+use Rattle.wcet.proofs.Replies.{append-all, decides, hands-on, past-all}
 use Rattle.loopsets.specs.Sets.{setsAround}
 use Rattle.nesting.specs.Columns.{routine, Ranged}
 use Rattle.nesting.specs.Answers.{refusal, StructureChecked}
@@ -31,7 +31,7 @@ use Rattle.mps.specs.Program.{block}
 use Rattle.mps.specs.Text.{digitsIn, rowName, mpsText}
 use Rattle.mps.specs.Reply.{mpsRules, mpsReply, Exported}
 use Rattle.mps.proofs.Names.{row-named}
-use Rattle.mps.proofs.Routines.{declared-returns, reads-back, names-apart}
+use Rattle.mps.proofs.Routines.{reads-back, names-apart}
 use Rattle.cards.specs.Cards.{Space, Put, head, blockRow, loopRow, card}
 use Rattle.writer.specs.declared.MpsReply.{MpsReply}
 use Rattle.writer.specs.declared.MpsReply.the-variants.{Length, NoRoom}
@@ -170,7 +170,7 @@ module _ (t : Routine) (before : List ℕ) where
       written l = record {
         replied = none-left result ∙ sym (hands-on roomRule [] result (λ p z. le-ltb (length before) (length w) l)) ∙ last;
         buffer = refl;
-        reads = λ n q. rw (← same n q, take-at w (drop (length w) before) (length w) refl) (reads-back t h (declared-returns t h declared));
+        reads = λ n q. rw (← same n q, take-at w (drop (length w) before) (length w) refl) (reads-back t (append-all (structureRules t) (undeclaredRule t ∷ []) h (λ p z. declared, tt)));
         apart = λ n q. names-apart t h;
       }
         where
