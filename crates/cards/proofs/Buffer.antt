@@ -16,6 +16,16 @@ use Rattle.cards.specs.Cards.{Space, Put, signedText, card, CardLength}
 pub copy-step : (d s out : List ℕ) (at i : ℕ) → out ≡ paste d at s i → at + i < length d → i < length s → set out (at + i) (getD s i 0) ≡ paste d at s (i + 1)
 copy-step d s out at i e p q = let one : i + 1 ≡ suc i = omega arith in rw (e, one) (paste-suc d at s i 0 p q)
 
+-- four stores are a copy
+pub four-set : (d s : List ℕ) (at : ℕ) → at + 4 ≤ length d → 4 ≤ length s
+    → set (set (set (set d at (getD s 0 0)) (at + 1) (getD s 1 0)) (at + 2) (getD s 2 0)) (at + 3) (getD s 3 0) ≡ paste d at s 4
+four-set d s at p q =
+    let z : at + 0 ≡ at = omega arith in
+    let one : set d at (getD s 0 0) ≡ paste d at s 1 = rw z at (copy-step d s d at 0 (paste-zero d at s) (omega arith) (omega arith)) in
+    let two = copy-step d s _ at 1 one (omega arith) (omega arith) in
+    let three = copy-step d s _ at 2 two (omega arith) (omega arith) in
+    copy-step d s _ at 3 three (omega arith) (omega arith)
+
 -- two words, one after the other
 paste-both : (d v w : List ℕ) (at : ℕ) → at + (length v + length w) ≤ length d → paste (paste d at v (length v)) (at + length v) w (length w) ≡ paste d at (v ++ w) (length (v ++ w))
 paste-both d v w at h =

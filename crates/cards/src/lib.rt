@@ -2,15 +2,14 @@
 // function returns the place after what it wrote.
 ghost use mathlib.Core.Path.{_≡_};
 ghost use mathlib.Core.List.{_∷_, []};
+ghost use Prim.Native.Nat.{_≤_};
 ghost use lib.ListN.{length};
+ghost use lib.Seq.{paste};
 ghost use Rattle.lists.specs.Bytes.{bytes};
 ghost use Rattle.numbers.specs.Number.{numeralOf};
 ghost use Rattle.mps.specs.Program.{objective, block, loop};
 ghost use Rattle.mps.specs.Text.{digitsIn, rowName, edgeName};
 ghost use Rattle.cards.specs.Cards.{Space, Put, head, blockRow, loopRow, signedText, card, CardLength};
-
-// Columns 1 to 24 of a card: a name in columns 5 to 12, a row's name in columns 15 to 22.
-pub type Head = [u8; 24];
 
 // The last four decimal digits of n.
 fn four(n: usize) -> [u8; 4]
@@ -37,46 +36,50 @@ fn two(n: usize) -> [u8; 2]
 
 // ---- cards
 
+// Columns 1 to 24 of a card: a name in columns 5 to 12, a row's name in columns 15 to 22.
+pub type Head = [u8; 24];
+
+// The head with the last four digits of n from place `at` on.
+fn with_four(head: Head, at: usize, n: usize) -> Head
+    requires { ⌜ at ≤ 20 ⌝ }
+    ensures { λ r. ⌜ r ≡ paste head at (digitsIn 4 n []) 4 ⌝ }
+{
+    let d = four(n);
+    let mut out = head;
+    out[at] = d[0];
+    out[at + 1] = d[1];
+    out[at + 2] = d[2];
+    out[at + 3] = d[3];
+    out
+}
+
 pub fn cost_head(e: usize) -> Head
     ensures { λ r. ⌜ r ≡ head (edgeName e) (rowName objective) ⌝ }
 {
-    let d = four(e);
-    [
-        b' ', b' ', b' ', b' ', b'E', d[0], d[1], d[2], d[3], b' ', b' ', b' ', b' ', b' ', b'C',
-        b'O', b'S', b'T', b' ', b' ', b' ', b' ', b' ', b' ',
-    ]
+    with_four(*b"    E0000     COST      ", 5, e)
 }
 
 pub fn block_head(e: usize, u: usize) -> Head
     ensures { λ r. ⌜ r ≡ head (edgeName e) (rowName (block u)) ⌝ }
 {
-    let d = four(e);
-    let b = four(u);
-    [
-        b' ', b' ', b' ', b' ', b'E', d[0], d[1], d[2], d[3], b' ', b' ', b' ', b' ', b' ', b'B',
-        b[0], b[1], b[2], b[3], b' ', b' ', b' ', b' ', b' ',
-    ]
+    let head = with_four(*b"    E0000     B0000     ", 5, e);
+    with_four(head, 15, u)
 }
 
 pub fn loop_head(e: usize, l: usize) -> Head
     ensures { λ r. ⌜ r ≡ head (edgeName e) (rowName (loop l)) ⌝ }
 {
-    let d = four(e);
-    let b = two(l);
-    [
-        b' ', b' ', b' ', b' ', b'E', d[0], d[1], d[2], d[3], b' ', b' ', b' ', b' ', b' ', b'L',
-        b[0], b[1], b' ', b' ', b' ', b' ', b' ', b' ', b' ',
-    ]
+    let mut head = with_four(*b"    E0000     L00       ", 5, e);
+    let d = two(l);
+    head[15] = d[0];
+    head[16] = d[1];
+    head
 }
 
 pub fn right_head(u: usize) -> Head
     ensures { λ r. ⌜ r ≡ head (bytes "RHS") (rowName (block u)) ⌝ }
 {
-    let b = four(u);
-    [
-        b' ', b' ', b' ', b' ', b'R', b'H', b'S', b' ', b' ', b' ', b' ', b' ', b' ', b' ', b'B',
-        b[0], b[1], b[2], b[3], b' ', b' ', b' ', b' ', b' ',
-    ]
+    with_four(*b"    RHS       B0000     ", 15, u)
 }
 
 // The line of a block's row, and of a loop's row.

@@ -103,7 +103,6 @@ refused-by (Depth l) = (205, l, λ A. refl)
 refused-by (EntryOrExit u) = (206, u, λ A. refl)
 refused-by (PastHeader u) = (207, u, λ A. refl)
 
-
 -- what the structure check refuses is refused by every list of rules that begins with 201 to 207
 pub refusal-stands : {A : Type 0} (t : Routine) (r : Structured) → StructureChecked t r → (f : StructureFault) → r .answer ≡ Broken f
     → (qs : List Rule) (passed : Reply A) → refusal f ≡ check (structureRules t ++ qs) passed

@@ -203,8 +203,7 @@ module _ (costs loops firsts seconds : List ℕ) (figures : List ℤ) (parents h
   pub readable : AllHold (structureRules tables) → Readable read × (1 < length costs) × (0 < length headers)
   readable h =
       let R = headed tables h .ranged in
-      let N = nested tables h in
-      (
+      let N = nested tables h in (
         record {
           limited = record { innermost = innermost tables R; sized = R .sized .limits ∙ sym (R .sized .headers); least = λ l b. R .limit-least l (omega (arith, R .sized .headers)) };
           linked = linked tables R;

@@ -65,14 +65,23 @@ fn loop_number(
 {
     let l = loops[v as usize] as usize;
     if header[l] != v {
-        return Signed { negative: false, size: 0 };
+        return Signed {
+            negative: false,
+            size: 0,
+        };
     }
     let from = loops[u] as usize;
     if loopsets::set_at(around, from).contains(l) {
-        return Signed { negative: false, size: 1 };
+        return Signed {
+            negative: false,
+            size: 1,
+        };
     }
     let most = wide(limit[l]);
-    Signed { negative: true, size: most - 1 }
+    Signed {
+        negative: true,
+        size: most - 1,
+    }
 }
 
 // Edge number e, where its target is v. A missing one leads from its block to itself and has no number, so that it gets no line.
@@ -150,7 +159,8 @@ fn edge_at(
 fn edge_length(edge: Edge) -> usize
     ensures { λ r. ⌜ EdgeLength edge r ⌝ }
 {
-    let numbers = cards::number_length(true, edge.cost) + cards::number_length(edge.negative, edge.coefficient);
+    let numbers = cards::number_length(true, edge.cost)
+        + cards::number_length(edge.negative, edge.coefficient);
     if edge.source == edge.target {
         return numbers;
     }
@@ -201,14 +211,7 @@ fn text_length(
 // ---- the text
 
 // The lines of two blocks of an edge, the lower first: its number there is 1 or -1, and the other one in the higher.
-fn put_pair(
-    text: &mut [u8],
-    at: usize,
-    e: usize,
-    low: usize,
-    high: usize,
-    negative: bool,
-) -> usize
+fn put_pair(text: &mut [u8], at: usize, e: usize, low: usize, high: usize, negative: bool) -> usize
     requires { ⌜ Space at (pairText e low high negative) (now text) ⌝ }
     ensures { λ r. ⌜ Put at (pairText e low high negative) (now (text .entry)) r (now (text .exit)) ⌝ }
 {
@@ -322,7 +325,17 @@ fn put_columns(
     ensures { λ r. ⌜ Put at (columnsText (now (around .entry)) (textColumns (now (cost .entry)) (now (loops .entry)) (now (first .entry)) (now (second .entry)) (now (header .entry)) (now (limit .entry)))) (now (text .entry)) r (now (text .exit)) ⌝ }
 {
     let next = cards::put(text, at, b"COLUMNS\n");
-    put_edges(text, next, around, cost, loops, first, second, header, limit)
+    put_edges(
+        text,
+        next,
+        around,
+        cost,
+        loops,
+        first,
+        second,
+        header,
+        limit,
+    )
 }
 
 // The sections RHS and ENDATA.
@@ -351,7 +364,17 @@ fn put_text(
 {
     let n = cost.len();
     let next = put_rows(text, n, header.len());
-    let next = put_columns(text, next, around, cost, loops, first, second, header, limit);
+    let next = put_columns(
+        text,
+        next,
+        around,
+        cost,
+        loops,
+        first,
+        second,
+        header,
+        limit,
+    );
     put_rights(text, next, n)
 }
 

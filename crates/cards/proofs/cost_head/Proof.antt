@@ -5,34 +5,16 @@ use Rattle.cards.proofs.cost_head.Statement.{statement}
 use Rattle.cards.proofs.cost_head.Tie as tie
 use Rattle.cards.proofs.cost_head.Reads as reads
 use Rattle.cards.proofs.cost_head.Lts as lts
-use Rattle.cards.proofs.four.Reads as four-reads
+use Rattle.cards.proofs.with_four.Reads as with-four-reads
 
--- src/lib.rt:43:13
-four-requires : tie.Need-four-requires
-four-requires c κs = search needs
+-- src/lib.rt:59:5
+with-four-requires : tie.Need-with-four-requires
+with-four-requires c κs = search needs
 
--- src/lib.rt:45:39
-array-read-t6 : tie.Need-array-read-t6
-array-read-t6 c = search needs
-
--- src/lib.rt:45:45
-array-read-t9 : tie.Need-array-read-t9
-array-read-t9 c = search needs
-
--- src/lib.rt:45:51
-array-read-t12 : tie.Need-array-read-t12
-array-read-t12 c = search needs
-
--- src/lib.rt:45:57
-array-read-t15 : tie.Need-array-read-t15
-array-read-t15 c = search needs
-
--- src/lib.rt:40:1
+-- src/lib.rt:56:1
 returns : tie.Need-returns
 unfolding head filled edgeName rowName digitsIn
-returns c = rw (c .four .ensures)
+returns c = rw (c .with-four .ensures)
 
 pub cost-head-spec : {M : Type 1} → statement M
-cost-head-spec =
-    tie.close
-    (tie.spec four-requires array-read-t6 array-read-t9 array-read-t12 array-read-t15 returns)
+cost-head-spec = tie.close (tie.spec with-four-requires returns)
