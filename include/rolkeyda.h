@@ -1,5 +1,5 @@
 /*
- * Rolkeyda: the importer, the final checker and a solver for a worst-case execution time (WCET) analysis, proved. For C11 and C++11.
+ * Rolkeyda: the importer, the final checker, a solver and a writer of MPS for a worst-case execution time (WCET) analysis, proved. For C11 and C++11.
  *
  * Every function takes any input, checks it and returns a rolkeyda_reply by value. No function allocates, keeps a pointer or fails in
  * another way. A column is a pointer to its first value and then its length, a count of values (of bytes for a text). A column or text that a
@@ -40,7 +40,7 @@ extern "C" {
 #define ROLKEYDA_MOST_TEXT_BYTES 65536u
 #define ROLKEYDA_LONGEST_WALK 1048576u
 
-/* The greatest length of an MPS text: a buffer of so many bytes holds any. tests/mps makes tables with a text of this length. */
+/* The greatest length of an MPS text: a buffer of so many bytes is proved to hold any, and some tables have a text of this length. */
 #define ROLKEYDA_MPS_MOST 250217u
 
 /*
