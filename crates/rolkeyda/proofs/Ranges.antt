@@ -1,14 +1,14 @@
 -- The numbers of every reply fit their widths: a place is at most 1,048,576, a cost at most 1,000,000 times that, a row count at most
 -- 1,024. Assumes nothing.
 use mathlib.Core.Path.{_≡_, refl, sym, _∙_, ap}
-use mathlib.Core.Bool.{Bool, true, false, not, cond}
+use mathlib.Core.Bool.{Bool, true, false, not}
 use mathlib.Core.List.{List, [], _∷_, _++_}
 use mathlib.Core.Option.{Option, none, some}
-use Prim.Native.Nat.{ℕ, suc, _+_, _*_, _≤_, _<_, min}
+use Prim.Native.Nat.{ℕ, suc, _+_, _*_, _≤_}
 use native.Mathlib.Omega.{arith}
-use lib.Dec.{eqb, ltb, leb}
-use lib.ListN.{length, List·getD-eq-default}
-use borrow.Author.Tests.{ltb-true, ltb-false}
+use lib.Dec.{eqb, ltb}
+use lib.ListN.{length}
+use borrow.Author.Tests.{ltb-false}
 use Rattle.lists.specs.Search.{if_then_else_, firstBelow}
 use Rattle.lists.proofs.Search.{Lowest, not-found, found-lowest}
 use Rattle.lists.proofs.Tests.{or-false}

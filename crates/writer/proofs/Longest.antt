@@ -2,16 +2,14 @@
 use mathlib.Core.Path.{_≡_, refl, sym, _∙_, ap}
 use mathlib.Core.Bool.{Bool, true, false, cond, not}
 use mathlib.Core.List.{List, [], _∷_, _++_}
-use Prim.Native.Nat.{ℕ, zero, suc, _+_, _-_, _*_, _/_, _<_, _≤_}
-use native.Mathlib.Decide.{ℕ-discrete}
+use Prim.Native.Nat.{ℕ, _+_, _-_, _*_, _<_, _≤_}
 use native.Mathlib.Omega.{arith}
-use lib.Dec.{eqb, ltb}
+use lib.Dec.{eqb}
 use lib.ListN.{length, length-append}
-use borrow.Author.Tests.{eqb-true, ne-eqb, eq-eqb}
-use Rattle.lists.specs.Search.{if_then_else_}
+use borrow.Author.Tests.{eqb-true}
 use Rattle.numbers.specs.Number.{numeralOf}
 use Rattle.numbers.proofs.Numerals.{numeral-short}
-use Rattle.wcet.specs.Table.{Routine, blockCount, loopCount, exit, missing, edge, cost, loopOf, limit, isHeader}
+use Rattle.wcet.specs.Table.{Routine, blockCount, exit, missing, edge, cost, loopOf, limit, isHeader}
 use Rattle.wcet.specs.Rules.{structureRules}
 use Rattle.wcet.specs.Claim.{AllHold}
 use Rattle.wcet.proofs.Nesting.{nested}
@@ -19,8 +17,8 @@ use Rattle.loopsets.specs.Sets.{setsAround, member, setAt}
 use Rattle.nesting.specs.Columns.{Ranged}
 use Rattle.nesting.proofs.Stages.{headed, cost-anywhere, limit-anywhere}
 use Rattle.mps.specs.Program.{objective, loop, source, target}
-use Rattle.mps.specs.Text.{rowName, edgeName, mpsText}
-use Rattle.mps.specs.Reply.{longestText, TextFits}
+use Rattle.mps.specs.Text.{rowName, edgeName}
+use Rattle.mps.specs.Reply.{TextFits}
 use Rattle.mps.proofs.Routines.{edge-there}
 use Rattle.cards.specs.Cards.{head, card, signedText}
 use Rattle.writer.specs.declared.Signed.{Signed}

@@ -6,7 +6,7 @@ use Prim.Native.Nat.{ℕ, _+_, _-_, _*_, _<_, _≤_}
 use native.Mathlib.Omega.{arith}
 use lib.Dec.{ltb}
 use lib.IntN.{ℤ}
-use lib.ListN.{length, length-append, take, drop}
+use lib.ListN.{length, length-append, drop}
 use lib.Seq.{take-length, take-at}
 use borrow.Author.Tests.{leb-true, leb-false, le-leb, lt-leb, lt-ltb, le-ltb}
 use Rattle.lists.specs.Bytes.{bytes}
@@ -14,10 +14,10 @@ use Rattle.wcet.specs.Table.{Routine, blockCount}
 use Rattle.wcet.specs.Cycles.{undeclaredLoop}
 use Rattle.wcet.specs.Rules.{Reply, accepted, refused, Rule, check, structureRules, undeclaredRule}
 use Rattle.wcet.specs.Claim.{AllHold}
-use Rattle.wcet.proofs.Nesting.{Nested, nested}
+use Rattle.wcet.proofs.Nesting.{nested}
 use Rattle.wcet.proofs.Replies.{append-all, decides, hands-on, past-all}
 use Rattle.loopsets.specs.Sets.{setsAround}
-use Rattle.nesting.specs.Columns.{routine, Ranged}
+use Rattle.nesting.specs.Columns.{routine}
 use Rattle.nesting.specs.Answers.{refusal, StructureChecked}
 use Rattle.nesting.specs.declared.StructureFault.{StructureFault}
 use Rattle.nesting.specs.declared.Structure.the-variants.{Broken}

@@ -2,7 +2,7 @@
 use mathlib.Core.Path.{_≡_, refl, sym, _∙_, ap}
 use mathlib.Core.Bool.{Bool, true, false, cond, not}
 use mathlib.Core.List.{List, [], _∷_, _++_, map, flatMap, flatten, append-assoc, append-nil}
-use Prim.Native.Nat.{ℕ, zero, suc, _+_, _-_, _*_, _/_, _<_, _≤_}
+use Prim.Native.Nat.{ℕ, zero, suc, _+_, _-_, _*_, _<_, _≤_}
 use native.Mathlib.Omega.{arith}
 use lib.Dec.{eqb, ltb}
 use borrow.Author.Tests.{eqb-true, eqb-false, ne-eqb, eq-eqb, le-ltb}
@@ -13,19 +13,18 @@ use Rattle.lists.specs.Search.{if_then_else_}
 use Rattle.lists.specs.Bytes.{bytes}
 use Rattle.integers.proofs.Laws.{ints, diff}
 use Rattle.numbers.specs.Number.{numeralIn, numeralOf, integerOf}
-use Rattle.wcet.specs.Table.{Routine, blockCount, loopCount, exit, missing, edge, cost, loopOf, header, limit, inside, isHeader}
+use Rattle.wcet.specs.Table.{Routine, blockCount, loopCount, exit, missing, edge, cost, loopOf, header, limit, inside}
 use Rattle.wcet.specs.Rules.{structureRules}
 use Rattle.wcet.specs.Claim.{AllHold}
 use Rattle.wcet.proofs.Nesting.{Nested, nested}
-use Rattle.loopsets.specs.Sets.{setsAround, member, setAt}
+use Rattle.loopsets.specs.Sets.{setsAround}
 use Rattle.loopsets.proofs.Laws.{member-around}
-use Rattle.nesting.specs.Columns.{Ranged}
 use Rattle.nesting.proofs.Stages.{headed}
-use Rattle.mps.specs.Program.{Row, Entry, Column, RowName, objective, block, loop, kindOf, numbersFrom, keep, rowsOf, source, target, edgesOf, number, rightSide, isZero, entriesOf, columnOf, programOf}
+use Rattle.mps.specs.Program.{Row, Entry, RowName, objective, block, loop, kindOf, numbersFrom, keep, rowsOf, source, target, edgesOf, number, rightSide, entriesOf, columnOf, programOf}
 use Rattle.mps.specs.Mps.{Bytes}
 use Rattle.mps.specs.Text.{digitsIn, rowName, edgeName, filled, rowLine, entryLine, columnLines, linesIn, textOf, mpsText}
 use Rattle.mps.proofs.Routines.{edge-there}
-use Rattle.cards.specs.Cards.{head, blockRow, loopRow, signedText, card}
+use Rattle.cards.specs.Cards.{head, blockRow, loopRow, card}
 use Rattle.writer.specs.declared.Signed.{Signed}
 use Rattle.writer.specs.Pieces.{loopNumber, edgeTo, edgeOf, pairText, endsText, edgeText, span, line, rowsText, edgesText, columnsText, rightsText, wholeText}
 use Rattle.writer.proofs.Short.{entryIn, plus, minus, blockEntries, short-column, short-right}

@@ -8,7 +8,7 @@ use lib.Dec.{eqb, ltb, leb}
 use lib.ListN.{length, getD, drop}
 use Rattle.lists.specs.Search.{if_then_else_}
 use Rattle.lists.specs.Bytes.{bytes}
-use Rattle.wcet.specs.Table.{Routine, blockCount, missing, cost, loopOf, header, limit, isHeader}
+use Rattle.wcet.specs.Table.{Routine, blockCount, missing, cost, loopOf, limit, isHeader}
 use Rattle.loopsets.specs.Sets.{member, setAt}
 use Rattle.nesting.specs.Columns.{routine, Innermost, Linked}
 use Rattle.mps.specs.Program.{objective, block, loop, numbersFrom, source, target}

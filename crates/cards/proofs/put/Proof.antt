@@ -3,7 +3,7 @@ use lib.ListN.{length, length-set}
 use lib.Seq.{paste, paste-zero}
 use mathlib.Core.Path.{_≡_, refl}
 use Prim.Native.Nat.{_-_, _<_, _≤_}
-use Rattle.cards.specs.Cards.{Space, Put}
+use Rattle.cards.specs.Cards.{Space}
 use Rattle.cards.proofs.Buffer.{copy-step}
 use borrow.Author.Needs.{needs}
 use Rattle.cards.proofs.put.Statement.{statement}
