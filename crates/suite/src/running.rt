@@ -25,6 +25,7 @@ use crate::reading;
 use crate::reading::row_cell;
 use crate::rules::copy_blocks;
 use crate::rules::copy_loops;
+use crate::rules::differ;
 use crate::stepping;
 use crate::tally::Answers;
 use crate::tally::refused;
@@ -528,7 +529,11 @@ pub fn mps_replies(
     let mut buffer = [OLD_U8; 262144];
     copy_blocks(cost, inner, first, second, figure, &mut b);
     copy_loops(parent, header, limit, multiplier, &mut l);
-    let written = writing::write(&b, &l, cost.len(), parent.len(), &mut made);
+    let n = cost.len();
+    let m = parent.len();
+    let of_blocks = differ(n, inner.len(), first.len(), second.len()) | (figure.len() != n);
+    let unlike = differ(m, header.len(), limit.len(), multiplier.len()) | of_blocks;
+    let written = writing::write(&b, &l, if unlike { 0 } else { n }, m, &mut made);
     let bytes = room_for(room, count_of(written));
     let got = rolkeyda::rolkeyda_mps(
         cost,

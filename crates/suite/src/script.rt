@@ -179,11 +179,12 @@ fn mps_case(line: &[u8]) -> Answers {
     )
 }
 
-// blocks | loops | target | room: costs and limits at their greatest, and both edges of a block to the same one
+// blocks | loops | target | room | shorter column: costs and limits at their greatest, and both edges of a block to the same one
 fn program_case(line: &[u8]) -> Answers {
     let n = number(field(line, 3));
     let m = number(field(line, 4));
     let target = number(field(line, 5));
+    let shorter = number_or(line, 7, NONE);
     let cost = [1000000u32; 1026];
     let mut inner = [0u16; 1026];
     let mut first = [to_u16(target); 1026];
@@ -196,15 +197,15 @@ fn program_case(line: &[u8]) -> Answers {
     declare_all(&mut inner, &mut parent, &mut header, m, false);
     aim_all(&mut inner, &mut first, &mut header, n, m, target);
     mps_replies(
-        first_u32(&cost, n, NONE, 0),
-        first_u16(&inner, n, NONE, 1),
-        first_u16(&first, n, NONE, 2),
-        first_u16(&first, n, NONE, 3),
-        first_i64(&figure, n, NONE, 4),
-        first_u16(&parent, m, NONE, 5),
-        first_u16(&header, m, NONE, 6),
-        first_u32(&limit, m, NONE, 7),
-        first_u64(&multiplier, m, NONE, 8),
+        first_u32(&cost, n, shorter, 0),
+        first_u16(&inner, n, shorter, 1),
+        first_u16(&first, n, shorter, 2),
+        first_u16(&first, n, shorter, 3),
+        first_i64(&figure, n, shorter, 4),
+        first_u16(&parent, m, shorter, 5),
+        first_u16(&header, m, shorter, 6),
+        first_u32(&limit, m, shorter, 7),
+        first_u64(&multiplier, m, shorter, 8),
         room_in(field(line, 6)),
         part(line, 0, 0),
     )
