@@ -9,6 +9,7 @@ mod running;
 mod script;
 mod stepping;
 mod tally;
+mod writing;
 
 use libc::STDIN_FILENO;
 use parts::part;

@@ -349,3 +349,28 @@ pub fn link_all(first: &mut [u16], n: usize, back: usize) {
         put_u16(first, u, to_u16(next_in_row(n, back, u)));
     }
 }
+
+// The successor of each of n blocks becomes `target`, the header of the last of m loops, or the next block where that is 0; of the exit none.
+pub fn aim_all(
+    inner: &mut [u16],
+    first: &mut [u16],
+    header: &mut [u16],
+    n: usize,
+    m: usize,
+    target: usize,
+) {
+    if n == 0 {
+        return;
+    }
+    if m == 0 {
+        return;
+    }
+    if target == 0 {
+        link_all(first, n, n - 1);
+        return;
+    }
+    put_u16(first, n - 1, 65535);
+    put_u16(inner, m - 1, 0);
+    put_u16(inner, target, to_u16(m - 1));
+    put_u16(header, m - 1, to_u16(target));
+}

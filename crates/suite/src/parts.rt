@@ -4,6 +4,11 @@ ghost use Prim.Native.Nat.{_≤_};
 // No column is shorter than the others.
 pub const NONE: usize = 9;
 
+// The room of a buffer that is as long as the text, or one byte shorter.
+pub const EXACT: usize = 1000000;
+
+pub const SHORT: usize = 1000001;
+
 // How much of column c is used: `room` places, and one less of the column that is to be shorter.
 pub fn room_of(length: usize, room: usize, shorter: usize, c: usize) -> usize
     ensures { λ r. ⌜ r ≤ length ⌝ }
@@ -54,6 +59,11 @@ pub fn lent_u64(s: &mut [u64], room: usize, shorter: usize, c: usize) -> &mut [u
 
 pub fn lent_i64(s: &mut [i64], room: usize, shorter: usize, c: usize) -> &mut [i64] {
     let k = room_of(s.len(), room, shorter, c);
+    &mut s[0..k]
+}
+
+pub fn lent_u8(s: &mut [u8], room: usize) -> &mut [u8] {
+    let k = room_of(s.len(), room, NONE, 0);
     &mut s[0..k]
 }
 

@@ -14,11 +14,11 @@ use crate::tally::impossible;
 use crate::tally::refused;
 use rolkeyda::Reply;
 
-const COST: usize = 0;
+pub const COST: usize = 0;
 
 const LOOP: usize = 1;
 
-const FIRST: usize = 2;
+pub const FIRST: usize = 2;
 
 const SECOND: usize = 3;
 
@@ -26,13 +26,13 @@ const FIGURE: usize = 4;
 
 const PARENT: usize = 0;
 
-const HEADER: usize = 1;
+pub const HEADER: usize = 1;
 
-const LIMIT: usize = 2;
+pub const LIMIT: usize = 2;
 
 const MULTIPLIER: usize = 3;
 
-const MISSING: usize = 65535;
+pub const MISSING: usize = 65535;
 
 pub fn of_block(b: &BlockCells, u: usize, c: usize) -> usize {
     if u >= 1025 {
@@ -182,7 +182,7 @@ fn mark(b: &BlockCells, l: &LoopCells, n: usize, m: usize, marks: &mut [bool; 10
 
 // Whether there is a closed walk of one edge or more, none of which returns: then, and only then, some block is never marked. Where a round marks
 // no further block, no later one does.
-fn has_closed_walk(b: &BlockCells, l: &LoopCells, n: usize, m: usize) -> bool {
+pub fn has_closed_walk(b: &BlockCells, l: &LoopCells, n: usize, m: usize) -> bool {
     let mut marks = [false; 1024];
     let mut count = 0;
     for _ in 0..n {

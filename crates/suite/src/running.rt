@@ -7,12 +7,15 @@ use crate::cells::from_u64;
 use crate::cells::raised;
 use crate::cells::signed;
 use crate::making::push_columns;
+use crate::parts::EXACT;
 use crate::parts::NONE;
+use crate::parts::SHORT;
 use crate::parts::first_i64;
 use crate::parts::first_u16;
 use crate::parts::first_u32;
 use crate::parts::first_u64;
 use crate::parts::lent_i64;
+use crate::parts::lent_u8;
 use crate::parts::lent_u16;
 use crate::parts::lent_u32;
 use crate::parts::lent_u64;
@@ -20,12 +23,19 @@ use crate::parts::part;
 use crate::parts::room_of;
 use crate::reading;
 use crate::reading::row_cell;
+use crate::rules::copy_blocks;
+use crate::rules::copy_loops;
+use crate::rules::differ;
 use crate::stepping;
 use crate::tally::Answers;
+use crate::tally::refused;
 use crate::tally::same;
+use crate::writing;
 use rolkeyda::Reply;
 
-// What stands in the columns before a text is read.
+// What stands in the columns before a text is read, and in a buffer before one is written.
+const OLD_U8: u8 = 170;
+
 const OLD_U16: u16 = 43690;
 
 const OLD_U32: u32 = 2863311530;
@@ -453,6 +463,93 @@ fn solve_replies(
     confirmed(made, after)
 }
 
+// The bytes that a buffer has, where the text has so many.
+fn room_for(room: usize, length: usize) -> usize {
+    if room == EXACT {
+        return length;
+    }
+    if room != SHORT {
+        return room;
+    }
+    if length == 0 { 0 } else { length - 1 }
+}
+
+// The byte that must stand at an index of the buffer: the text's, or the old one behind it.
+fn due_byte(text: &[u8], i: usize) -> u8 {
+    if i < text.len() {
+        return text[i];
+    }
+    OLD_U8
+}
+
+fn bytes_kept(buffer: &[u8], text: &[u8]) -> bool {
+    let mut kept = true;
+    for i in 0..buffer.len() {
+        kept = kept & (buffer[i] == due_byte(text, i));
+    }
+    kept
+}
+
+// The second writer's reply, where the buffer has so many bytes.
+fn fitted(written: Reply, bytes: usize) -> Reply {
+    if count_of(written) > bytes {
+        return refused(411, 0);
+    }
+    written
+}
+
+// The writer's reply, and whether the buffer then has the second writer's text, which is the wanted one where one is wanted; after a refusal, none.
+fn compared(got: Reply, checked: Reply, buffer: &[u8], made: &[u8], wanted: &[u8]) -> Answers {
+    let text = part(made, 0, count_of(checked));
+    Answers {
+        got,
+        checked,
+        of_text: false,
+        kept: bytes_kept(buffer, text) & same_or(text, wanted, text),
+    }
+}
+
+// The program of a pair of tables, written into a buffer.
+pub fn mps_replies(
+    cost: &[u32],
+    inner: &[u16],
+    first: &[u16],
+    second: &[u16],
+    figure: &[i64],
+    parent: &[u16],
+    header: &[u16],
+    limit: &[u32],
+    multiplier: &[u64],
+    room: usize,
+    wanted: &[u8],
+) -> Answers {
+    let mut b = [0usize; 5125];
+    let mut l = [0usize; 260];
+    let mut made = [0u8; 262144];
+    let mut buffer = [OLD_U8; 262144];
+    copy_blocks(cost, inner, first, second, figure, &mut b);
+    copy_loops(parent, header, limit, multiplier, &mut l);
+    let n = cost.len();
+    let m = parent.len();
+    let of_blocks = differ(n, inner.len(), first.len(), second.len()) | (figure.len() != n);
+    let unlike = differ(m, header.len(), limit.len(), multiplier.len()) | of_blocks;
+    let written = writing::write(&b, &l, if unlike { 0 } else { n }, m, &mut made);
+    let bytes = room_for(room, count_of(written));
+    let got = rolkeyda::rolkeyda_mps(
+        cost,
+        inner,
+        first,
+        second,
+        figure,
+        parent,
+        header,
+        limit,
+        multiplier,
+        lent_u8(&mut buffer, bytes),
+    );
+    compared(got, fitted(written, bytes), &buffer, &made, wanted)
+}
+
 // The first n and m places of columns, of column number `shorter` one less.
 pub fn columns(
     n: usize,
@@ -608,6 +705,73 @@ fn solved_with_loops(
         first_u16(&header, m, NONE, 6),
         first_u32(&limit, m, NONE, 7),
         lent_u64(&mut multiplier, m, NONE, 8),
+        wanted,
+    )
+}
+
+// A pair of tables as texts, whose program is written.
+pub fn written_texts(block_text: &[u8], loop_text: &[u8], room: usize, wanted: &[u8]) -> Answers {
+    let mut cost = [0u32; 64];
+    let mut inner = [0u16; 64];
+    let mut first = [0u16; 64];
+    let mut second = [0u16; 64];
+    let mut figure = [0i64; 64];
+    let got = rolkeyda::rolkeyda_read_blocks(
+        block_text,
+        false,
+        &mut cost,
+        &mut inner,
+        &mut first,
+        &mut second,
+        &mut figure,
+    );
+    let n = count_of(got);
+    written_with_loops(
+        first_u32(&cost, n, NONE, 0),
+        first_u16(&inner, n, NONE, 1),
+        first_u16(&first, n, NONE, 2),
+        first_u16(&second, n, NONE, 3),
+        first_i64(&figure, n, NONE, 4),
+        loop_text,
+        room,
+        wanted,
+    )
+}
+
+fn written_with_loops(
+    cost: &[u32],
+    inner: &[u16],
+    first: &[u16],
+    second: &[u16],
+    figure: &[i64],
+    loop_text: &[u8],
+    room: usize,
+    wanted: &[u8],
+) -> Answers {
+    let mut parent = [0u16; 64];
+    let mut header = [0u16; 64];
+    let mut limit = [0u32; 64];
+    let mut multiplier = [0u64; 64];
+    let got = rolkeyda::rolkeyda_read_loops(
+        loop_text,
+        false,
+        &mut parent,
+        &mut header,
+        &mut limit,
+        &mut multiplier,
+    );
+    let m = count_of(got);
+    mps_replies(
+        cost,
+        inner,
+        first,
+        second,
+        figure,
+        first_u16(&parent, m, NONE, 5),
+        first_u16(&header, m, NONE, 6),
+        first_u32(&limit, m, NONE, 7),
+        first_u64(&multiplier, m, NONE, 8),
+        room,
         wanted,
     )
 }

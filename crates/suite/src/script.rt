@@ -1,19 +1,28 @@
 // The cases are lines of text: what to run, a name, the reply that it must have, and what it is run on, with a bar between them.
 use crate::cells::plus;
+use crate::cells::to_u16;
+use crate::making::aim_all;
 use crate::making::declare_all;
 use crate::making::link_all;
 use crate::making::make_steps;
 use crate::making::make_text;
+use crate::parts::EXACT;
 use crate::parts::NONE;
+use crate::parts::SHORT;
+use crate::parts::first_i64;
 use crate::parts::first_u16;
+use crate::parts::first_u32;
+use crate::parts::first_u64;
 use crate::parts::part;
 use crate::reading::Digits;
 use crate::reading::with_digit;
 use crate::running::blocks_into;
 use crate::running::columns;
 use crate::running::loops_into;
+use crate::running::mps_replies;
 use crate::running::solved_texts;
 use crate::running::texts;
+use crate::running::written_texts;
 use crate::tally::Answers;
 use crate::tally::Tally;
 
@@ -145,6 +154,63 @@ fn solve_case(line: &[u8]) -> Answers {
     )
 }
 
+// The room of a buffer: a number, `exact` or `short`.
+fn room_in(s: &[u8]) -> usize {
+    let b = first_byte(s);
+    if b == b'e' {
+        return EXACT;
+    }
+    if b == b's' { SHORT } else { number(s) }
+}
+
+// block text | loop text | room | text
+fn mps_case(line: &[u8]) -> Answers {
+    let mut block_text = [0u8; 1024];
+    let mut loop_text = [0u8; 1024];
+    let mut wanted = [0u8; 4096];
+    let n = make_text(field(line, 3), true, &mut block_text);
+    let m = make_text(field(line, 4), false, &mut loop_text);
+    let k = make_text(field(line, 6), false, &mut wanted);
+    written_texts(
+        part(&block_text, 0, n),
+        part(&loop_text, 0, m),
+        room_in(field(line, 5)),
+        part(&wanted, 0, k),
+    )
+}
+
+// blocks | loops | target | room | shorter column: costs and limits at their greatest, and both edges of a block to the same one
+fn program_case(line: &[u8]) -> Answers {
+    let n = number(field(line, 3));
+    let m = number(field(line, 4));
+    let target = number(field(line, 5));
+    let shorter = number_or(line, 7, NONE);
+    let cost = [1000000u32; 1026];
+    let mut inner = [0u16; 1026];
+    let mut first = [to_u16(target); 1026];
+    let figure = [0i64; 1026];
+    let mut parent = [0u16; 66];
+    let mut header = [0u16; 66];
+    let mut limit = [65535u32; 66];
+    let multiplier = [0u64; 66];
+    limit[0] = 1;
+    declare_all(&mut inner, &mut parent, &mut header, m, false);
+    aim_all(&mut inner, &mut first, &mut header, n, m, target);
+    mps_replies(
+        first_u32(&cost, n, shorter, 0),
+        first_u16(&inner, n, shorter, 1),
+        first_u16(&first, n, shorter, 2),
+        first_u16(&first, n, shorter, 3),
+        first_i64(&figure, n, shorter, 4),
+        first_u16(&parent, m, shorter, 5),
+        first_u16(&header, m, shorter, 6),
+        first_u32(&limit, m, shorter, 7),
+        first_u64(&multiplier, m, shorter, 8),
+        room_in(field(line, 6)),
+        part(line, 0, 0),
+    )
+}
+
 // block text | loop text | walk
 fn walk_case(line: &[u8], walked: bool) -> Answers {
     let mut steps = [0u16; 64];
@@ -218,6 +284,12 @@ fn replies_to(line: &[u8]) -> Answers {
     }
     if kind == b'r' {
         return long_case(line);
+    }
+    if kind == b'm' {
+        return mps_case(line);
+    }
+    if kind == b'p' {
+        return program_case(line);
     }
     if first_byte(part(line, 1, 2)) == b'o' {
         return solve_case(line);

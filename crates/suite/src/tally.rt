@@ -13,7 +13,7 @@ pub struct Tally {
     pub wrong: u64,
 }
 
-// Both replies to a case, whether they are a reader's, and whether the columns are as they should be.
+// Both replies to a case, whether they are a reader's, and whether the columns or the buffer are as they should be.
 pub struct Answers {
     pub got: Reply,
     pub checked: Reply,
@@ -125,7 +125,7 @@ fn say_wrong(wanted: &[u8], checked: Reply, of_text: bool, kept: bool) {
     say(b", the checker says ");
     say_reply(checked, of_text);
     if !kept {
-        say(b", columns differ");
+        say(b", columns or bytes differ");
     }
 }
 
