@@ -1,7 +1,7 @@
 -- The program under its names has the program's solutions and the value of their objective (`read-solutions`): different rows have different names.
 -- Assumes nothing.
 use mathlib.Core.Path.{_≡_, refl, sym, _∙_, ap}
-use mathlib.Core.Logic.{_↔_, inl, inr}
+use mathlib.Core.Logic.{_↔_, inl}
 use mathlib.Core.Bool.{Bool, true, false, not, false≢true}
 use mathlib.Core.List.{List, [], _∷_, map}
 use Prim.Native.Nat.{ℕ, _*_}
@@ -10,19 +10,19 @@ use lib.Dec.{eqb}
 use lib.IntN.{ℤ}
 use lib.ListN.{drop}
 use borrow.Author.Tests.{eqb-true, eq-eqb}
-use Rattle.lists.specs.Search.{if_then_else_}
 use Rattle.numbers.specs.Number.{decimal}
 use Rattle.wcet.specs.Table.{Routine, blockCount, missing, cost}
 use Rattle.wcet.specs.Rules.{structureRules}
 use Rattle.wcet.specs.Claim.{AllHold}
 use Rattle.nesting.proofs.Stages.{headed}
-use Rattle.mps.specs.Program.{Row, Entry, Column, RowName, objective, block, loop, kindOf, keep, rowsOf, target, edgesOf, isZero, entriesOf, columnOf, programOf}
+use Rattle.mps.specs.Program.{Row, Entry, Column, RowName, objective, block, loop, kindOf, rowsOf, target, edgesOf, entriesOf, columnOf, programOf}
 use Rattle.mps.specs.Mps.{Bytes, same}
 use Rattle.mps.specs.Text.{rowName, edgeName}
 use Rattle.mps.specs.Claim.{namedRow, namedEntry, namedColumn, named, Among, NamesApart}
 use Rattle.mps.proofs.Names.{same-refl, same-true, four-digits}
 use Rattle.mps.proofs.Sections.{All, all-map}
-use Rattle.mps.proofs.Routines.{kept-all, names-apart}
+use Rattle.mps.proofs.Apart.{each-among}
+use Rattle.mps.proofs.Routines.{entries-all, kept-all, names-apart}
 use Rattle.flows.specs.Flow.{numberAt, rowValue, Solution, sameRow, SolutionOf, objectiveOf, flowCost, MpsSolution, mpsObjective, NoneOver, ReadSolutions, ReadOptimum}
 
 -- ---- comparing rows
@@ -42,11 +42,6 @@ itself : (r : RowName) → sameRow r r ≡ true
 itself objective = refl
 itself (block u) = eq-eqb u u refl
 itself (loop l) = eq-eqb l l refl
-
--- each element is among the list
-each-among : {A : Type 0} (xs ys : List A) → ((x : A) → Among x ys → Among x xs) → All (λ x. Among x xs) ys
-each-among xs [] h = tt
-each-among xs (y ∷ ys) h = (h y (inl refl), each-among xs ys (λ x p. h x (inr p)))
 
 module _ (t : Routine) (A : NamesApart t) where
   -- a row of the program
@@ -70,14 +65,8 @@ module _ (t : Routine) (A : NamesApart t) where
   abbrev EntryIn : Entry RowName → Type 0
   EntryIn z = In (z .row)
 
-  entries-in : (f : RowName → ℤ) (rows : List RowName) → All In rows → All EntryIn (entriesOf f rows)
-  unfolding entriesOf keep
-  entries-in f [] a = tt
-  entries-in f (r ∷ rows) a = go (isZero (f r)) (entries-in f rows (a .1))
-    where
-      go : (z : Bool) → All EntryIn (entriesOf f rows) → All EntryIn (if not z then record { row = r; number = f r } ∷ entriesOf f rows else entriesOf f rows)
-      go true rest = rest
-      go false rest = (a .0, rest)
+  entries-in : (f : RowName → ℤ) → All EntryIn (entriesOf f (rowsOf t))
+  entries-in f = entries-all EntryIn f (rowsOf t) all-in
 
   number-named : (r : RowName) → In r → (zs : List (Entry RowName)) → All EntryIn zs → numberAt same (rowName r) (map namedEntry zs) ≡ numberAt sameRow r zs
   unfolding numberAt namedEntry
@@ -111,13 +100,13 @@ module _ (t : Routine) (A : NamesApart t) where
     columns-in : (es : List ℕ) → All Agree es → All ColumnIn (map (columnOf t) es)
     unfolding columnOf
     columns-in [] a = tt
-    columns-in (e ∷ es) a = ((a .0, entries-in _ (rowsOf t) all-in), columns-in es (a .1))
+    columns-in (e ∷ es) a = ((a .0, entries-in _), columns-in es (a .1))
 
     -- flows that agree on the edges are solutions of both or of neither, with one objective
     solutions-named : (q : ℕ) → All Agree (edgesOf t) → MpsSolution (named (programOf t)) q x ↔ SolutionOf t q y
     unfolding named programOf
     solutions-named q a =
-        rows-named q (programOf t .columns) (columns-in (edgesOf t) a) (programOf t .right) (entries-in _ (rowsOf t) all-in) (programOf t .rows)
+        rows-named q (programOf t .columns) (columns-in (edgesOf t) a) (programOf t .right) (entries-in _) (programOf t .rows)
         (all-map (λ (r : Row RowName). In (r .name)) In (λ r. record { kind = kindOf r; name = r }) (λ r p. p) (rowsOf t) all-in)
 
     objective-named : All Agree (edgesOf t) → mpsObjective (named (programOf t)) x ≡ objectiveOf t y

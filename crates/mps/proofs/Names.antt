@@ -1,20 +1,19 @@
 -- Names and numbers of the text: their bytes, their lengths, and that a name or a number is read as what was written. Assumes nothing.
 use mathlib.Core.Path.{_≡_, refl, sym, _∙_, ap}
-use mathlib.Core.Bool.{Bool, true, false, cond, _&&_, false≢true}
-use mathlib.Core.List.{List, [], _∷_, _++_}
-use mathlib.Core.Option.{Option, none, some}
+use mathlib.Core.Bool.{Bool, true, false, _&&_, false≢true}
+use mathlib.Core.List.{[], _∷_}
+use mathlib.Core.Option.{some}
 use Prim.Native.Nat.{ℕ, zero, suc, _+_, _-_, _*_, _/_, _%_, _<_, _≤_}
 use native.Mathlib.Omega.{arith}
-use lib.Dec.{eqb, ltb, leb}
+use lib.Dec.{eqb, leb}
 use lib.IntN.{ℤ, pos, negsuc}
 use lib.ListN.{length, drop}
-use borrow.Author.Tests.{eqb-true, leb-true, ltb-true, ltb-false, ne-eqb, eq-eqb}
+use borrow.Author.Tests.{eqb-true, leb-true, ne-eqb, eq-eqb}
 use Rattle.lists.proofs.Tests.{and-true}
 use Rattle.numbers.specs.Number.{digits, decimal, numeralOf, integerOf}
 use Rattle.numbers.proofs.Numerals.{Numeral, is-numeral, numeral-short}
 use Rattle.mps.specs.Program.{RowName, objective, block, loop}
-use Rattle.lists.specs.Bytes.{bytes}
-use Rattle.mps.specs.Mps.{Bytes, same, provided, naturalIn, numberIn}
+use Rattle.mps.specs.Mps.{Bytes, same, naturalIn, numberIn}
 use Rattle.mps.specs.Text.{digitsIn, rowName, edgeName}
 
 -- bytes that are neither blanks nor line ends
@@ -103,13 +102,13 @@ same-true (a ∷ s) (b ∷ t) e =
     let q : (eqb a b ≡ true) × (same s t ≡ true) = and-true (eqb a b) (same s t) e in
     rw (eqb-true a b (q .0), same-true s t (q .1))
 
-pub edges-apart : (d e : ℕ) → d < e → e < 10000 → same (edgeName d) (edgeName e) ≡ false
-unfolding edgeName
-edges-apart d e h l = go (same (edgeName d) (edgeName e)) refl
+-- a letter and digits: names of different numbers differ
+pub numbered-apart : (letter k bound : ℕ) → Written k bound → (d e : ℕ) → d < e → e < bound → same (letter ∷ digitsIn k d []) (letter ∷ digitsIn k e []) ≡ false
+numbered-apart letter k bound w d e h l = go (same (letter ∷ digitsIn k d []) (letter ∷ digitsIn k e [])) refl
   where
-    go : (b : Bool) → same (edgeName d) (edgeName e) ≡ b → b ≡ false
+    go : (b : Bool) → same (letter ∷ digitsIn k d []) (letter ∷ digitsIn k e []) ≡ b → b ≡ false
     go true q =
-        let z : d ≡ e = digits-apart 4 10000 d e four-digits (omega arith) l (ap (drop 1) (same-true (edgeName d) (edgeName e) q)) in
+        let z : d ≡ e = digits-apart k bound d e w (omega arith) l (ap (drop 1) (same-true (letter ∷ digitsIn k d []) (letter ∷ digitsIn k e []) q)) in
         absurd (omega arith)
     go false q = refl
 

@@ -1,27 +1,23 @@
 -- A program's text, read by the definition of MPS, gives that program. Assumes nothing.
 use mathlib.Core.Path.{_≡_, refl, sym, _∙_, ap}
-use mathlib.Core.Bool.{Bool, true, false}
+use mathlib.Core.Bool.{true}
 use mathlib.Core.List.{List, [], _∷_, _++_, map, flatMap, flatten, append-nil}
-use mathlib.Core.Option.{Option, some}
-use Prim.Native.Nat.{ℕ, zero, suc, _+_, _-_, _<_, _≤_}
+use mathlib.Core.Option.{some}
+use Prim.Native.Nat.{ℕ, zero, suc, _-_, _<_}
 use native.Mathlib.Omega.{arith}
 use lib.ListN.{length, replicate}
 use Rattle.numbers.specs.Number.{integerOf}
 use Rattle.mps.specs.Program.{Kind, free, equal, atMost, atLeast, Row, Entry, Column, RowName, Program}
 use Rattle.lists.specs.Bytes.{bytes}
-use Rattle.mps.specs.Mps.{Bytes, Mps, _>>=_, provided, each, trimmed, field, same, rowIn, cardIn, columnsIn, cards, behind, opened, readMps}
+use Rattle.mps.specs.Mps.{Bytes, each, trimmed, field, same, rowIn, cardIn, columnsIn, opened, wellNamed, readMps}
 use Rattle.mps.specs.Text.{rowName, edgeName, letter, filled, rowLine, entryLine, columnLines, linesIn, textOf}
-use Rattle.mps.specs.Claim.{namedRow, namedEntry, namedColumn, named}
+use Rattle.mps.specs.Claim.{namedRow, namedEntry, named}
 use Rattle.mps.proofs.Names.{Dark, Name, row-named, edge-named, whole-dark}
 use Rattle.mps.proofs.Cards.{row-back, card-back}
-use Rattle.mps.proofs.Sections.{All, all-append, all-map, all-flat, Inner, lines-back, Data, cards-section, behind-section, each-map}
-use Rattle.mps.proofs.Columns.{cardOf, columnCards, SmallEntry, SmallColumn, all-cards, one-column, Rising, columns-back}
+use Rattle.mps.proofs.Sections.{All, all-append, all-map, all-flat, every, Inner, lines-back, Data, cards-section, behind-section, each-map}
+use Rattle.mps.proofs.Columns.{cardOf, SmallEntry, SmallColumn, all-cards, one-column, Rising, columns-back}
 
 -- ---- no line holds an LF, and each card begins with a blank
-
-every : {A : Type 0} (xs : List A) → All (λ (x : A). Unit {0}) xs
-every [] = tt
-every (x ∷ xs) = (tt, every xs)
 
 dark-inner : (s : Bytes) → Dark s → All Inner s
 dark-inner [] d = tt
@@ -69,12 +65,14 @@ column-data c = all-map Data (λ (x : Entry RowName). Unit {0}) (entryLine (edge
 
 -- ---- the text
 
--- a program that the text can hold: columns by edge number, below 10,000, each with a number; a right side; and numbers of seven digits at most
+-- a program that the text can hold: columns by edge number, below 10,000, each with a number; a right side; numbers of seven digits at
+-- most; and names that the reader takes
 pub record Writable (p : Program) : Type 0 where
   pub rising : Rising 0 (p .columns)
   pub small : All SmallColumn (p .columns)
   pub right : 0 < length (p .right)
   pub right-small : All SmallEntry (p .right)
+  pub well-named : wellNamed (named p) ≡ true
 
 rhs-dark : Dark (bytes "RHS")
 rhs-dark = omega arith
@@ -157,4 +155,5 @@ module _ (p : Program) (w : Writable p) where
         behind-section rights [] (bytes "ENDATA") rights-data refl,
         columns-back 0 (p .columns) (w .rising),
         one-right,
+        w .well-named,
       )

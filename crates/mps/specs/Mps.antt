@@ -5,13 +5,13 @@
 --   columns 25 to 36    a number
 -- A card with a word from column 1 on opens a section: NAME, ROWS, COLUMNS, RHS, ENDATA. This reader takes less than others do: one number a
 -- card, whole and left-justified, as are names; types in column 2; no comment, no blank after a section's word but NAME, and none of the
--- sections that may be left out (RANGES, BOUNDS). It does not ask that names differ and that the rows of COLUMNS and RHS are those of ROWS: of
--- the program's text the first is `NamesApart`, and the second is plain from `entriesOf`.
+-- sections that may be left out (RANGES, BOUNDS). It refuses names that are empty or not different, and a number in a row that no card of ROWS
+-- names (`wellNamed`).
 -- It knows nothing of blocks, loops and edges: a name is its bytes.
 use Prim.Native.Nat.{ℕ, _+_, _-_}
 use Prim.Native.String.{String}
-use mathlib.Core.Bool.{Bool, true, false, cond, _&&_}
-use mathlib.Core.List.{List, [], _∷_}
+use mathlib.Core.Bool.{Bool, true, false, cond, not, _&&_, _||_}
+use mathlib.Core.List.{List, [], _∷_, _++_, map}
 use mathlib.Core.Option.{Option, none, some}
 use lib.Dec.{eqb}
 use lib.IntN.{ℤ, pos, negℤ}
@@ -129,6 +129,35 @@ unfoldable pub columnsIn : List Card → List (Column Bytes Bytes)
 columnsIn [] = []
 columnsIn (c ∷ cs) = joined c (columnsIn cs)
 
+-- ---- names
+
+-- each element passes the test
+unfoldable pub all : {A : Type 0} → (A → Bool) → List A → Bool
+all p [] = true
+all p (x ∷ xs) = p x && all p xs
+
+-- the name is one of these
+unfoldable pub among : Bytes → List Bytes → Bool
+among s [] = false
+among s (t ∷ names) = same s t || among s names
+
+-- the names are different, and none is empty
+unfoldable pub distinct : List Bytes → Bool
+distinct [] = true
+distinct (s ∷ names) = not (isEmpty s) && not (among s names) && distinct names
+
+-- the numbers of a column or a right side stand in different rows, each one of these
+unfoldable pub inRows : List Bytes → Column Bytes Bytes → Bool
+inRows rows c = distinct (map (λ x. x .row) (c .entries)) && all (λ x. among (x .row) rows) (c .entries)
+
+-- rows have different names, columns too, and right sides too; and numbers stand in the program's rows
+unfoldable pub wellNamed : Mps → Bool
+wellNamed m =
+    distinct (map (λ r. r .name) (m .rows))
+    && distinct (map (λ c. c .name) (m .columns))
+    && distinct (map (λ c. c .name) (m .rights))
+    && all (inRows (map (λ r. r .name) (m .rows))) (m .columns ++ m .rights)
+
 -- ---- sections
 
 -- a card that opens no section has a blank in column 1
@@ -169,4 +198,5 @@ readMps text =
     opened "RHS" (behind ls₂) >>= λ ls₃.
     each cardIn (cards ls₃) >>= λ rights.
     opened "ENDATA" (behind ls₃) >>= λ ls₄.
-    provided (ended ls₄) (some (record { title = title; rows = rows; columns = columnsIn columns; rights = columnsIn rights }))
+    let m : Mps = record { title = title; rows = rows; columns = columnsIn columns; rights = columnsIn rights } in
+    provided (ended ls₄ && wellNamed m) (some m)
