@@ -1,22 +1,20 @@
 -- A line of the text, read as a card: the fields in their columns. Assumes nothing.
 use mathlib.Core.Path.{_≡_, refl, sym, _∙_, ap}
-use mathlib.Core.Bool.{Bool, true, false, cond, _&&_}
-use mathlib.Core.List.{List, [], _∷_, _++_, append-nil, append-assoc}
-use mathlib.Core.Option.{Option, none, some}
+use mathlib.Core.Bool.{cond}
+use mathlib.Core.List.{[], _∷_, _++_, append-nil}
+use mathlib.Core.Option.{some}
 use Prim.Native.Nat.{ℕ, zero, suc, _+_, _-_, _<_, _≤_}
 use native.Mathlib.Omega.{arith}
 use lib.Dec.{eqb}
-use lib.IntN.{ℤ}
 use lib.ListN.{length, take, drop, replicate, length-append, length-replicate, drop-of-length-le}
 use lib.Seq.{take-all, take-at, drop-at, drop-append-add}
 use borrow.Author.Tests.{ne-eqb}
 use Rattle.numbers.specs.Number.{integerOf}
 use Rattle.mps.specs.Program.{Kind, free, equal, atMost, atLeast, Row, Entry, RowName}
-use Rattle.lists.specs.Bytes.{bytes}
-use Rattle.mps.specs.Mps.{Bytes, before, trimmed, field, same, isEmpty, inFields, kindIn, numberIn, rowIn, Card, cardIn}
-use Rattle.mps.specs.Text.{rowName, edgeName, letter, filled, rowLine, entryLine}
+use Rattle.mps.specs.Mps.{Bytes, before, trimmed, field, same, inFields, kindIn, rowIn, cardIn}
+use Rattle.mps.specs.Text.{rowName, letter, filled, rowLine, entryLine}
 use Rattle.mps.specs.Claim.{namedRow, namedEntry}
-use Rattle.mps.proofs.Names.{Dark, Name, row-named, same-refl, Small, whole-dark, whole-size, number-back}
+use Rattle.mps.proofs.Names.{Dark, Name, row-named, Small, whole-dark, whole-size, number-back}
 
 -- ---- blanks at the end
 

@@ -1,12 +1,12 @@
 -- Fixed MPS, the layout published by IBM: how a text is read as a linear program. A line is a card; its columns count from 1.
---   column 2 (or 3)     the type of a row
+--   columns 2 and 3     the type of a row
 --   columns 5 to 12     the name of a row, a column or a right side
 --   columns 15 to 22    the name of a row
 --   columns 25 to 36    a number
 -- A card with a word from column 1 on opens a section: NAME, ROWS, COLUMNS, RHS, ENDATA. This reader takes less than others do: one number a
--- card, whole and left-justified, as are names; types in column 2; no comment, no blank after a section's word but NAME, and none of the
--- sections that may be left out (RANGES, BOUNDS). It refuses names that are empty or not different, and a number in a row that no card of ROWS
--- names (`wellNamed`).
+-- card, whole and left-justified; types in column 2; no comment, no blank after a section's word but NAME, and none of the sections that may be
+-- left out (RANGES, BOUNDS). It refuses names that are empty or not different, and a number in a row that no card of ROWS names (`wellNamed`). A
+-- blank before a name is a byte of it.
 -- It knows nothing of blocks, loops and edges: a name is its bytes.
 use Prim.Native.Nat.{ℕ, _+_, _-_}
 use Prim.Native.String.{String}
