@@ -30,6 +30,7 @@ pub record Mps : Type 0 where
   pub columns : List (Column Bytes Bytes)
   pub rights : List (Column Bytes Bytes)
 
+-- what f makes of what was read, and nothing where nothing was
 infixl 1 _>>=_
 abbrev pub _>>=_ : {A B : Type 0} → Option A → (A → Option B) → Option B
 none >>= f = none
@@ -75,6 +76,7 @@ abbrev pub isEmpty : Bytes → Bool
 isEmpty [] = true
 isEmpty (b ∷ s) = false
 
+-- two names are the same bytes
 unfoldable pub same : Bytes → Bytes → Bool
 same [] [] = true
 same [] (b ∷ t) = false
@@ -100,6 +102,7 @@ abbrev pub naturalIn : Bytes → Option ℕ
 naturalIn [] = none
 naturalIn (b ∷ s) = provided (digits (b ∷ s)) (some (decimal 0 (b ∷ s)))
 
+-- the same with a minus sign or without one
 unfoldable pub numberIn : Bytes → Option ℤ
 numberIn [] = none
 numberIn (b ∷ s) = cond (eqb b 45) (naturalIn s >>= λ n. some (negℤ (pos n))) (naturalIn (b ∷ s) >>= λ n. some (pos n))
@@ -165,7 +168,7 @@ abbrev pub isData : Bytes → Bool
 isData [] = false
 isData (b ∷ l) = eqb b 32
 
--- the cards of a section, and the lines behind them
+-- the cards of a section, and the lines after them
 unfoldable pub cards : List Bytes → List Bytes
 cards [] = []
 cards (l ∷ ls) = cond (isData l) (l ∷ cards ls) []
@@ -174,7 +177,7 @@ unfoldable pub behind : List Bytes → List Bytes
 behind [] = []
 behind (l ∷ ls) = cond (isData l) (behind ls) (l ∷ ls)
 
--- the lines behind the card that opens a section
+-- the lines after the card that opens a section
 unfoldable pub opened : String → List Bytes → Option (List Bytes)
 opened word [] = none
 opened word (l ∷ ls) = provided (same l (bytes word)) (some ls)
@@ -184,10 +187,12 @@ abbrev pub titleIn : List Bytes → Option Bytes
 titleIn [] = none
 titleIn (l ∷ ls) = provided (same (field 1 14 l) (bytes "NAME") && isEmpty (drop 22 l)) (some (field 15 22 l))
 
+-- no line is left
 abbrev pub ended : List Bytes → Bool
 ended [] = true
 ended (l ∷ ls) = false
 
+-- the program that a text says: the five sections in this order and nothing after them, with names as they must be
 unfoldable pub readMps : Bytes → Option Mps
 readMps text =
     titleIn (linesOf text) >>= λ title.

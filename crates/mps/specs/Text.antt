@@ -41,6 +41,7 @@ rowLine r = 32 ∷ letter (r .kind) ∷ 32 ∷ 32 ∷ rowName (r .name)
 unfoldable pub entryLine : Bytes → Entry RowName → Bytes
 entryLine name x = 32 ∷ 32 ∷ 32 ∷ 32 ∷ filled name (filled (rowName (x .row)) (integerOf (x .number)))
 
+-- the cards of a column, in its order
 unfoldable pub columnLines : Column ℕ RowName → List Bytes
 columnLines c = map (entryLine (edgeName (c .name))) (c .entries)
 
@@ -58,5 +59,6 @@ linesIn p = flatten (
 unfoldable pub textOf : Program → Bytes
 textOf p = flatMap (λ l. l ++ 10 ∷ []) (linesIn p)
 
+-- the text of a routine's program
 unfoldable pub mpsText : Routine → Bytes
 mpsText t = textOf (programOf t)
