@@ -1,4 +1,4 @@
-// The certificate check: 208, the inequality of each edge; 209, by a topological order of the blocks; and the reply to a pair of tables.
+// The certificate check: 209, by a topological order of the blocks; 208, the inequality of each edge; and the reply to a pair of tables.
 // Figures and multipliers are claims, and are never believed: what an accepted bound means does not depend on who made them.
 ghost use mathlib.Core.Path.{_≡_};
 ghost use Prim.Native.Nat.{_^_, _≤_, _<_};
@@ -20,7 +20,7 @@ use nesting::Structure;
 use nesting::StructureFault;
 use nesting::Structured;
 
-// The bound, or the first broken rule: 201 to 207 as the structure check names them, 208 at its source block, or 209.
+// The bound, or the first broken rule: 201 to 207 as the structure check names them, 208 at its source block, or 209, which comes ahead of 208.
 pub enum TableReply {
     Accepted(i64),
     Structure(StructureFault),
@@ -166,7 +166,8 @@ pub fn bound_at_exit(cost: &[u32], figure: &[i64]) -> i64
     bound_of(cost[0], entry, exit)
 }
 
-// The reply to tables that pass 201 to 207, whose loop sets are given: 208, 209 or the bound.
+// The reply to tables that pass 201 to 207, whose loop sets are given: 209, 208 or the bound. 209 comes first: a cycle that no loop declares
+// can break inequalities too, and no other figures would mend them.
 fn certify(
     around: &Sets,
     cost: &[u32],
@@ -181,6 +182,10 @@ fn certify(
     requires { ⌜ Weighed (weightColumns (now cost) (now loops) (now figure) (now header) (now limit) (now multiplier)) × Linked (length (now cost)) (now first) (now second) × Priced (priceColumns (now cost) (now figure)) ⌝ }
     ensures { λ r. ⌜ Certified (now (around .entry)) (now (cost .entry)) (now (loops .entry)) (now (first .entry)) (now (second .entry)) (now (figure .entry)) (now (header .entry)) (now (limit .entry)) (now (multiplier .entry)) (tableMeaning r) ⌝ }
 {
+    let order = order::order_of(around, loops, first, second, header);
+    if order.count < cost.len() {
+        return TableReply::UndeclaredLoop;
+    }
     let place = first_broken_inequality(
         around,
         cost,
@@ -194,10 +199,6 @@ fn certify(
     );
     if let Place::At(u) = place {
         return TableReply::Inequality(u);
-    }
-    let order = order::order_of(around, loops, first, second, header);
-    if order.count < cost.len() {
-        return TableReply::UndeclaredLoop;
     }
     TableReply::Accepted(bound_at_exit(cost, figure))
 }

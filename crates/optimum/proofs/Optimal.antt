@@ -41,9 +41,9 @@ pub accepted-made : (t : Routine) → AllHold (structureRules t) → undeclaredL
 unfolding tableRules inequalityBroken
 accepted-made t h declared L =
     replies-exactly t .accepts (bound t) .1 (
-      append-all (structureRules t) (inequalityRule t ∷ undeclaredRule t ∷ []) h (
-        λ u b. no-edge-at t u (λ v. not (edgeHolds t u v)) (λ v e. rw (feasible t (nested t h) L .holds u v b e)),
-        (λ p b. declared, tt),
+      append-all (structureRules t) (undeclaredRule t ∷ inequalityRule t ∷ []) h (
+        λ p b. declared,
+        (λ u b. no-edge-at t u (λ v. not (edgeHolds t u v)) (λ v e. rw (feasible t (nested t h) L .holds u v b e)), tt),
       ),
       refl,
     )

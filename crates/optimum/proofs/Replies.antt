@@ -20,8 +20,7 @@ use Rattle.wcet.specs.Rules.{Reply, accepted, refused, Rule, figureOutside, str
 use Rattle.wcet.specs.Run.{runCost}
 use Rattle.wcet.specs.Claim.{AllHold, FinishedRun}
 use Rattle.wcet.proofs.Nesting.{Nested, nested}
-use Rattle.wcet.proofs.Cycles.{closed-exactly}
-use Rattle.wcet.proofs.Replies.{decides, all-append, append-all, past-all, accepted-exactly, refused-exactly, Unnumbered, numbered-broken, once-exactly}
+use Rattle.wcet.proofs.Replies.{decides, all-append, append-all, past-all, accepted-exactly, refused-exactly, Unnumbered, numbered-broken, once-exactly, undeclared-exactly}
 use Rattle.optimum.specs.Remade.{RemadeColumns, PathToExit, AllPaths}
 use Rattle.optimum.specs.Columns.{remadeMultipliers, remadeFigures, remade}
 use Rattle.optimum.specs.Replies.{noPath, multiplierOver, figureOver, givenRules, solveRules, solveReply, figuresAfter, multipliersAfter, MultiplierPasses, FigurePasses, SolvesExactly, Optimum, Solved}
@@ -64,14 +63,9 @@ module _ (t : Routine) where
   abbrev figureRule : Rule
   figureRule = record { number = 403; places = 1; broken = λ _. figureOver (remade t) }
 
-  undeclared-exactly : (p : ℕ) → (solveReply t ≡ refused 209 p) ↔ ((p ≡ 0) × AllHold (structureRules t) × ClosedWalk t)
+  undeclared-solved : (p : ℕ) → (solveReply t ≡ refused 209 p) ↔ ((p ≡ 0) × AllHold (structureRules t) × ClosedWalk t)
   unfolding solveReply solveRules structureRules
-  undeclared-exactly p =
-      let once = once-exactly 209 (structureRules t) (undeclaredLoop t) (pathRule ∷ multiplierRule ∷ figureRule ∷ []) (bound (remade t)) p before (λ e. omega arith, (λ e. omega arith, (λ e. omega arith, tt))) in
-      (λ e. let q = once .0 e in (q .0, q .1, closed-exactly t (nested t (q .1) .target) .0 (q .2)), λ h. once .1 (h .0, h .1, closed-exactly t (nested t (h .1) .target) .1 (h .2)))
-    where
-      before : Unnumbered 209 (structureRules t)
-      before = (λ e. omega arith, (λ e. omega arith, (λ e. omega arith, (λ e. omega arith, (λ e. omega arith, (λ e. omega arith, (λ e. omega arith, tt)))))))
+  undeclared-solved p = undeclared-exactly t (pathRule ∷ multiplierRule ∷ figureRule ∷ []) (bound (remade t)) p (λ e. omega arith, (λ e. omega arith, (λ e. omega arith, tt)))
 
   broken : (b : Bool) → (b ≡ false → ⊥) → b ≡ true
   broken true h = refl
@@ -176,7 +170,7 @@ unfolding solveReply
 solves-exactly t = record {
   accepts = accepted-exactly (solveRules t) (bound (remade t));
   refuses = refused-exactly (solveRules t) (bound (remade t));
-  undeclared = undeclared-exactly t;
+  undeclared = undeclared-solved t;
   path = λ h. path-exactly t (nested t h);
   no-path = no-path-exactly t;
   multiplier-over = multiplier-exactly t;

@@ -68,9 +68,10 @@ FigurePasses t fs = (u : ℕ) × (u < blockCount t) × (figureOutside (getD fs u
 -- What the rules mean: the solver replies with a bound exactly where none of its rules is broken, and refuses exactly with the first broken
 -- one at its lowest place. (Document 01 gives "accepted" another meaning for a pair of tables: that of `tableReply`.) Then 209, 401, 402 and
 -- 403 each in the words of document 02: the reply is 209 exactly where 201 to 207 hold and there is a closed walk with no edge that returns to a
--- header; 401 exactly where the rules before it hold and "some block has no path to the exit (place the lowest such block)"; 402 and 403 exactly
--- where the rules before them hold and a multiplier or a figure of the remade columns passes its limit. The remade columns are those of
--- `remadeFigures` and `remadeMultipliers` and no others, and "some finished counted run" costs exactly their bound, however large they are.
+-- header from inside that header's loop; 401 exactly where the rules before it hold and "some block has no path to the exit (place the lowest
+-- such block)"; 402 and 403 exactly where the rules before them hold and a multiplier or a figure of the remade columns passes its limit. The
+-- remade columns are those of `remadeFigures` and `remadeMultipliers` and no others, and "some finished counted run" costs exactly their bound,
+-- however large they are.
 pub record SolvesExactly (t : Routine) : Type 0 where
   pub accepts : (b : ℤ) → (solveReply t ≡ accepted b) ↔ (AllHold (solveRules t) × (bound (remade t) ≡ b))
   pub refuses : (number place : ℕ) → (solveReply t ≡ refused number place) ↔ FirstBroken (solveRules t) number place

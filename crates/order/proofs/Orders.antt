@@ -14,9 +14,10 @@ use Rattle.lists.proofs.Search.{none-of, some-counted}
 use Rattle.lists.proofs.Pigeonhole.{placeIn, placed, pigeonhole, onto, left-out}
 use Rattle.wcet.specs.Table.{Routine, blockCount, edge}
 use Rattle.wcet.specs.Cycles.{forwardEdge, forwardPath, ClosedWalk, reaches, undeclaredLoop}
-use Rattle.wcet.specs.Rules.{structureRules}
+use Rattle.wcet.specs.Rules.{Reply, refused, Rule, check, structureRules, undeclaredRule}
 use Rattle.wcet.specs.Claim.{AllHold}
 use Rattle.wcet.proofs.Nesting.{nested}
+use Rattle.wcet.proofs.Replies.{decides, hands-on, past-all}
 use Rattle.wcet.proofs.Cycles.{reaches-one, reaches-by, reached, forward-target, closed-exactly}
 use Rattle.loopsets.specs.Sets.{setsAround}
 use Rattle.nesting.specs.Columns.{Ranged}
@@ -147,7 +148,7 @@ module _ (t : Routine) (holds : AllHold (structureRules t)) (sets : List ℕ) (S
 
 module _ (t : Routine) (holds : AllHold (structureRules t)) (r : Order) (O : Ordering t r) where
   -- 209 as the code tests it
-  pub undeclared-test : ltb (r .count) (blockCount t) ≡ undeclaredLoop t
+  undeclared-test : ltb (r .count) (blockCount t) ≡ undeclaredLoop t
   undeclared-test = go (undeclaredLoop t) refl (ℕ-discrete (r .count) (blockCount t))
     where
       target : (u v : ℕ) → u < blockCount t → edge t u v ≡ true → v < blockCount t
@@ -158,6 +159,23 @@ module _ (t : Routine) (holds : AllHold (structureRules t)) (r : Order) (O : Ord
       go true q (no ne) = lt-ltb (r .count) (blockCount t) (omega (arith, ne, O .few))
       go false q (yes e) = le-ltb (r .count) (blockCount t) (omega arith)
       go false q (no ne) = absurd (ne (O .all .1 (λ W. mathlib.Core.Bool.true≢false (sym (closed-exactly t target .1 W) ∙ q))))
+
+  pub declared : blockCount t ≤ r .count → undeclaredLoop t ≡ false
+  declared all = sym undeclared-test ∙ le-ltb (r .count) (blockCount t) all
+
+  -- 209 as the code decides it: refused, or left to the rules after it
+  module _ {A : Type 0} (qs : List Rule) (passed : Reply A) where
+    pub undeclared-decides : r .count < blockCount t → refused 209 0 ≡ check (structureRules t ++ undeclaredRule t ∷ qs) passed
+    undeclared-decides few =
+        sym (past-all (structureRules t) (undeclaredRule t ∷ qs) passed holds
+        ∙ decides (undeclaredRule t) qs passed 0 (record {
+          below = omega arith;
+          passes = sym undeclared-test ∙ lt-ltb (r .count) (blockCount t) few;
+          lower = λ j z. absurd (omega arith);
+        }))
+
+    pub declared-hands-on : blockCount t ≤ r .count → check qs passed ≡ check (structureRules t ++ undeclaredRule t ∷ qs) passed
+    declared-hands-on all = sym (past-all (structureRules t) (undeclaredRule t ∷ qs) passed holds ∙ hands-on (undeclaredRule t) qs passed (λ p z. declared all))
 
   pub topological : r .count ≡ blockCount t → Topological t (r .blocks)
   topological all = record {

@@ -80,7 +80,7 @@ table-place t n p e =
     (λ S.
     let b : blockCount t ≤ longestWalk = omega (arith, S .few-blocks) in
     let l : length (t .parents) ≤ longestWalk = omega (arith, S .few-loops) in
-    (l, (b, (l, (l, (b, (b, (b, (omega arith, tt)))))))))
+    (l, (b, (l, (l, (b, (b, (omega arith, (b, tt)))))))))
     (λ h q. absurd (let z : _≡_ {A = ℕ} 0 1 = cc in omega arith)) e
 
 pub solve-place : (t : Routine) (n p : ℕ) → solveReply t ≡ refused n p → p ≤ longestWalk

@@ -3,16 +3,15 @@ use mathlib.Core.Path.{_≡_, refl, sym, _∙_}
 use mathlib.Core.Bool.{true, false}
 use mathlib.Core.List.{[], _∷_, append-assoc}
 use mathlib.Core.Logic.{_⊎_, inl, inr}
-use Prim.Native.Nat.{ℕ, _≤_, _<_}
+use Prim.Native.Nat.{ℕ, _<_}
 use native.Mathlib.Omega.{arith}
-use borrow.Author.Tests.{lt-ltb, le-ltb}
 use lib.IntN.{ℤ}
 use Rattle.wcet.specs.Table.{Routine, blockCount}
 use Rattle.wcet.specs.Cycles.{undeclaredLoop}
 use Rattle.wcet.specs.Rules.{Reply, accepted, refused, Rule, check, structureRules, undeclaredRule, bound}
 use Rattle.wcet.specs.Claim.{AllHold}
 use Rattle.wcet.proofs.Nesting.{Nested, nested}
-use Rattle.wcet.proofs.Replies.{decides, hands-on, past-all}
+use Rattle.wcet.proofs.Replies.{decides, hands-on, append-all, past-all}
 use Rattle.nesting.specs.Answers.{refusal, StructureChecked}
 use Rattle.nesting.specs.declared.StructureFault.{StructureFault}
 use Rattle.nesting.specs.declared.Structure.the-variants.{Broken}
@@ -20,12 +19,12 @@ use Rattle.nesting.specs.declared.Structured.{Structured}
 use Rattle.nesting.proofs.Chain.{none-left, refused-by, refusal-stands}
 use Rattle.order.specs.Ordering.{Ordering}
 use Rattle.order.specs.declared.Order.{Order}
-use Rattle.order.proofs.Orders.{undeclared-test}
+use Rattle.order.proofs.Orders.{undeclared-decides}
 use Rattle.exits.specs.Lost.{LowestLost}
 use Rattle.exits.proofs.Places.{lowest-lost}
 use Rattle.optimum.specs.Remade.{AllPaths}
 use Rattle.optimum.specs.Columns.{remade}
-use Rattle.optimum.specs.Replies.{noPath, multiplierOver, figureOver, solveRules, solveReply, Solved}
+use Rattle.optimum.specs.Replies.{noPath, multiplierOver, figureOver, givenRules, solveRules, solveReply, Solved}
 use Rattle.optimum.proofs.Paths.{path-exactly}
 use Rattle.optimum.proofs.Replies.{solved}
 use Rattle.solver.specs.declared.SolveReply.{SolveReply}
@@ -65,26 +64,15 @@ module _ (t : Routine) where
     N : Nested t
     N = nested t h
 
-    later : check (undeclaredRule t ∷ pathRule ∷ multiplierRule ∷ figureRule ∷ []) result ≡ solveReply t
-    unfolding solveReply solveRules
-    later = sym (rw append-assoc (past-all (structureRules t) (undeclaredRule t ∷ pathRule ∷ multiplierRule ∷ figureRule ∷ []) result h))
-
     -- 209, by the order of the blocks
     pub undeclared-refused : (r : Order) → Ordering t r → r .count < blockCount t → refused 209 0 ≡ solveReply t
-    undeclared-refused r O l =
-        sym (decides (undeclaredRule t) (pathRule ∷ multiplierRule ∷ figureRule ∷ []) result 0 (record {
-          below = omega arith;
-          passes = sym (undeclared-test t h r O) ∙ lt-ltb (r .count) (blockCount t) l;
-          lower = λ j z. absurd (omega arith);
-        }))
-        ∙ later
-
-    pub declared-by : (r : Order) → Ordering t r → blockCount t ≤ r .count → undeclaredLoop t ≡ false
-    declared-by r O l = sym (undeclared-test t h r O) ∙ le-ltb (r .count) (blockCount t) l
+    unfolding solveReply solveRules
+    undeclared-refused r O few = rw append-assoc (undeclared-decides t h r O (pathRule ∷ multiplierRule ∷ figureRule ∷ []) result few)
 
     module _ (declared : undeclaredLoop t ≡ false) where
       after-209 : check (pathRule ∷ multiplierRule ∷ figureRule ∷ []) result ≡ solveReply t
-      after-209 = sym (hands-on (undeclaredRule t) (pathRule ∷ multiplierRule ∷ figureRule ∷ []) result (λ p z. declared)) ∙ later
+      unfolding solveReply solveRules
+      after-209 = sym (past-all (givenRules t) (pathRule ∷ multiplierRule ∷ figureRule ∷ []) result (append-all (structureRules t) (undeclaredRule t ∷ []) h (λ p z. declared, tt)))
 
       pub path-refused : (u : ℕ) → LowestLost t u → refused 401 u ≡ solveReply t
       path-refused u l = sym (decides pathRule (multiplierRule ∷ figureRule ∷ []) result u (lowest-lost t (noPath t) (path-exactly t N) u .1 l)) ∙ after-209

@@ -34,6 +34,13 @@ const MULTIPLIER: usize = 3;
 
 pub const MISSING: usize = 65535;
 
+// How many rules after 201 are asked: of the tables of a walk 202 to 207, of those of a program 209 too, of a pair of tables all.
+pub const FOR_WALKS: u32 = 6;
+
+pub const FOR_PROGRAMS: u32 = 7;
+
+pub const FOR_TABLES: u32 = 8;
+
 pub fn of_block(b: &BlockCells, u: usize, c: usize) -> usize {
     if u >= 1025 {
         return 0;
@@ -182,7 +189,7 @@ fn mark(b: &BlockCells, l: &LoopCells, n: usize, m: usize, marks: &mut [bool; 10
 
 // Whether there is a closed walk of one edge or more, none of which returns: then, and only then, some block is never marked. Where a round marks
 // no further block, no later one does.
-pub fn has_closed_walk(b: &BlockCells, l: &LoopCells, n: usize, m: usize) -> bool {
+fn has_closed_walk(b: &BlockCells, l: &LoopCells, n: usize, m: usize) -> bool {
     let mut marks = [false; 1024];
     let mut count = 0;
     for _ in 0..n {
@@ -290,9 +297,18 @@ fn first_broken(
     2000
 }
 
-// The first broken one of the rules from 202 on and below `end`; number 0 where none is.
-pub fn first_refusal(b: &BlockCells, l: &LoopCells, n: usize, m: usize, end: u32) -> Reply {
-    for rule in 202..end {
+// The rules after 201 in their order: 202 to 207, 209, 208.
+fn rule_at(i: u32) -> u32 {
+    if i < 6 {
+        return 202 + i;
+    }
+    if i == 6 { 209 } else { 208 }
+}
+
+// The first broken one of the first `count` rules after 201; number 0 where none is.
+pub fn first_refusal(b: &BlockCells, l: &LoopCells, n: usize, m: usize, count: u32) -> Reply {
+    for i in 0..count {
+        let rule = rule_at(i);
         let place = first_broken(rule, b, l, n, m, places_of(rule, n, m));
         if place < 2000 {
             return refused(rule, place);

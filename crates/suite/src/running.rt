@@ -408,12 +408,12 @@ fn same_or(text: &[u8], wanted: &[u8], other: &[u8]) -> bool {
 }
 
 // The solver's reply beside what the library and the checker say of the tables after it. Both must accept what it accepts, with its bound. What
-// it refuses, the checker must refuse alike: but for 401 to 403, which it does not know, and for 209 where it says 208.
+// it refuses, the checker must refuse alike, but for 401 to 403: it does not know these, and accepts there or says 208.
 fn confirmed(made: Answers, after: Answers) -> Answers {
     let got = made.got;
     let checked = after.checked;
     let silent = (checked.number == 0) | (checked.number == 208);
-    if (got.number != 0) & silent {
+    if (got.number > 400) & silent {
         return made;
     }
     let unlike = (got.number == 0) & !same(got, after.got);

@@ -3,6 +3,8 @@ use crate::cells::BlockCells;
 use crate::cells::LoopCells;
 use crate::cells::plus;
 use crate::cells::u16_at;
+use crate::rules::FOR_TABLES;
+use crate::rules::FOR_WALKS;
 use crate::rules::bound;
 use crate::rules::copy_blocks;
 use crate::rules::copy_loops;
@@ -142,7 +144,7 @@ pub fn reply(
     let mut l = [0usize; 260];
     copy_blocks(cost, inner, first, second, figure, &mut b);
     copy_loops(parent, header, limit, multiplier, &mut l);
-    let refusal = first_refusal(&b, &l, n, m, if walked { 208 } else { 210 });
+    let refusal = first_refusal(&b, &l, n, m, if walked { FOR_WALKS } else { FOR_TABLES });
     if refusal.number != 0 {
         return refusal;
     }

@@ -10,11 +10,11 @@ use crate::making::push_number;
 use crate::making::push_signed;
 use crate::rules::COST;
 use crate::rules::FIRST;
+use crate::rules::FOR_PROGRAMS;
 use crate::rules::HEADER;
 use crate::rules::LIMIT;
 use crate::rules::MISSING;
 use crate::rules::first_refusal;
-use crate::rules::has_closed_walk;
 use crate::rules::inside;
 use crate::rules::of_block;
 use crate::rules::of_loop;
@@ -190,24 +190,12 @@ fn push_program(text: &mut [u8], b: &BlockCells, l: &LoopCells, n: usize, m: usi
     push_right_side(text, side, b, l, n, m)
 }
 
-// 202 to 207, then 209; 208 is not asked.
-fn refusal_of(b: &BlockCells, l: &LoopCells, n: usize, m: usize) -> Reply {
-    let early = first_refusal(b, l, n, m, 208);
-    if early.number != 0 {
-        return early;
-    }
-    if has_closed_walk(b, l, n, m) {
-        return refused(209, 0);
-    }
-    early
-}
-
 // The length of the program's text, which then stands in `text`; or the tables' refusal.
 pub fn write(b: &BlockCells, l: &LoopCells, n: usize, m: usize, text: &mut [u8]) -> Reply {
     if sizes_broken(n, m) {
         return refused(201, 0);
     }
-    let refusal = refusal_of(b, l, n, m);
+    let refusal = first_refusal(b, l, n, m, FOR_PROGRAMS);
     if refusal.number != 0 {
         return refusal;
     }

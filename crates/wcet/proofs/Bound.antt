@@ -19,7 +19,7 @@ use Rattle.integers.proofs.Direction.{atMost}
 use Rattle.wcet.specs.Table.{Routine, blockCount, exit, cost, figure, limit, multiplier, edge}
 use Rattle.wcet.specs.Rules.{Reply, accepted, inequality, edgeHolds, inequalityBroken, inequalityRule, undeclaredRule, structureRules, tableRules, bound, tableReply}
 use Rattle.wcet.specs.Run.{path, run, State, start, next, after, passesLimit, keepsLimits, countedRun, runCost}
-use Rattle.wcet.specs.Claim.{AllHold, BoundedAt, WcetBound, Checked, FinishedRun, NegativeBound}
+use Rattle.wcet.specs.Claim.{Holds, AllHold, BoundedAt, WcetBound, Checked, FinishedRun, NegativeBound}
 use Rattle.wcet.proofs.Replies.{all-append, replies-exactly}
 use Rattle.wcet.proofs.Nesting.{no-edge, Nested, nested}
 use Rattle.wcet.proofs.Potential.{Certificate, remaining, Sound}
@@ -43,14 +43,15 @@ pub record Facts (t : Routine) : Type 0 where
   pub nesting : Nested t
   pub holds : (u v : ℕ) → u < blockCount t → edge t u v ≡ true → edgeHolds t u v ≡ true
 
+pub facts-by : (t : Routine) → AllHold (structureRules t) → Holds (inequalityRule t) → Facts t
+unfolding inequalityBroken
+facts-by t h i = record { nesting = nested t h; holds = λ u v b e. not-false (edgeHolds t u v) (no-edge t u v (λ x. not (edgeHolds t u x)) (i u b) e) }
+
 pub facts : (t : Routine) → AllHold (tableRules t) → Facts t
-unfolding tableRules inequalityBroken
+unfolding tableRules
 facts t h =
-    let q : AllHold (structureRules t) × AllHold (inequalityRule t ∷ undeclaredRule t ∷ []) = all-append (structureRules t) (inequalityRule t ∷ undeclaredRule t ∷ []) h in
-    record {
-      nesting = nested t (q .0);
-      holds = λ u v b e. not-false (edgeHolds t u v) (no-edge t u v (λ x. not (edgeHolds t u x)) (q .1 .0 u b) e);
-    }
+    let q : AllHold (structureRules t) × AllHold (undeclaredRule t ∷ inequalityRule t ∷ []) = all-append (structureRules t) (undeclaredRule t ∷ inequalityRule t ∷ []) h in
+    facts-by t (q .0) (q .1 .1 .0)
 
 module _ (t : Routine) (F : Facts t) where
   open Nested (F .nesting) using (two-blocks, loop0-multiplier, innermost, target, own, at-header)

@@ -7,6 +7,7 @@ pub mod Path
 pub mod Entry
 pub mod Limits
 pub mod Bound
+pub mod Reordered
 pub mod Walks
 pub mod Counts
 pub mod Around

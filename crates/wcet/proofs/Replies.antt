@@ -9,9 +9,9 @@ use mathlib.Core.Bool.{Bool, true}
 use native.Mathlib.Omega.{arith}
 use Rattle.lists.specs.Search.{firstBelow}
 use Rattle.lists.proofs.Search.{Lowest, not-found, none-found, found, found-lowest}
-use Rattle.wcet.specs.Table.{Routine, blockCount, edge}
+use Rattle.wcet.specs.Table.{Routine}
 use Rattle.wcet.specs.Cycles.{undeclaredLoop, ClosedWalk}
-use Rattle.wcet.specs.Rules.{Reply, accepted, refused, Rule, refusedAt, check, inequalityRule, structureRules, tableRules, bound, tableReply}
+use Rattle.wcet.specs.Rules.{Reply, accepted, refused, Rule, refusedAt, check, inequalityRule, undeclaredRule, structureRules, tableRules, bound, tableReply}
 use Rattle.wcet.specs.Claim.{Holds, AllHold, FirstBroken, RepliesExactly}
 use Rattle.wcet.proofs.Nesting.{nested}
 use Rattle.wcet.proofs.Cycles.{closed-exactly}
@@ -132,6 +132,17 @@ refused-append rs qs a passed n p e = go (refused-exactly rs a n p .0 e)
       lowest = b .lowest;
     })
 
+-- where two lists give one reply, they do behind the same rules
+pub behind : {A : Type 0} (rs qs ps : List Rule) (passed : Reply A) → check qs passed ≡ check ps passed → check (rs ++ qs) passed ≡ check (rs ++ ps) passed
+unfolding check
+behind [] qs ps passed e = e
+behind (r ∷ rs) qs ps passed e = ap (refusedAt (r .number) (firstBelow (r .places) (r .broken))) (behind rs qs ps passed e)
+
+-- the order of two rules does not matter where one of them holds
+pub exchanged : {A : Type 0} (r q : Rule) (rs : List Rule) (passed : Reply A) → Holds r → check (r ∷ q ∷ rs) passed ≡ check (q ∷ r ∷ rs) passed
+unfolding check
+exchanged r q rs passed h = rw (none-found (r .places) (r .broken) h)
+
 -- a refusal with the number of one rule alone: the rules before it hold, and it is broken there and at no lower place
 module _ (n : ℕ) where
   -- no rule has this number
@@ -181,24 +192,28 @@ module _ (n : ℕ) where
 
 -- ---- the two tables
 
--- 209, in the words of document 02
-undeclared-exactly : (t : Routine) (p : ℕ) → (tableReply t ≡ refused 209 p) ↔ ((p ≡ 0) × AllHold (structureRules t ++ inequalityRule t ∷ []) × ClosedWalk t)
-unfolding tableReply tableRules structureRules
-undeclared-exactly t p =
-    let once = once-exactly 209 (structureRules t ++ inequalityRule t ∷ []) (undeclaredLoop t) [] (bound t) p numbers tt in
-    (λ e. let q = once .0 e in (q .0, q .1, closed-exactly t (target (q .1)) .0 (q .2)), λ h. once .1 (h .0, h .1, closed-exactly t (target (h .1)) .1 (h .2)))
-  where
-    numbers : Unnumbered 209 (structureRules t ++ inequalityRule t ∷ [])
-    numbers = (λ e. omega arith, (λ e. omega arith, (λ e. omega arith, (λ e. omega arith, (λ e. omega arith, (λ e. omega arith, (λ e. omega arith, (λ e. omega arith, tt))))))))
+module _ (t : Routine) where
+  -- 201 to 207 are numbers below 208
+  pub structure-unnumbered : (n : ℕ) → 207 < n → Unnumbered n (structureRules t)
+  unfolding structureRules
+  structure-unnumbered n h = (λ e. omega arith, (λ e. omega arith, (λ e. omega arith, (λ e. omega arith, (λ e. omega arith, (λ e. omega arith, (λ e. omega arith, tt)))))))
 
-    target : AllHold (structureRules t ++ inequalityRule t ∷ []) → (u v : ℕ) → u < blockCount t → edge t u v ≡ true → v < blockCount t
-    target h = nested t (all-append (structureRules t) (inequalityRule t ∷ []) h .0) .target
+  -- the test of 209 is exact
+  pub closed-walks : AllHold (structureRules t) → (undeclaredLoop t ≡ true) ↔ ClosedWalk t
+  closed-walks h = closed-exactly t (nested t h .target)
+
+  -- 209 after 201 to 207, in the words of document 02: whatever rules follow
+  pub undeclared-exactly : {A : Type 0} (qs : List Rule) (a : A) (p : ℕ) → Unnumbered 209 qs
+      → (check (structureRules t ++ undeclaredRule t ∷ qs) (accepted a) ≡ refused 209 p) ↔ ((p ≡ 0) × AllHold (structureRules t) × ClosedWalk t)
+  undeclared-exactly qs a p v =
+      let once = once-exactly 209 (structureRules t) (undeclaredLoop t) qs a p (structure-unnumbered 209 (omega arith)) v in
+      (λ e. let q = once .0 e in (q .0, q .1, closed-walks (q .1) .0 (q .2)), λ h. once .1 (h .0, h .1, closed-walks (h .1) .1 (h .2)))
 
 pub replies-exactly : (t : Routine) → RepliesExactly t
-unfolding tableReply
+unfolding tableReply tableRules
 replies-exactly t = record {
   accepts = accepted-exactly (tableRules t) (bound t);
   refuses = refused-exactly (tableRules t) (bound t);
-  closed = λ h. closed-exactly t (nested t h .target);
-  undeclared = undeclared-exactly t;
+  closed = closed-walks t;
+  undeclared = λ p. undeclared-exactly t (inequalityRule t ∷ []) (bound t) p (λ e. omega arith, tt);
 }

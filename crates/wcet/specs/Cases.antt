@@ -1,4 +1,4 @@
--- Document 01, "One routine in full": the marked cases (*), as one list, with the replies that they have since document 02, §2.
+-- Document 01, "One routine in full": the marked cases (*), as one list, with the replies that they have since document 02, §2 and §6.
 -- `proofs/Cases.antt` computes them.
 use Prim.Native.Nat.{ℕ}
 use mathlib.Core.List.{List, [], _∷_, map}
@@ -56,8 +56,7 @@ oneLoop costs firsts seconds figures = record {
 abbrev pub noEdges : Routine
 noEdges = oneLoop (7 ∷ 9 ∷ []) (missing ∷ missing ∷ []) (missing ∷ missing ∷ []) (negℤ (pos 10) ∷ pos 0 ∷ [])
 
--- "Four blocks in loop 0, edges 0 to 1, 1 to 2, 2 to 1, 2 to 3", at these costs and figures. Document 02, §2, changed the reply of one:
--- "that case with costs 1 0 0 1 is now 209". It was accepted before, with bound 2.
+-- "Four blocks in loop 0, edges 0 to 1, 1 to 2, 2 to 1, 2 to 3", at these costs and figures
 abbrev pub cycle : List ℕ → List ℤ → Routine
 cycle costs figures = oneLoop costs (1 ∷ 2 ∷ 1 ∷ missing ∷ []) (missing ∷ missing ∷ 3 ∷ missing ∷ []) figures
 
@@ -69,6 +68,9 @@ pub record Case : Type 0 where
 abbrev pub marked : Question → Answer → Case
 marked q a = record { asked = q; reply = a }
 
+-- Document 02 changed the replies of three entries. §2: "that case with costs 1 0 0 1 is now 209"; it was accepted, with bound 2. §6: "208 with
+-- its block becomes 209 at 0. In document 01 these are A with block 2 in loop 0 and the last marked case with costs 1 1 1 1"; both were 208
+-- at 2.
 unfoldable pub markedCases : List Case
 markedCases =
     marked (table A) (toTable (accepted (pos 30)))
@@ -77,13 +79,16 @@ markedCases =
     ∷ marked (table (routineA missing (pos 28) 1 65535 8)) (toTable (refused 208 0))
     ∷ marked (table (routineA missing (pos 28) 1 0 8)) (toTable (refused 202 1))
     ∷ marked (table (routineA missing (pos 28) 1 65536 8)) (toTable (refused 202 1))
-    ∷ marked (table (routineA missing (pos 28) 0 4 8)) (toTable (refused 208 2))
+    -- changed by §6
+    ∷ marked (table (routineA missing (pos 28) 0 4 8)) (toTable (refused 209 0))
     ∷ marked (table (routineA 2 (pos 28) 1 4 8)) (toTable (refused 207 0))
     ∷ marked (walk A (0 ∷ 1 ∷ 2 ∷ 1 ∷ 2 ∷ 1 ∷ 2 ∷ 1 ∷ 3 ∷ [])) (toWalk (accepted (record { total = 30; steps = 8 })))
     ∷ marked (walk A (0 ∷ 1 ∷ 2 ∷ 1 ∷ 2 ∷ 1 ∷ 2 ∷ 1 ∷ 2 ∷ 1 ∷ [])) (toWalk (refused 313 9))
     ∷ marked (walk A (0 ∷ 1 ∷ [])) (toWalk (refused 314 2))
     ∷ marked (table noEdges) (toTable (accepted (negℤ (pos 3))))
-    ∷ marked (table (cycle (1 ∷ 1 ∷ 1 ∷ 1 ∷ []) (pos 3 ∷ pos 2 ∷ pos 1 ∷ pos 0 ∷ []))) (toTable (refused 208 2))
+    -- changed by §6
+    ∷ marked (table (cycle (1 ∷ 1 ∷ 1 ∷ 1 ∷ []) (pos 3 ∷ pos 2 ∷ pos 1 ∷ pos 0 ∷ []))) (toTable (refused 209 0))
+    -- changed by §2
     ∷ marked (table (cycle (1 ∷ 0 ∷ 0 ∷ 1 ∷ []) (pos 1 ∷ pos 1 ∷ pos 1 ∷ pos 0 ∷ []))) (toTable (refused 209 0))
     ∷ []
 

@@ -10,7 +10,7 @@ use lib.Signed.{_≤ℤ_, _<ℤ_}
 use Rattle.limits.specs.Limits.{longestWalk}
 use Rattle.wcet.specs.Table.{Routine, exit, cost, figure}
 use Rattle.wcet.specs.Cycles.{ClosedWalk, undeclaredLoop}
-use Rattle.wcet.specs.Rules.{Reply, accepted, refused, Rule, inequalityRule, structureRules, tableRules, bound, tableReply}
+use Rattle.wcet.specs.Rules.{Reply, accepted, refused, Rule, structureRules, tableRules, bound, tableReply}
 use Rattle.wcet.specs.Run.{countedRun, runCost}
 use Rattle.wcet.specs.Walk.{Walked, walked, walkReply}
 
@@ -57,13 +57,13 @@ pub record FirstBroken (rs : List Rule) (number place : ℕ) : Type 0 where
 
 -- A pair of tables is accepted exactly where none of 201 to 209 is broken, and then with its bound; and refused exactly with the first
 -- broken rule at its lowest place. Document 02, §2: "Refusal must come exactly when such a closed walk exists, by a definition that does not
--- sort anything": the test of 209 holds exactly where there is a closed walk, and the reply is 209 exactly where there is one and 201 to 208
--- hold.
+-- sort anything": where 201 to 207 hold, the test of 209 holds exactly where there is a closed walk. By the order of §6 the reply is then 209,
+-- at place 0, whatever 208 says, and nowhere else.
 pub record RepliesExactly (t : Routine) : Type 0 where
   pub accepts : (b : ℤ) → (tableReply t ≡ accepted b) ↔ (AllHold (tableRules t) × (bound t ≡ b))
   pub refuses : (number place : ℕ) → (tableReply t ≡ refused number place) ↔ FirstBroken (tableRules t) number place
   pub closed : AllHold (structureRules t) → (undeclaredLoop t ≡ true) ↔ ClosedWalk t
-  pub undeclared : (place : ℕ) → (tableReply t ≡ refused 209 place) ↔ ((place ≡ 0) × AllHold (structureRules t ++ inequalityRule t ∷ []) × ClosedWalk t)
+  pub undeclared : (place : ℕ) → (tableReply t ≡ refused 209 place) ↔ ((place ≡ 0) × AllHold (structureRules t) × ClosedWalk t)
 
 -- ---- accepted walks
 

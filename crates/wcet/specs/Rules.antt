@@ -1,5 +1,5 @@
--- Document 01, "Replies that come from the input", 201 to 208, and "The inequality of an edge"; document 02, §2, 209: with which number and
--- place a pair of tables is refused, and the bound of an accepted pair.
+-- Document 01, "Replies that come from the input", 201 to 208, and "The inequality of an edge"; document 02, §2, 209, and §6, the order: with
+-- which number and place a pair of tables is refused, and the bound of an accepted pair.
 use Prim.Native.Nat.{ℕ, _^_}
 use mathlib.Core.Bool.{Bool, not, _&&_, _||_}
 use mathlib.Core.List.{List, [], _∷_, _++_}
@@ -29,7 +29,8 @@ abbrev pub refusedAt : {A : Type 0} → ℕ → Option ℕ → Reply A → Reply
 refusedAt number (some place) otherwise = refused number place
 refusedAt number none otherwise = otherwise
 
--- "the lowest number first, then the lowest place", where the rules stand in the order of their numbers
+-- The first broken rule of a list, at its lowest place. Document 01: "the lowest number first, then the lowest place"; document 02, §6, changes
+-- the order of two numbers. The order is that of the list.
 unfoldable pub check : {A : Type 0} → List Rule → Reply A → Reply A
 check [] passed = passed
 check (r ∷ rs) passed = refusedAt (r .number) (firstBelow (r .places) (r .broken)) (check rs passed)
@@ -134,13 +135,13 @@ structureRules t =
 abbrev pub inequalityRule : Routine → Rule
 inequalityRule t = record { number = 208; places = blockCount t; broken = inequalityBroken t }
 
--- Document 02, §2: "Errors: 209, place 0, after 208."
+-- Document 02, §2: "209, place 0". Its "after 208" no longer holds since §6.
 abbrev pub undeclaredRule : Routine → Rule
 undeclaredRule t = record { number = 209; places = 1; broken = λ _. undeclaredLoop t }
 
--- 201 to 209
+-- Document 02, §6: "Errors: the order is 201 to 207, 209, 208."
 unfoldable pub tableRules : Routine → List Rule
-tableRules t = structureRules t ++ inequalityRule t ∷ undeclaredRule t ∷ []
+tableRules t = structureRules t ++ undeclaredRule t ∷ inequalityRule t ∷ []
 
 -- "The bound is cost of block 0 + figure of block 0 − figure of block n−1."
 unfoldable pub bound : Routine → ℤ

@@ -11,11 +11,10 @@ use lib.Seq.{take-length, take-at}
 use borrow.Author.Tests.{leb-true, leb-false, le-leb, lt-leb, lt-ltb, le-ltb}
 use Rattle.lists.specs.Bytes.{bytes}
 use Rattle.wcet.specs.Table.{Routine, blockCount}
-use Rattle.wcet.specs.Cycles.{undeclaredLoop}
 use Rattle.wcet.specs.Rules.{Reply, accepted, refused, Rule, check, structureRules, undeclaredRule}
 use Rattle.wcet.specs.Claim.{AllHold}
 use Rattle.wcet.proofs.Nesting.{nested}
-use Rattle.wcet.proofs.Replies.{append-all, decides, hands-on, past-all}
+use Rattle.wcet.proofs.Replies.{append-all, decides, hands-on}
 use Rattle.loopsets.specs.Sets.{setsAround}
 use Rattle.nesting.specs.Columns.{routine}
 use Rattle.nesting.specs.Answers.{refusal, StructureChecked}
@@ -26,7 +25,7 @@ use Rattle.nesting.proofs.Stages.{headed, innermost, linked}
 use Rattle.nesting.proofs.Chain.{none-left, refused-by, refusal-stands}
 use Rattle.order.specs.Ordering.{Ordering}
 use Rattle.order.specs.declared.Order.{Order}
-use Rattle.order.proofs.Orders.{undeclared-test}
+use Rattle.order.proofs.Orders.{declared, undeclared-decides, declared-hands-on}
 use Rattle.mps.specs.Program.{block}
 use Rattle.mps.specs.Text.{digitsIn, rowName, mpsText}
 use Rattle.mps.specs.Reply.{mpsRules, mpsReply, Exported}
@@ -133,26 +132,15 @@ module _ (t : Routine) (before : List ℕ) where
       rw (k .2 ℕ) (refused-exported (k .0) (k .1) (sym (k .2 ℕ) ∙ rw append-assoc (refusal-stands t s C f q (undeclaredRule t ∷ roomRule ∷ []) result)))
 
   module _ (h : AllHold (structureRules t)) where
-    later : check (undeclaredRule t ∷ roomRule ∷ []) result ≡ mpsReply t (length before)
-    unfolding mpsReply mpsRules
-    later = sym (rw append-assoc (past-all (structureRules t) (undeclaredRule t ∷ roomRule ∷ []) result h))
-
     -- 209, by the order of the blocks
     pub undeclared-exported : (r : Order) → Ordering t r → r .count < blockCount t → Exported t before (refused 209 0) before
-    undeclared-exported r O l =
-        refused-exported 209 0 (sym (decides (undeclaredRule t) (roomRule ∷ []) result 0 (record {
-          below = omega arith;
-          passes = sym (undeclared-test t h r O) ∙ lt-ltb (r .count) (blockCount t) l;
-          lower = λ j z. absurd (omega arith);
-        }))
-        ∙ later)
+    unfolding mpsReply mpsRules
+    undeclared-exported r O few = refused-exported 209 0 (rw append-assoc (undeclared-decides t h r O (roomRule ∷ []) result few))
 
     module _ (o : Order) (O : Ordering t o) (all : blockCount t ≤ o .count) where
-      declared : undeclaredLoop t ≡ false
-      declared = sym (undeclared-test t h o O) ∙ le-ltb (o .count) (blockCount t) all
-
       last : check (roomRule ∷ []) result ≡ mpsReply t (length before)
-      last = sym (hands-on (undeclaredRule t) (roomRule ∷ []) result (λ p z. declared)) ∙ later
+      unfolding mpsReply mpsRules
+      last = rw append-assoc (declared-hands-on t h o O (roomRule ∷ []) result all)
 
       abbrev w : List ℕ
       w = mpsText t
@@ -170,7 +158,7 @@ module _ (t : Routine) (before : List ℕ) where
       written l = record {
         replied = none-left result ∙ sym (hands-on roomRule [] result (λ p z. le-ltb (length before) (length w) l)) ∙ last;
         buffer = refl;
-        reads = λ n q. rw (← same n q, take-at w (drop (length w) before) (length w) refl) (reads-back t (append-all (structureRules t) (undeclaredRule t ∷ []) h (λ p z. declared, tt)));
+        reads = λ n q. rw (← same n q, take-at w (drop (length w) before) (length w) refl) (reads-back t (append-all (structureRules t) (undeclaredRule t ∷ []) h (λ p z. declared t h o O all, tt)));
         apart = λ n q. names-apart t h;
       }
         where

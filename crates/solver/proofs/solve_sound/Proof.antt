@@ -2,8 +2,8 @@ use native.Mathlib.Omega.{arith}
 use Rattle.wcet.specs.Table.{Routine}
 use Rattle.nesting.specs.Columns.{routine}
 use Rattle.nesting.proofs.Stages.{headed, innermost, linked}
-use Rattle.order.proofs.Orders.{topological}
-use Rattle.solver.proofs.Reply.{refused-solved, undeclared-refused, declared-by}
+use Rattle.order.proofs.Orders.{declared, topological}
+use Rattle.solver.proofs.Reply.{refused-solved, undeclared-refused}
 use borrow.Author.Needs.{needs}
 use Rattle.solver.proofs.solve_sound.Statement.{statement}
 use Rattle.solver.proofs.solve_sound.Tie as tie
@@ -37,7 +37,7 @@ remake-requires c κs =
       rules = s .pre .0;
       sets-around = s .pre .1;
       ordered = topological (whole s) (s .pre .0) _ O (omega (arith, O .few));
-      declared = declared-by (whole s) (s .pre .0) _ O (omega arith);
+      declared = declared (whole s) (s .pre .0) _ O (omega arith);
     }
 
 same-length : tie.Need-same-length

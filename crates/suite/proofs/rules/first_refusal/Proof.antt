@@ -4,13 +4,16 @@ use Rattle.suite.proofs.rules.first_refusal.Statement.{statement}
 use Rattle.suite.proofs.rules.first_refusal.Tie as tie
 
 abbrev Inv-loop : tie.InvT-loop
-Inv-loop b l n m end rule₀ rule = Unit {0}
+Inv-loop b l n m count i₀ i = Unit {0}
 
 abbrev μ-loop : tie.MeasureT-loop
-μ-loop b l n m end rule₀ rule = end - rule
+μ-loop b l n m count i₀ i = count - i
 
 loop-holds : tie.Need-loop-holds Inv-loop μ-loop
 loop-holds c = search needs
+
+rule-at-requires : tie.Need-rule-at-requires Inv-loop μ-loop
+rule-at-requires c κs = search needs
 
 places-of-requires : tie.Need-places-of-requires Inv-loop μ-loop
 places-of-requires c κs = search needs
@@ -24,8 +27,8 @@ refused-requires c κs = search needs
 returns : tie.Need-returns Inv-loop μ-loop
 returns c = search needs
 
-add-rule : tie.Need-add-rule Inv-loop μ-loop
-add-rule c = search needs
+add-i : tie.Need-add-i Inv-loop μ-loop
+add-i c = search needs
 
 loop-less : tie.Need-loop-less Inv-loop μ-loop
 loop-less c = search needs
@@ -46,11 +49,12 @@ first-refusal-spec =
     Inv-loop
     μ-loop
     loop-holds
+    rule-at-requires
     places-of-requires
     first-broken-requires
     refused-requires
     returns
-    add-rule
+    add-i
     loop-less
     loop-again
     accepted-requires
