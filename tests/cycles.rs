@@ -5,14 +5,19 @@ use crate::graphs::{edges, Tables};
 type Edge = (usize, usize);
 
 /// The kinds that are wanted, each with its reply. A closed walk "only by" some edges is not there without them.
-pub const KINDS: [(u32, &str, fn(&Graph) -> bool); 11] = [
+pub const KINDS: [(u32, &str, fn(&Graph) -> bool); 16] = [
     (209, "only by edges of a block to itself", |g| !g.undeclared(|(u, v)| u != v)),
     (209, "only by edges that enter a loop", |g| !g.undeclared(|(_, v)| !g.heads(v))),
     (209, "only by edges inside a declared loop", |g| !g.undeclared(|edge| !g.shares_loop(edge))),
     (209, "only by edges of unreachable blocks", |g| !g.undeclared(|(u, _)| g.reached[u])),
     (209, "only by edges of reachable blocks", |g| !g.undeclared(|(u, _)| !g.reached[u])),
     (209, "only by doubled edges", |g| !g.undeclared(|(u, _)| !g.doubled(u))),
-    (208, "with an undeclared closed walk", |g| g.undeclared(|_| true)),
+    (209, "with every inequality kept", |g| !g.broken(|_| true)),
+    (209, "with an inequality broken by an edge that does not return", |g| g.broken(|edge| !g.returns(edge))),
+    (209, "with an inequality broken by an edge that returns", |g| g.broken(|edge| g.returns(edge))),
+    (209, "with an inequality broken at block 0", |g| g.broken(|(u, _)| u == 0)),
+    (209, "with inequalities broken only at unreachable blocks", |g| g.broken(|_| true) && !g.broken(|(u, _)| g.reached[u])),
+    (208, "with a declared loop", |g| g.edges.iter().any(|edge| g.returns(*edge))),
     (0, "with a doubled edge that does not return", |g| g.edges.iter().any(|(u, v)| g.doubled(*u) && !g.returns((*u, *v)))),
     (0, "with a header that names itself", |g| g.edges.iter().any(|(u, v)| u == v)),
     (0, "with a return from an inner loop", |g| g.edges.iter().any(|(u, v)| g.returns((*u, *v)) && g.inner(*u) != g.inner(*v))),
@@ -77,6 +82,18 @@ impl Graph<'_> {
 
     fn doubled(&self, u: usize) -> bool {
         self.tables.blocks.first[u] == self.tables.blocks.second[u]
+    }
+
+    /// Whether an edge of which `wanted` holds breaks its inequality.
+    fn broken(&self, wanted: impl Fn(Edge) -> bool) -> bool {
+        let Tables { blocks, loops } = self.tables;
+        let needed = |(u, v): Edge| {
+            let (l, multiplier) = (self.inner(v), i128::from(loops.multiplier[self.inner(v)]));
+            let rounds = if self.returns((u, v)) { -1 } else { i128::from(loops.limit[l]) - 1 };
+            i128::from(blocks.cost[v]) + if self.heads(v) { multiplier * rounds } else { 0 }
+        };
+        let fall = |(u, v): Edge| i128::from(blocks.figure[u]) - i128::from(blocks.figure[v]);
+        self.edges.iter().any(|edge| wanted(*edge) && needed(*edge) > fall(*edge))
     }
 
     /// Whether a closed walk that no loop declares follows edges of which `wanted` holds.

@@ -1,9 +1,10 @@
 //! Named tests: the marked cases of document 01, each sentence of its "Plausible and wrong", the edges of its rules, and of document 02 the
-//! line ends of request 1, the closed walks of request 2, the solver of request 3 and, for request 4, numbers at the ends of every width.
+//! line ends of request 1, the closed walks of request 2, the solver of request 3, for request 4 numbers at the ends of every width, and the
+//! order of request 6.
 
 use crate::cycles::Graph;
 use crate::compare::Bench;
-use crate::graphs::Tables;
+use crate::graphs::{edges, Tables};
 use crate::reference::{self, MISSING};
 use crate::solving;
 use crate::texts::{mixtures, Case, Table};
@@ -152,14 +153,14 @@ fn marked(t: &mut Tester) {
     t.check("marked: A, limit 65,535", &a(|x| x.loops.limit[1] = 65_535), Refused(208, 0));
     t.check("marked: A, limit 0", &a(|x| x.loops.limit[1] = 0), Refused(202, 1));
     t.check("marked: A, limit 65,536", &a(|x| x.loops.limit[1] = 65_536), Refused(202, 1));
-    t.check("marked: A, block 2 in loop 0", &a(|x| x.blocks.inner[2] = 0), Refused(208, 2));
+    t.check("marked: A, block 2 in loop 0", &a(|x| x.blocks.inner[2] = 0), Refused(209, 0));
     t.check("marked: A, edge from 0 to 2", &a(|x| x.blocks.second[0] = 2), Refused(207, 0));
     t.walk("marked: walk 0 1 2 1 2 1 2 1 3", &plain, &[0, 1, 2, 1, 2, 1, 2, 1, 3], Accepted(30, 8));
     t.walk("marked: walk 0 1 2 1 2 1 2 1 2 1", &plain, &[0, 1, 2, 1, 2, 1, 2, 1, 2, 1], Refused(313, 9));
     t.walk("marked: walk 0 1", &plain, &[0, 1], Refused(314, 2));
     t.check("marked: two blocks, no edges", &tables_of("0,7,0,,,-10|1,9,0,,,0", "0,0,0,1,0"), Accepted(-3, 0));
     let cycle = tables_of("0,1,0,1,,3|1,1,0,2,,2|2,1,0,1,3,1|3,1,0,,,0", "0,0,0,1,0");
-    t.check("marked: a cycle of no loop that costs", &cycle, Refused(208, 2));
+    t.check("marked: a cycle of no loop that costs", &cycle, Refused(209, 0));
     t.read("marked: a cycle of no loop that costs nothing (its file still reads)", Table::Blocks, false, &lines(CYCLE_BLOCKS), 4, Accepted(4, CR_LF));
     t.check("marked: a cycle of no loop that costs nothing", &tables_of(CYCLE_BLOCKS, "0,0,0,1,0"), Refused(209, 0));
 }
@@ -723,7 +724,7 @@ fn tables(t: &mut Tester) {
         ("206 before 207", |x| (x.blocks.second[0], x.blocks.first[3]) = (2, 1), Refused(206, 3)),
         ("both successors the same", |x| x.blocks.second[0] = 1, Accepted(30, 0)),
         ("the header names itself", |x| x.blocks.second[1] = 1, Accepted(30, 0)),
-        ("a block that is no header names itself", |x| x.blocks.second[2] = 2, Refused(208, 2)),
+        ("a block that is no header names itself", |x| x.blocks.second[2] = 2, Refused(209, 0)),
         ("and costs nothing", |x| (x.blocks.second[2], x.blocks.cost[2]) = (2, 0), Refused(209, 0)),
         ("the exit in a loop", |x| x.blocks.inner[3] = 1, Accepted(30, 0)),
     ];
@@ -863,7 +864,7 @@ const CYCLES: &[(&str, &str, &[Loop], Want)] = &[
     ("a row downwards", "03214 24", &[], GOOD),
     ("a way past a loop", "01213 03", &[(0, 1, &[2])], GOOD),
     ("the exit heads a loop", "012", &[(0, 2, &[])], GOOD),
-    // lower numbers come first
+    // 206 and 207 come first
     ("the exit heads a loop and names itself", "0122", &[(0, 2, &[])], Refused(206, 2)),
     ("through block 0", "010 02", &[], Refused(206, 1)),
     ("206 before 209", "0112 22", &[], Refused(206, 2)),
@@ -881,15 +882,28 @@ fn cycles(t: &mut Tester) {
         change(&mut tables);
         tables
     };
-    t.check("cycle: 208 before 209, on the cycle", &with("0121 23", &[], |x| x.blocks.figure[2] = 1), Refused(208, 1));
-    t.check("cycle: 208 before 209, elsewhere", &with("0113", &[], |x| x.blocks.cost[3] = 1), Refused(208, 1));
-    t.check("cycle: 208 before 209, unreachable", &with("03 121", &[], |x| x.blocks.cost[1] = 1), Refused(208, 2));
+    // 209 comes ahead of 208; the same fault in a graph whose cycle is declared is 208
+    let declared: &[Loop] = &[(0, 1, &[2])];
+    let both: &[(&str, &str, &str, fn(&mut Tables), u32)] = &[
+        ("on the cycle", "0121 23", "0121 23", |x| x.blocks.figure[2] = 1, 1),
+        ("into the cycle", "0121 23", "0121 23", |x| x.blocks.figure[0] = -1, 0),
+        ("out of the cycle", "0121 23", "0121 23", |x| x.blocks.cost[3] = 1, 2),
+        ("at every block", "0121 23", "0121 23", |x| x.blocks.cost.fill(1), 0),
+        ("by the edge back", "0121 23", "0121 23", |x| (x.blocks.figure[0], x.blocks.figure[1]) = (1, 1), 2),
+        ("unreachable", "03 121", "03 121", |x| x.blocks.cost[1] = 1, 2),
+        ("at a block before an unreachable cycle", "03 121", "03 121", |x| x.blocks.cost[3] = 1, 0),
+        ("from a block to itself", "01223", "0121 13", |x| x.blocks.cost[2] = 1, 1),
+    ];
+    for (name, rows, cured, change, place) in both {
+        t.check(&format!("cycle: 209 before 208, {name}"), &with(rows, &[], *change), UNDECLARED);
+        t.check(&format!("cycle: 208, declared, {name}"), &with(cured, declared, *change), Refused(208, *place));
+    }
     t.check("cycle: the way to it costs", &with("0121 23", &[], |x| (x.blocks.cost[0], x.blocks.figure[0]) = (5, 9)), UNDECLARED);
     // an entry costs multiplier x (limit - 1)
     let header: &[Loop] = &[(0, 1, &[])];
     t.check("cycle: limit 1, multiplier 2^40", &with("0121 23", header, |x| x.loops.multiplier[1] = 1 << 40), UNDECLARED);
     t.check("cycle: limit 65,535, multiplier 0", &with("0121 23", header, |x| x.loops.limit[1] = 65_535), UNDECLARED);
-    t.check("cycle: limit 2, multiplier 1", &with("0121 23", header, |x| (x.loops.limit[1], x.loops.multiplier[1]) = (2, 1)), Refused(208, 0));
+    t.check("cycle: limit 2, multiplier 1, which breaks 208 too", &with("0121 23", header, |x| (x.loops.limit[1], x.loops.multiplier[1]) = (2, 1)), UNDECLARED);
     t.check("cycle: no edges", &free(4, [], &[]), GOOD);
 }
 
@@ -932,7 +946,8 @@ fn large_cycles(t: &mut Tester) {
     }
 }
 
-/// Every graph of four blocks with some ways to declare loops in it, beside a third way to find a closed walk.
+/// Every graph of four blocks with some ways to declare loops in it, beside a third way to find a closed walk: with figures 0, and with the
+/// figure 1 at one block, so that every edge to it breaks its inequality.
 fn small_graphs(t: &mut Tester) {
     let declared: [&[Loop]; 5] = [&[], &[(0, 1, &[])], &[(0, 1, &[2])], &[(0, 1, &[]), (0, 2, &[])], &[(0, 1, &[]), (1, 2, &[])]];
     for loops in declared {
@@ -944,12 +959,21 @@ fn small_graphs(t: &mut Tester) {
                 tables.blocks.second[u] = end(code >> (4 * u + 2) & 3);
             }
             let closed = Graph::new(&tables).undeclared(|_| true);
-            let outcome = t.bench.check(&tables).and_then(|reply| match reply.number {
-                207 => Ok(()),
-                number if (number, reply.place, reply.value) == (if closed { 209 } else { 0 }, 0, 0) => Ok(()),
-                _ => Err(format!("{reply:?}, where an undeclared closed walk is there: {closed}")),
-            });
-            t.tally.test(&format!("small graph {code:#x}, loops {loops:?}"), outcome);
+            for raised in [None, Some(0), Some(1), Some(2), Some(3)] {
+                tables.blocks.figure = (0..4).map(|u| i64::from(raised == Some(u))).collect();
+                let broken = edges(&tables.blocks).into_iter().find(|(u, v)| u != v && raised == Some(*v));
+                let wanted = match broken {
+                    _ if closed => (209, 0, 0),
+                    Some((u, _)) => (208, u as u32, 0),
+                    None => (0, 0, tables.blocks.figure[0] - tables.blocks.figure[3]),
+                };
+                let outcome = t.bench.check(&tables).and_then(|reply| match (reply.number, reply.place, reply.value) {
+                    (207, _, _) => Ok(()),
+                    got if got == wanted => Ok(()),
+                    _ => Err(format!("{reply:?}, not {wanted:?}")),
+                });
+                t.tally.test(&format!("small graph {code:#x}, loops {loops:?}, figure 1 at {raised:?}"), outcome);
+            }
         }
     }
 }

@@ -351,14 +351,14 @@ pub fn undeclared(blocks: &Blocks, loops: &Loops, around: &[Vec<usize>]) -> bool
     false
 }
 
-/// The bound of an accepted pair of tables.
+/// The bound of an accepted pair of tables, or 201 to 207, 209 and 208 in this order.
 pub fn check(blocks: &Blocks, loops: &Loops) -> Result<i64, Refusal> {
     let around = shape(blocks, loops)?;
     let n = blocks.cost.len();
-    lowest(208, n, |u| successors(blocks, u).into_iter().any(|v| !kept(blocks, loops, &around, u, v)))?;
     if undeclared(blocks, loops, &around) {
         return refuse(209, 0);
     }
+    lowest(208, n, |u| successors(blocks, u).into_iter().any(|v| !kept(blocks, loops, &around, u, v)))?;
     let bound = i128::from(blocks.cost[0]) + i128::from(blocks.figure[0]) - i128::from(blocks.figure[n - 1]);
     Ok(i64::try_from(bound).unwrap())
 }
