@@ -60,7 +60,7 @@ extern "C" {
  *
  * number   0: accepted. Else the number of the first rule that is broken:
  *          101 to 106 and 108 for a text, 201 to 209 for a pair of tables, 301 to 303 and 311 to 314 for a walk, 401 to 403 for the solver,
- *          411 for an MPS text that does not fit.
+ *          411 for an MPS text that does not fit. The rules for tables are asked in the order 201 to 207, 209, 208.
  * place    where: the record of a text (the first is 1), the block or loop of a table (0 for 201, 209, 402, 403 and 411), the index in a walk.
  *          0 when accepted.
  * value    when accepted: the count of rows, the bound, the cost, or the length of the MPS text. Else 0.
@@ -111,7 +111,8 @@ rolkeyda_reply rolkeyda_read_loops(
 /*
  * Checks a pair of tables. Accepted: `value` is the bound, and no counted run from block 0 to the last block costs more, whoever proposed
  * the figures and the multipliers. A negative bound: no such run exists. 209 where edges lead from a block back to it and none of them goes
- * back to the header of a loop from inside that loop. Stack: ROLKEYDA_STACK_CHECK.
+ * back to the header of a loop from inside that loop; 208, which comes after it, at the lowest block with an edge that breaks its inequality.
+ * Stack: ROLKEYDA_STACK_CHECK.
  */
 rolkeyda_reply rolkeyda_check(
     const uint32_t *cost, size_t cost_length,
