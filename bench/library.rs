@@ -4,6 +4,7 @@ use crate::routine::Loops;
 use crate::routine::{Blocks, Routine};
 
 #[repr(C)]
+#[derive(Debug, PartialEq)]
 pub struct Reply {
     pub number: u32,
     pub place: u32,
@@ -38,6 +39,13 @@ extern "C" {
         second: *mut u16, second_length: usize, figure: *mut i64, figure_length: usize,
     ) -> Reply;
     fn rolkeyda_check(
+        cost: *const u32, cost_length: usize, loops: *const u16, loops_length: usize, first: *const u16, first_length: usize,
+        second: *const u16, second_length: usize, figure: *const i64, figure_length: usize,
+        parent: *const u16, parent_length: usize, header: *const u16, header_length: usize,
+        limit: *const u32, limit_length: usize, multiplier: *const u64, multiplier_length: usize,
+    ) -> Reply;
+    #[cfg(before)]
+    fn before_check(
         cost: *const u32, cost_length: usize, loops: *const u16, loops_length: usize, first: *const u16, first_length: usize,
         second: *const u16, second_length: usize, figure: *const i64, figure_length: usize,
         parent: *const u16, parent_length: usize, header: *const u16, header_length: usize,
@@ -98,6 +106,25 @@ fn read_loops_by(read: ReadLoops, text: &[u8], to: &mut Loops) -> Reply {
     }
 }
 
+#[rustfmt::skip]
+type Check = unsafe extern "C" fn(
+    *const u32, usize, *const u16, usize, *const u16, usize, *const u16, usize, *const i64, usize,
+    *const u16, usize, *const u16, usize, *const u32, usize, *const u64, usize,
+) -> Reply;
+
+#[rustfmt::skip]
+fn check_by(check: Check, t: &Routine) -> Reply {
+    let (b, l) = (&t.blocks, &t.loops);
+    let (n, m) = (b.cost.len(), l.parent.len());
+    // SAFETY: each pointer comes with the length of its own column.
+    unsafe {
+        check(
+            b.cost.as_ptr(), n, b.loops.as_ptr(), n, b.first.as_ptr(), n, b.second.as_ptr(), n, b.figure.as_ptr(), n,
+            l.parent.as_ptr(), m, l.header.as_ptr(), m, l.limit.as_ptr(), m, l.multiplier.as_ptr(), m,
+        )
+    }
+}
+
 pub struct Library;
 
 #[rustfmt::skip]
@@ -122,15 +149,12 @@ impl Library {
     }
 
     pub fn check(t: &Routine) -> Reply {
-        let (b, l) = (&t.blocks, &t.loops);
-        let (n, m) = (b.cost.len(), l.parent.len());
-        // SAFETY: each pointer comes with the length of its own column.
-        unsafe {
-            rolkeyda_check(
-                b.cost.as_ptr(), n, b.loops.as_ptr(), n, b.first.as_ptr(), n, b.second.as_ptr(), n, b.figure.as_ptr(), n,
-                l.parent.as_ptr(), m, l.header.as_ptr(), m, l.limit.as_ptr(), m, l.multiplier.as_ptr(), m,
-            )
-        }
+        check_by(rolkeyda_check, t)
+    }
+
+    #[cfg(before)]
+    pub fn check_before(t: &Routine) -> Reply {
+        check_by(before_check, t)
     }
 
     pub fn solve(t: &mut Routine) -> Reply {

@@ -61,7 +61,8 @@ fn compare(title: &str, (units, unit): (f64, &str), (rounds, calls): (u32, u32),
         let one = unit.trim_end_matches('s');
         print!("  {:<24} {:>10.1} us {:>9.1} M{unit}/s {:>7.2} ns/{one}", measure.name, measure.best * 1e6, rate, 1e3 / rate);
         if i > 0 {
-            print!("   ratio {:.2} (goal {:.2})", measure.best / ours, goals[i - 1]);
+            let goal = goals.get(i - 1).map_or(String::new(), |goal| format!(" (goal {goal:.2})"));
+            print!("   ratio {:.2}{goal}", measure.best / ours);
         }
         println!();
     }
@@ -168,35 +169,49 @@ fn reading_before(routine: &Routine, plain: &str) {
     loops_before(routine);
 }
 
-// Our check beside the straight one on tables that both answer alike.
-fn checking_beside(routine: &Routine, answer: &str) {
+// Our check beside the straight one, and beside that of an older library, on tables that all answer alike.
+fn checking_beside(routine: &Routine, answer: &str, goals: &[f64]) {
     let n = routine.blocks.cost.len();
+    #[rustfmt::skip]
+    let measures = &mut [
+        Measure::new("rolkeyda_check", || keep(Library::check(black_box(routine)))),
+        Measure::new("straight Rust", || keep(straight::check(black_box(routine)))),
+        #[cfg(before)]
+        Measure::new("before", || keep(Library::check_before(black_box(routine)))),
+    ];
+    #[cfg(before)]
+    assert_eq!(Library::check(routine), Library::check_before(routine));
     compare(
         &format!("checking {n} blocks, {} loops, {} edges, {answer}", routine.loops.parent.len(), routine.edges()),
         (n as f64, "blocks"),
         (400, 20),
-        &[1.0],
-        &mut [
-            Measure::new("rolkeyda_check", || keep(Library::check(black_box(routine)))),
-            Measure::new("straight Rust", || keep(straight::check(black_box(routine)))),
-        ],
+        goals,
+        measures,
     );
 }
 
-// Tables of three sizes, which show how the time grows with the edges; then the largest with a cycle that no loop declares.
+// Tables of three sizes, which show how the time grows with the edges; then the largest with a cycle that no loop declares, and with a figure
+// that is too small. Before 208 is the reply, 209 must be ruled out, so an older library that asks 208 first is faster there.
 fn checking() {
     for n in [256, 512, 1024] {
         let routine = Routine::sized(n);
         let ours = Library::check(&routine);
         assert_eq!(ours.number, 0);
         assert_eq!(straight::check(&routine), Ok(ours.value));
-        checking_beside(&routine, &format!("bound {}", ours.value));
+        checking_beside(&routine, &format!("bound {}", ours.value), &[1.0, 0.95]);
     }
-    let routine = Routine::with_cycle(1024);
-    let ours = Library::check(&routine);
-    assert_eq!((ours.number, ours.place), (209, 0));
-    assert_eq!(straight::check(&routine), Err((209, 0)));
-    checking_beside(&routine, "refused with 209");
+    let refused = |routine: &Routine, number, place| {
+        let ours = Library::check(routine);
+        assert_eq!((ours.number, ours.place), (number, place as u32));
+        assert_eq!(straight::check(routine), Err((number, place)));
+    };
+    let cycle = Routine::with_cycle(1024);
+    refused(&cycle, 209, 0);
+    checking_beside(&cycle, "refused with 209", &[1.0, 0.95]);
+    let mut small = Routine::sized(1024);
+    small.blocks.figure[0] -= 1;
+    refused(&small, 208, 0);
+    checking_beside(&small, "refused with 208 at block 0", &[1.0]);
 }
 
 // Solves a routine by the library and by the straight solver, compares the columns and the bound, and gives both results.

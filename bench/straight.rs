@@ -86,17 +86,18 @@ struct Onward {
     incoming: [u16; 1024],
 }
 
-// 208; on the way it collects what 209 needs.
-fn inequalities(t: &Routine, around: &[u64; 64], onward: &mut Onward) -> Result<(), Refusal> {
+// The lowest block of which an edge breaks its inequality (208); on the way it collects what 209 needs, which comes first.
+fn inequalities(t: &Routine, around: &[u64; 64], onward: &mut Onward) -> Option<usize> {
     let b = &t.blocks;
+    let mut broken = None;
     for u in 0..b.cost.len() {
         for (v, end) in [b.first[u], b.second[u]].into_iter().zip(&mut onward.ends[u]) {
             if v == MISSING {
                 continue;
             }
             let (holds, returns) = edge(t, around, u, v as usize);
-            if !holds {
-                return Err((208, u));
+            if !holds && broken.is_none() {
+                broken = Some(u);
             }
             if !returns {
                 onward.incoming[v as usize] += 1;
@@ -104,7 +105,7 @@ fn inequalities(t: &Routine, around: &[u64; 64], onward: &mut Onward) -> Result<
             }
         }
     }
-    Ok(())
+    broken
 }
 
 // 209: a block is taken when all edges to it come from blocks taken before. One that is never taken lies on a closed walk or behind one. The
@@ -140,8 +141,11 @@ pub fn check(t: &Routine) -> Result<i64, Refusal> {
     let b = &t.blocks;
     let n = b.cost.len();
     let mut onward = Onward { ends: [[MISSING; 2]; 1024], incoming: [0; 1024] };
-    inequalities(t, &around, &mut onward)?;
+    let broken = inequalities(t, &around, &mut onward);
     order(n, &mut onward)?;
+    if let Some(u) = broken {
+        return Err((208, u));
+    }
     Ok(i64::from(b.cost[0]) + b.figure[0] - b.figure[n - 1])
 }
 
