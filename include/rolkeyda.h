@@ -60,7 +60,7 @@ extern "C" {
  *
  * number   0: accepted. Else the number of the first rule that is broken:
  *          101 to 106 and 108 for a text, 201 to 209 for a pair of tables, 301 to 303 and 311 to 314 for a walk, 401 to 403 for the solver,
- *          411 for an MPS text that does not fit. The rules for tables are asked in the order 201 to 207, 209, 208.
+ *          411 for an MPS text that does not fit. The rules for tables are checked in the order 201 to 207, 209, 208.
  * place    where: the record of a text (the first is 1), the block or loop of a table (0 for 201, 209, 402, 403 and 411), the index in a walk.
  *          0 when accepted.
  * value    when accepted: the count of rows, the bound, the cost, or the length of the MPS text. Else 0.

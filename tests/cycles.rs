@@ -1,4 +1,5 @@
-//! What the graph of a pair of tables has that rule 209 turns on. The comparison counts these kinds, so that the cases are known to reach them.
+//! What the graph and the inequalities of a pair of tables have that rules 209 and 208 turn on. The comparison counts these kinds, so that the cases
+//! are known to reach them.
 
 use crate::graphs::{edges, Tables};
 

@@ -166,8 +166,8 @@ pub fn bound_at_exit(cost: &[u32], figure: &[i64]) -> i64
     bound_of(cost[0], entry, exit)
 }
 
-// The reply to tables that pass 201 to 207, whose loop sets are given: 209, 208 or the bound. 209 comes first: a cycle that no loop declares
-// can break inequalities too, and no other figures would mend them.
+// The reply to tables that pass 201 to 207, whose loop sets are given: 209, 208 or the bound. 209 comes first: a cycle that no loop declares and
+// that costs something breaks an inequality too, whatever the figures are.
 fn certify(
     around: &Sets,
     cost: &[u32],

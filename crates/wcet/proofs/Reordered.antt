@@ -20,7 +20,7 @@ use Rattle.wcet.specs.Rules.{Reply, accepted, refused, check, sizesWrong
 use Rattle.wcet.specs.Run.{runCost}
 use Rattle.wcet.specs.Claim.{AllHold}
 use Rattle.wcet.specs.Cases.{routineA, cycle}
-use Rattle.wcet.proofs.Replies.{decides, past-all, passes, refused-append, behind, exchanged, numbered-broken, structure-unnumbered, closed-walks, replies-exactly}
+use Rattle.wcet.proofs.Replies.{decides, past-all, passes, refused-append, behind, exchanged, numbered-broken, structure-unnumbered, replies-exactly}
 use Rattle.wcet.proofs.Cycles.{forward-target}
 use Rattle.wcet.proofs.Potential.{remaining}
 use Rattle.wcet.proofs.Bound.{remaining-left, Facts, facts-by}
@@ -62,7 +62,7 @@ module _ (t : Routine) where
       inl (behind (structureRules t) _ _ result (sym (exchanged (inequalityRule t) (undeclaredRule t) [] result (not-found (blockCount t) (inequalityBroken t) f))))
   same-or-both true d (some u) f (accepted x) s =
       let h : AllHold (structureRules t) = passes (structureRules t) (accepted tt) x s .0 in
-      inr (both-broken h u f (closed-walks t h .0 d))
+      inr (both-broken h u f (replies-exactly t .closed h .0 d))
   same-or-both true d (some u) f (refused n p) s =
       inl (refused-append (structureRules t) _ tt result n p s ∙ sym (refused-append (structureRules t) (inequalityRule t ∷ undeclaredRule t ∷ []) tt result n p s))
 

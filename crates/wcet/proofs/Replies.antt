@@ -199,7 +199,7 @@ module _ (t : Routine) where
   structure-unnumbered n h = (λ e. omega arith, (λ e. omega arith, (λ e. omega arith, (λ e. omega arith, (λ e. omega arith, (λ e. omega arith, (λ e. omega arith, tt)))))))
 
   -- the test of 209 is exact
-  pub closed-walks : AllHold (structureRules t) → (undeclaredLoop t ≡ true) ↔ ClosedWalk t
+  closed-walks : AllHold (structureRules t) → (undeclaredLoop t ≡ true) ↔ ClosedWalk t
   closed-walks h = closed-exactly t (nested t h .target)
 
   -- 209 after 201 to 207, in the words of document 02: whatever rules follow

@@ -57,8 +57,8 @@ pub record FirstBroken (rs : List Rule) (number place : ℕ) : Type 0 where
 
 -- A pair of tables is accepted exactly where none of 201 to 209 is broken, and then with its bound; and refused exactly with the first
 -- broken rule at its lowest place. Document 02, §2: "Refusal must come exactly when such a closed walk exists, by a definition that does not
--- sort anything": where 201 to 207 hold, the test of 209 holds exactly where there is a closed walk. By the order of §6 the reply is then 209,
--- at place 0, whatever 208 says, and nowhere else.
+-- sort anything": where 201 to 207 hold, the test of 209 holds exactly where there is a closed walk. By the order of §6 the reply is 209, at
+-- place 0, exactly where 201 to 207 hold and there is one, whatever 208 says.
 pub record RepliesExactly (t : Routine) : Type 0 where
   pub accepts : (b : ℤ) → (tableReply t ≡ accepted b) ↔ (AllHold (tableRules t) × (bound t ≡ b))
   pub refuses : (number place : ℕ) → (tableReply t ≡ refused number place) ↔ FirstBroken (tableRules t) number place
