@@ -2,16 +2,16 @@
 use mathlib.Core.Path.{_≡_, refl, sym, _∙_, ap, ap₂, subst}
 use mathlib.Core.Logic.{_⊎_, inl, inr}
 use mathlib.Core.Bool.{Bool, true, false, not, _&&_, _||_, and-true, or-true, false≢true}
-use mathlib.Core.List.{List, [], _∷_}
+use mathlib.Core.List.{List, [], _∷_, map}
 use mathlib.Core.Option.{Option, none, some}
-use Prim.Native.Nat.{ℕ, zero, suc, _+_, _≤_, _<_}
+use Prim.Native.Nat.{ℕ, zero, suc, _+_, _≤_, _<_, max}
 use native.Mathlib.Decide.{ℕ-discrete}
 use native.Mathlib.Nat.{add-assoc}
 use native.Mathlib.Omega.{arith}
 use lib.Dec.{eqb}
 use lib.ListN.{length, getD}
 use borrow.Author.Tests.{eq-eqb, ne-eqb}
-use Rattle.lists.specs.Search.{if_then_else_, anyBelow, countBelow, orElse, firstBelow, tabulate}
+use Rattle.lists.specs.Search.{if_then_else_, anyBelow, countBelow, greatestBelow, orElse, firstBelow, tabulate}
 use Rattle.lists.proofs.Tests.{or-false, neither, both, either}
 
 -- ---- one number more
@@ -208,6 +208,24 @@ count-more k p q h j b fails passes =
     rw (count-remove k j q b passes)
     (let r = count-mono k p (λ i. q i && not (eqb i j)) (λ i l e. both (h i l e) (rw (ne-eqb i j (λ z. false≢true (sym fails ∙ ap p (sym z) ∙ e))))) in omega arith)
 
+-- ---- the greatest
+
+pub greatest-ext : (k : ℕ) (f g : ℕ → ℕ) → ((i : ℕ) → i < k → f i ≡ g i) → greatestBelow k f ≡ greatestBelow k g
+unfolding greatestBelow
+greatest-ext zero f g h = refl
+greatest-ext (suc k) f g h = rw (greatest-ext k f g (λ i b. h i (omega arith)), h k (omega arith))
+
+-- none is greater, and where all are at most b it is too
+pub below-greatest : (k : ℕ) (f : ℕ → ℕ) (i : ℕ) → i < k → f i ≤ greatestBelow k f
+unfolding greatestBelow
+below-greatest zero f i h = absurd (omega arith)
+below-greatest (suc k) f i h = below-suc (λ i. f i ≤ max (greatestBelow k f) (f k)) k (λ i b. let r = below-greatest k f i b in omega arith) (omega arith) i h
+
+pub greatest-below : (k b : ℕ) (f : ℕ → ℕ) → ((i : ℕ) → i < k → f i ≤ b) → greatestBelow k f ≤ b
+unfolding greatestBelow
+greatest-below zero b f h = omega arith
+greatest-below (suc k) b f h = omega (arith, greatest-below k b f (λ i l. h i (omega arith)), h k (omega arith))
+
 -- ---- tabulate
 
 pub tabulate-at {ℓ} : {A : Type ℓ} (k : ℕ) (f : ℕ → A) (d : A) (i : ℕ) → i < k → getD (tabulate k f) i d ≡ f i
@@ -228,3 +246,8 @@ tabulated [] zero f d e h = refl
 tabulated [] (suc k) f d e h = absurd (omega arith)
 tabulated (x ∷ xs) zero f d e h = absurd (omega arith)
 tabulated (x ∷ xs) (suc k) f d e h = ap₂ _∷_ (h 0 (omega arith)) (tabulated xs k (λ i. f (suc i)) d (omega arith) (λ i b. h (suc i) (omega arith)))
+
+pub tabulate-map : {A B : Type 0} (g : A → B) (k : ℕ) (f : ℕ → A) → map g (tabulate k f) ≡ tabulate k (λ i. g (f i))
+unfolding tabulate
+tabulate-map {A} {B} g zero f = refl
+tabulate-map {A} {B} g (suc k) f = ap (λ (xs : List B). g (f 0) ∷ xs) (tabulate-map g k (λ i. f (suc i)))

@@ -1,5 +1,5 @@
 -- The choice by a test, searches over the numbers 0 to k − 1, and the list of what a function gives for them.
-use Prim.Native.Nat.{ℕ, zero, suc, _+_}
+use Prim.Native.Nat.{ℕ, zero, suc, _+_, max}
 use mathlib.Core.Bool.{Bool, false, cond, _||_}
 use mathlib.Core.List.{List, [], _∷_}
 use mathlib.Core.Option.{Option, none, some}
@@ -18,6 +18,11 @@ anyBelow (suc k) p = anyBelow k p || p k
 unfoldable pub countBelow : ℕ → (ℕ → Bool) → ℕ
 countBelow zero p = 0
 countBelow (suc k) p = countBelow k p + (if p k then 1 else 0)
+
+-- the greatest of f 0 to f (k − 1), and 0 where k is 0
+unfoldable pub greatestBelow : ℕ → (ℕ → ℕ) → ℕ
+greatestBelow zero f = 0
+greatestBelow (suc k) f = max (greatestBelow k f) (f k)
 
 -- the first of two answers, if it is there, and else the second
 abbrev pub orElse : Option ℕ → Option ℕ → Option ℕ

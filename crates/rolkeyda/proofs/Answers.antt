@@ -30,6 +30,10 @@ use Rattle.mps.specs.Reply.{mpsReply, bufferAfter, Exported}
 use Rattle.writer.specs.Answers.{mpsMeaning}
 use Rattle.writer.specs.declared.MpsReply.{MpsReply}
 use Rattle.writer.specs.declared.MpsReply.the-variants as mps
+use Rattle.wcet.specs.Tally.{tallyReply, staysAfter, greatestAfter, Tallied}
+use Rattle.tally.specs.Tally.{meaning as tallyMeaning}
+use Rattle.tally.specs.declared.TallyReply.{TallyReply}
+use Rattle.tally.specs.declared.TallyReply.the-variants as tally
 use Rattle.walk.specs.Reply.{meaning}
 use Rattle.walk.specs.declared.WalkReply.{WalkReply}
 use Rattle.walk.specs.declared.WalkReply.the-variants as walk
@@ -41,8 +45,8 @@ use Rattle.limits.specs.Limits.{mostBlocks, mostLoops}
 use Rattle.tables.specs.declared.ReadReply.{ReadReply}
 use Rattle.tables.specs.declared.ReadReply.the-variants.{Rows, Refused}
 use Rattle.rolkeyda.specs.declared.Reply.{Reply}
-use Rattle.rolkeyda.specs.Replies.{acceptance, refusing, ofTables, ofText, ofWalk, endingNumber, ofReading, PlaceFits, ValueFits, TablesReplied, TablesSolved, TextReplied, WalkReplied, BlocksReplied, LoopsReplied}
-use Rattle.rolkeyda.proofs.Ranges.{Small, table-place, solve-place, text-place, text-length, walk-place, Finished, walk-finished, reading-small}
+use Rattle.rolkeyda.specs.Replies.{acceptance, refusing, ofTables, ofCount, ofWalk, endingNumber, ofReading, PlaceFits, ValueFits, TablesReplied, TablesSolved, TextReplied, WalkReplied, RecordingReplied, BlocksReplied, LoopsReplied}
+use Rattle.rolkeyda.proofs.Ranges.{Small, table-place, solve-place, text-place, text-length, walk-place, Finished, walk-finished, tally-place, tally-steps, reading-small}
 
 -- ---- 201 to 207
 
@@ -69,12 +73,12 @@ module _ {f : StructureFault} (F : PlaceFits (ofTables (refusal f))) where
 pub fault-reply : {f g : StructureFault} {r : Reply} → f ≡ g → r ≡ ofTables (refusal g) → r ≡ ofTables (refusal f)
 fault-reply e q = q ∙ ap (λ (x : StructureFault). ofTables (refusal x)) (sym e)
 
--- a fault has the same fields in the reply to tables, to a walk and of the writer, and its number is not 0
+-- a fault has the same fields in every reply, and its number is not 0
 same-fault : (f : StructureFault) → ofTables (refusal f) ≡ ofWalk (refusal f)
 same-fault f = let k = refused-by f in ap ofTables (k .2 ℤ) ∙ sym (ap ofWalk (k .2 Walked))
 
-same-text-fault : (f : StructureFault) → ofTables (refusal f) ≡ ofText (refusal f)
-same-text-fault f = let k = refused-by f in ap ofTables (k .2 ℤ) ∙ sym (ap ofText (k .2 ℕ))
+same-count-fault : (f : StructureFault) → ofTables (refusal f) ≡ ofCount (refusal f)
+same-count-fault f = let k = refused-by f in ap ofTables (k .2 ℤ) ∙ sym (ap ofCount (k .2 ℕ))
 
 fault-number : (f : StructureFault) → ofTables (refusal f) .number ≡ 0 → ⊥
 fault-number Sizes e = omega arith
@@ -162,34 +166,34 @@ value-fits n F = record { sfits = omega (ints, F .value) }
 
 -- ---- the writer
 
-module _ {a : MpsReply} (F : PlaceFits (ofText (mpsMeaning a))) where
+module _ {a : MpsReply} (F : PlaceFits (ofCount (mpsMeaning a))) where
   pub text-structure : (f : StructureFault) → a ≡ mps.Structure f → PlaceFits (ofTables (refusal f))
-  text-structure f e = rw (same-text-fault f) (record { place = rw e at (F .place) })
+  text-structure f e = rw (same-count-fault f) (record { place = rw e at (F .place) })
 
-pub text-told : {a g : MpsReply} {r : Reply} → a ≡ g → r ≡ ofText (mpsMeaning g) → r ≡ ofText (mpsMeaning a)
-text-told e q = q ∙ ap (λ (x : MpsReply). ofText (mpsMeaning x)) (sym e)
+pub text-told : {a g : MpsReply} {r : Reply} → a ≡ g → r ≡ ofCount (mpsMeaning g) → r ≡ ofCount (mpsMeaning a)
+text-told e q = q ∙ ap (λ (x : MpsReply). ofCount (mpsMeaning x)) (sym e)
 
-pub text-fault : {a : MpsReply} {r : Reply} (f : StructureFault) → a ≡ mps.Structure f → r ≡ ofTables (refusal f) → r ≡ ofText (mpsMeaning a)
-text-fault f e q = text-told e (q ∙ same-text-fault f)
+pub text-fault : {a : MpsReply} {r : Reply} (f : StructureFault) → a ≡ mps.Structure f → r ≡ ofTables (refusal f) → r ≡ ofCount (mpsMeaning a)
+text-fault f e q = text-told e (q ∙ same-count-fault f)
 
-module _ {a : MpsReply} (F : ValueFits (ofText (mpsMeaning a))) (n : ℕ) (e : a ≡ mps.Length n) where
+module _ {a : MpsReply} (F : ValueFits (ofCount (mpsMeaning a))) (n : ℕ) (e : a ≡ mps.Length n) where
   pub length-fits : SFits w64 (pos n)
   length-fits = value-fits n {m = 0} (record { value = rw e at (F .value) })
 
-  pub text-accepted : {r : Reply} → r ≡ acceptance (toZ w64 n) 0 → r ≡ ofText (mpsMeaning a)
+  pub text-accepted : {r : Reply} → r ≡ acceptance (toZ w64 n) 0 → r ≡ ofCount (mpsMeaning a)
   text-accepted q = text-told e (q ∙ ap (λ (z : ℤ). acceptance z 0) (toZ-pos w64 (length-fits .sfits)))
 
 module _ (t : Routine) (before : List ℕ) (a : MpsReply) (after : List ℕ) (C : Exported t before (mpsMeaning a) after) where
-  pub text-small : PlaceFits (ofText (mpsMeaning a)) × ValueFits (ofText (mpsMeaning a))
+  pub text-small : PlaceFits (ofCount (mpsMeaning a)) × ValueFits (ofCount (mpsMeaning a))
   text-small = go (mpsMeaning a) (C .replied)
     where
-      go : (x : Answer ℕ) → x ≡ mpsReply t (length before) → PlaceFits (ofText x) × ValueFits (ofText x)
+      go : (x : Answer ℕ) → x ≡ mpsReply t (length before) → PlaceFits (ofCount x) × ValueFits (ofCount x)
       go (accepted n) e = (record { place = omega arith }, record { value = omega (ints, text-length t (length before) n (sym e)) })
       go (refused n p) e = (record { place = omega (arith, text-place t (length before) n p (sym e)) }, record { value = omega ints })
 
-  pub text-replied : (r : Reply) → r ≡ ofText (mpsMeaning a) → TextReplied t before r after
+  pub text-replied : (r : Reply) → r ≡ ofCount (mpsMeaning a) → TextReplied t before r after
   text-replied r e = rw e record {
-    replied = ap ofText (C .replied);
+    replied = ap ofCount (C .replied);
     buffer = C .buffer ∙ ap (bufferAfter t before) (C .replied);
     reads = λ z n q. C .reads n (length-of a z n q);
     apart = λ z. C .apart (number-of a) (length-of a z (number-of a) (value-of a z));
@@ -201,16 +205,16 @@ module _ (t : Routine) (before : List ℕ) (a : MpsReply) (after : List ℕ) (C 
       number-of mps.UndeclaredLoop = 0
       number-of mps.NoRoom = 0
 
-      text-number : (f : StructureFault) → ofText (refusal f) .number ≡ 0 → ⊥
-      text-number f z = fault-number f (ap (λ (r : Reply). r .number) (same-text-fault f) ∙ z)
+      text-number : (f : StructureFault) → ofCount (refusal f) .number ≡ 0 → ⊥
+      text-number f z = fault-number f (ap (λ (r : Reply). r .number) (same-count-fault f) ∙ z)
 
-      value-of : (x : MpsReply) → ofText (mpsMeaning x) .number ≡ 0 → ofText (mpsMeaning x) .value ≡ pos (number-of x)
+      value-of : (x : MpsReply) → ofCount (mpsMeaning x) .number ≡ 0 → ofCount (mpsMeaning x) .value ≡ pos (number-of x)
       value-of (mps.Length n) z = refl
       value-of (mps.Structure f) z = absurd (text-number f z)
       value-of mps.UndeclaredLoop z = absurd (omega arith)
       value-of mps.NoRoom z = absurd (omega arith)
 
-      length-of : (x : MpsReply) → ofText (mpsMeaning x) .number ≡ 0 → (n : ℕ) → ofText (mpsMeaning x) .value ≡ pos n → mpsMeaning x ≡ accepted n
+      length-of : (x : MpsReply) → ofCount (mpsMeaning x) .number ≡ 0 → (n : ℕ) → ofCount (mpsMeaning x) .value ≡ pos n → mpsMeaning x ≡ accepted n
       length-of (mps.Length k) z n q = let same : k ≡ n = omega (ints, q) in ap accepted same
       length-of (mps.Structure f) z n q = absurd (text-number f z)
       length-of mps.UndeclaredLoop z n q = absurd (omega arith)
@@ -294,6 +298,65 @@ module _ (t : Routine) (w : List ℕ) (a : WalkReply) (C : WalkChecked t w (mean
         let q : meaning a ≡ accepted (walked t w) = x .is ∙ ap accepted (finished x .same) in
         (ap (λ (y : Answer Walked). ofWalk y .value) q, ap (λ (y : Answer Walked). ofWalk y .more) q);
   }
+
+-- ---- recordings
+
+module _ {a : TallyReply} (F : PlaceFits (ofCount (tallyMeaning a))) where
+  pub tally-structure : (f : StructureFault) → a ≡ tally.Structure f → PlaceFits (ofTables (refusal f))
+  tally-structure f e = rw (same-count-fault f) (record { place = rw e at (F .place) })
+
+  pub tally-no-block : (i : ℕ) → a ≡ tally.NoBlock i → i < 2 ^ 32
+  tally-no-block i e = rw e at (F .place)
+
+  pub tally-after-exit : (i : ℕ) → a ≡ tally.AfterExit i → i < 2 ^ 32
+  tally-after-exit i e = rw e at (F .place)
+
+  pub tally-no-edge : (i : ℕ) → a ≡ tally.NoEdge i → i < 2 ^ 32
+  tally-no-edge i e = rw e at (F .place)
+
+  pub tally-unfinished : (n : ℕ) → a ≡ tally.Unfinished n → n < 2 ^ 32
+  tally-unfinished n e = rw e at (F .place)
+
+pub tally-told : {a g : TallyReply} {r : Reply} → a ≡ g → r ≡ ofCount (tallyMeaning g) → r ≡ ofCount (tallyMeaning a)
+tally-told e q = q ∙ ap (λ (x : TallyReply). ofCount (tallyMeaning x)) (sym e)
+
+pub tally-fault : {a : TallyReply} {r : Reply} (f : StructureFault) → a ≡ tally.Structure f → r ≡ ofTables (refusal f) → r ≡ ofCount (tallyMeaning a)
+tally-fault f e q = tally-told e (q ∙ same-count-fault f)
+
+module _ {a : TallyReply} (F : ValueFits (ofCount (tallyMeaning a))) (n : ℕ) (e : a ≡ tally.Accepted n) where
+  pub steps-fit : SFits w64 (pos n)
+  steps-fit = value-fits n {m = 0} (record { value = rw e at (F .value) })
+
+  pub tally-accepted : {r : Reply} → r ≡ acceptance (toZ w64 n) 0 → r ≡ ofCount (tallyMeaning a)
+  tally-accepted q = tally-told e (q ∙ ap (λ (z : ℤ). acceptance z 0) (toZ-pos w64 (steps-fit .sfits)))
+
+module _ (t : Routine) (w stayed visited : List ℕ) (a : TallyReply) (ss gs : List ℕ) (C : Tallied t w stayed visited (tallyMeaning a) ss gs) where
+  pub tally-small : PlaceFits (ofCount (tallyMeaning a)) × ValueFits (ofCount (tallyMeaning a))
+  tally-small = go (tallyMeaning a) (C .replied)
+    where
+      go : (x : Answer ℕ) → x ≡ tallyReply t w stayed visited → PlaceFits (ofCount x) × ValueFits (ofCount x)
+      go (accepted n) e = (record { place = omega arith }, record { value = omega (ints, tally-steps t w stayed visited n (sym e)) })
+      go (refused n p) e = (record { place = omega (arith, tally-place t w stayed visited n p (sym e)) }, record { value = omega ints })
+
+  pub tally-replied : (r : Reply) → r ≡ ofCount (tallyMeaning a) → RecordingReplied t w stayed visited r ss gs
+  tally-replied r e = rw e record {
+    replied = ap ofCount (C .replied);
+    stays-column = C .stays-column ∙ ap (staysAfter t w stayed) (C .replied);
+    greatest-column = C .greatest-column ∙ ap (greatestAfter t w visited) (C .replied);
+    numbers = λ z. let k = accepting a z in C .numbers (k .0) (k .1);
+    limits = λ z most. let k = accepting a z in C .limits (k .0) (k .1) most;
+  }
+    where
+      accepting : (x : TallyReply) → ofCount (tallyMeaning x) .number ≡ 0 → (k : ℕ) × (tallyMeaning x ≡ accepted k)
+      accepting (tally.Accepted k) z = (k, refl)
+      accepting (tally.Structure f) z = absurd (fault-number f (ap (λ (r : Reply). r .number) (same-count-fault f) ∙ z))
+      accepting tally.Columns z = absurd (omega arith)
+      accepting tally.Length z = absurd (omega arith)
+      accepting (tally.NoBlock i) z = absurd (omega arith)
+      accepting tally.NotEntry z = absurd (omega arith)
+      accepting (tally.AfterExit i) z = absurd (omega arith)
+      accepting (tally.NoEdge i) z = absurd (omega arith)
+      accepting (tally.Unfinished n) z = absurd (omega arith)
 
 -- ---- readings
 

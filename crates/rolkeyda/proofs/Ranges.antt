@@ -4,7 +4,7 @@ use mathlib.Core.Path.{_≡_, refl, sym, _∙_, ap}
 use mathlib.Core.Bool.{Bool, true, false, not}
 use mathlib.Core.List.{List, [], _∷_, _++_}
 use mathlib.Core.Option.{Option, none, some}
-use Prim.Native.Nat.{ℕ, suc, _+_, _*_, _≤_}
+use Prim.Native.Nat.{ℕ, suc, _+_, _-_, _*_, _≤_}
 use native.Mathlib.Omega.{arith}
 use lib.Dec.{eqb, ltb}
 use lib.ListN.{length}
@@ -20,7 +20,8 @@ use Rattle.limits.specs.Limits.{mostBlocks, longestWalk}
 use Rattle.wcet.specs.Walk.{Walked, walked, lengthRule, walkFrom, walkBlocks, walkReply}
 use Rattle.wcet.specs.Claim.{AllHold, FinishedRun}
 use Rattle.wcet.proofs.Replies.{decides, hands-on, all-append, passes}
-use Rattle.wcet.proofs.Walks.{walks-exactly}
+use Rattle.wcet.specs.Tally.{columnsRule, recordingFrom, recordingBlocks, tallyReply}
+use Rattle.wcet.proofs.Walks.{unrefused, finishes, walks-exactly}
 use Rattle.optimum.specs.Columns.{remade}
 use Rattle.optimum.specs.Replies.{givenRules, solveRules, solveReply}
 use Rattle.mps.specs.Text.{mpsText}
@@ -183,6 +184,79 @@ walk-finished t w x e =
     let q : FinishedRun t w × (walked t w ≡ x) = walks-exactly t w (h .0) few x .0 e in
     let total : runCost t w ≡ x .total = ap (λ (y : Walked). y .total) (q .1) in
     record { run = q .0; same = sym (q .1); most = omega (arith, run-most t (headed t (h .0) .ranged) w) }
+
+-- ---- recordings
+
+recording-from-place : (t : Routine) (u i : ℕ) (w : List ℕ) (k n p : ℕ) → recordingFrom t u i w (accepted k) ≡ refused n p → p ≤ i + length w
+unfolding recordingFrom
+recording-from-place t u i [] k n p e = go (eqb u (exit t)) e
+  where
+    go : (b : Bool) → (if b then accepted k else refused 314 i) ≡ refused n p → p ≤ i + 0
+    go true e = absurd (let z : _≡_ {A = ℕ} 0 1 = cc in omega arith)
+    go false e = let there : i ≡ p = cc in omega arith
+recording-from-place t u i (v ∷ w) k n p e = go (not (ltb v (blockCount t))) (eqb u (exit t)) (not (edge t u v)) e (recording-from-place t v (suc i) w k n p)
+  where
+    rest : Answer ℕ
+    rest = recordingFrom t v (suc i) w (accepted k)
+
+    here : i ≡ p → p ≤ i + suc (length w)
+    here e = omega arith
+
+    go : (a b c : Bool) → (if a then refused 302 i else if b then refused 311 i else if c then refused 312 i else rest) ≡ refused n p
+        → (rest ≡ refused n p → p ≤ suc i + length w) → p ≤ i + suc (length w)
+    go true b c e later = here cc
+    go false true c e later = here cc
+    go false false true e later = here cc
+    go false false false e later = omega (arith, later e)
+
+recording-place : (t : Routine) (w : List ℕ) (k n p : ℕ) → recordingBlocks t w (accepted k) ≡ refused n p → p ≤ length w
+unfolding recordingBlocks
+recording-place t [] k n p e = absurd (let z : _≡_ {A = ℕ} 0 1 = cc in omega arith)
+recording-place t (v ∷ w) k n p e = go (not (ltb v (blockCount t))) (not (eqb v 0)) e
+  where
+    first : 0 ≡ p → p ≤ suc (length w)
+    first e = omega arith
+
+    go : (a b : Bool) → (if a then refused 302 0 else if b then refused 303 0 else recordingFrom t 0 1 w (accepted k)) ≡ refused n p → p ≤ suc (length w)
+    go true b e = first cc
+    go false true e = first cc
+    go false false e = omega (arith, recording-from-place t 0 1 w k n p e)
+
+from-steps : (t : Routine) (u i : ℕ) (w : List ℕ) (k n : ℕ) → recordingFrom t u i w (accepted k) ≡ accepted n → k ≡ n
+unfolding recordingFrom
+from-steps t u i [] k n e = cc (finishes (eqb u (exit t)) 314 i (accepted k) n e .1)
+from-steps t u i (v ∷ w) k n e =
+    let a = unrefused (not (ltb v (blockCount t))) 302 i _ n e in
+    let b = unrefused (eqb u (exit t)) 311 i _ n (a .1) in
+    let c = unrefused (not (edge t u v)) 312 i (recordingFrom t v (suc i) w (accepted k)) n (b .1) in
+    from-steps t v (suc i) w k n (c .1)
+
+recorded-steps : (t : Routine) (w : List ℕ) (k n : ℕ) → recordingBlocks t w (accepted k) ≡ accepted n → k ≡ n
+unfolding recordingBlocks
+recorded-steps t [] k n e = cc e
+recorded-steps t (v ∷ w) k n e =
+    let a = unrefused (not (ltb v (blockCount t))) 302 0 _ n e in
+    let b = unrefused (not (eqb v 0)) 303 0 (recordingFrom t 0 1 w (accepted k)) n (a .1) in
+    from-steps t 0 1 w k n (b .1)
+
+pub tally-place : (t : Routine) (w stayed visited : List ℕ) (n p : ℕ) → tallyReply t w stayed visited ≡ refused n p → p ≤ longestWalk
+unfolding tallyReply structureRules
+tally-place t w stayed visited n p e =
+    sized-within t longestWalk _ (recordingBlocks t w (accepted (length w - 1))) n p
+    (λ S.
+    let b : blockCount t ≤ longestWalk = omega (arith, S .few-blocks) in
+    let l : length (t .parents) ≤ longestWalk = omega (arith, S .few-loops) in
+    (l, (b, (l, (l, (b, (b, (omega arith, (omega arith, tt)))))))))
+    (λ h q. let few : length w ≤ longestWalk = length-kept w (h .1 .1 .1 .1 .1 .1 .1) in omega (arith, recording-place t w (length w - 1) n p q)) e
+
+-- an accepted step count is that of the walk
+pub tally-steps : (t : Routine) (w stayed visited : List ℕ) (k : ℕ) → tallyReply t w stayed visited ≡ accepted k → k ≤ longestWalk
+unfolding tallyReply
+tally-steps t w stayed visited k e =
+    let p = passes (structureRules t ++ columnsRule t stayed visited ∷ lengthRule w ∷ []) (recordingBlocks t w (accepted (length w - 1))) k e in
+    let h = all-append (structureRules t) (columnsRule t stayed visited ∷ lengthRule w ∷ []) (p .0) in
+    let few : length w ≤ longestWalk = length-kept w (h .1 .1) in
+    omega (arith, recorded-steps t w (length w - 1) k (p .1))
 
 -- ---- readings
 

@@ -6,14 +6,15 @@ use mathlib.Core.Bool.{Bool}
 use mathlib.Core.List.{List}
 use lib.IntN.{ℤ, pos}
 use mathlib.Core.Option.{some}
-use lib.ListN.{length, take}
+use lib.ListN.{length, getD, take}
 use lib.Signed.{_<ℤ_}
-use Rattle.wcet.specs.Table.{Routine}
+use Rattle.wcet.specs.Table.{Routine, loopCount}
 use Rattle.wcet.specs.Rules.{Reply as Answer, accepted, refused, structureRules, tableReply}
 use Rattle.wcet.specs.Run.{runCost}
 use Rattle.limits.specs.Limits.{longestWalk}
 use Rattle.wcet.specs.Walk.{Walked, walkReply}
 use Rattle.wcet.specs.Claim.{WcetBound, AllHold, FinishedRun}
+use Rattle.wcet.specs.Tally.{tallyReply, staysAfter, greatestAfter, LimitsSeen, NumbersSeen}
 use Rattle.optimum.specs.Replies.{solveReply, figuresAfter, multipliersAfter, Optimum}
 use Rattle.mps.specs.Program.{programOf}
 use Rattle.mps.specs.Mps.{readMps}
@@ -40,10 +41,10 @@ abbrev pub ofTables : Answer ℤ → Reply
 ofTables (accepted b) = acceptance b 0
 ofTables (refused n p) = refusing n p
 
--- of the writer, the length of the text
-abbrev pub ofText : Answer ℕ → Reply
-ofText (accepted n) = acceptance (pos n) 0
-ofText (refused n p) = refusing n p
+-- of the writer, the length of the text; of a recording, the walk's step count
+abbrev pub ofCount : Answer ℕ → Reply
+ofCount (accepted n) = acceptance (pos n) 0
+ofCount (refused n p) = refusing n p
 
 -- of a walk, its cost and its steps
 abbrev pub ofWalk : Answer Walked → Reply
@@ -85,7 +86,7 @@ pub record TablesSolved (t : Routine) (r : Reply) (fs : List ℤ) (ks : List ℕ
 -- Document 02, §5: the reply of the writer and the buffer after the call. Where the number is 0, the first bytes of the buffer, as many as the
 -- value says, read as the program, and no two of its rows or columns share a name.
 pub record TextReplied (t : Routine) (before : List ℕ) (r : Reply) (after : List ℕ) : Type 0 where
-  pub replied : r ≡ ofText (mpsReply t (length before))
+  pub replied : r ≡ ofCount (mpsReply t (length before))
   pub buffer : after ≡ bufferAfter t before (mpsReply t (length before))
   pub reads : r .number ≡ 0 → (n : ℕ) → r .value ≡ pos n → readMps (take n after) ≡ some (named (programOf t))
   pub apart : r .number ≡ 0 → NamesApart t
@@ -96,6 +97,15 @@ pub record WalkReplied (t : Routine) (w : List ℕ) (r : Reply) : Type 0 where
   pub replied : r ≡ ofWalk (walkReply t w)
   pub accepts : AllHold (structureRules t) → length w ≤ longestWalk → (r .number ≡ 0) ↔ FinishedRun t w
   pub cost : r .number ≡ 0 → (r .value ≡ pos (runCost t w)) × (r .more ≡ length w - 1)
+
+-- Document 02, §7: the reply to a recording and both lent columns after the call. Where the number is 0, the numbers are good for limits: with them
+-- the same walk is accepted, and with a lower one it is refused with 313.
+pub record RecordingReplied (t : Routine) (w stayed visited : List ℕ) (r : Reply) (ss gs : List ℕ) : Type 0 where
+  pub replied : r ≡ ofCount (tallyReply t w stayed visited)
+  pub stays-column : ss ≡ staysAfter t w stayed (tallyReply t w stayed visited)
+  pub greatest-column : gs ≡ greatestAfter t w visited (tallyReply t w stayed visited)
+  pub numbers : r .number ≡ 0 → NumbersSeen t w
+  pub limits : r .number ≡ 0 → ((l : ℕ) → l < loopCount t → getD gs l 0 ≤ 65535) → LimitsSeen t w gs
 
 -- Demand 1 of the reply to a text: it is the reply to what the text says, and the columns are as the reader promises.
 abbrev pub blocksAnswer : List ℕ → Bool → BlockColumns → ReadReply

@@ -1,5 +1,5 @@
-// The C library: the readers, the table checker, the walk checker, the solver and the writer, each with one reply struct for every answer. Nothing is
-// decided here; each function hands its answer over in the struct's fields.
+// The C library: the readers, the table checker, the walk checker, the tally, the solver and the writer, each with one reply struct for every answer.
+// Nothing is decided here; each function hands its answer over in the struct's fields.
 ghost use mathlib.Core.Path.{_≡_};
 ghost use Rattle.nesting.specs.Columns.{routine};
 ghost use Rattle.nesting.specs.Answers.{refusal};
@@ -7,18 +7,20 @@ ghost use Rattle.certificate.specs.Answers.{tableMeaning};
 ghost use Rattle.walk.specs.Reply.{meaning};
 ghost use Rattle.solver.specs.Answers.{solveMeaning};
 ghost use Rattle.writer.specs.Answers.{mpsMeaning};
+ghost use Rattle.tally.specs.Tally.{meaning as tallyMeaning};
 ghost use Rattle.tables.specs.Columns.{blocks, loops};
-ghost use Rattle.rolkeyda.specs.Replies.{acceptance, refusing, ofTables, ofText, ofWalk, endingNumber, ofReading, PlaceFits, ValueFits, TablesReplied, TablesSolved, TextReplied, WalkReplied, BlocksReplied, LoopsReplied};
+ghost use Rattle.rolkeyda.specs.Replies.{acceptance, refusing, ofTables, ofCount, ofWalk, endingNumber, ofReading, PlaceFits, ValueFits, TablesReplied, TablesSolved, TextReplied, WalkReplied, RecordingReplied, BlocksReplied, LoopsReplied};
 ghost use Prim.Native.Nat.{_<_, _^_};
 use certificate::TableReply;
 use csv::Ending;
 use nesting::StructureFault;
 use solver::SolveReply;
 use tables::ReadReply;
+use tally::TallyReply;
 use walk::WalkReply;
 use writer::MpsReply;
 
-// number 0: accepted, with value the row count, the bound, the cost or the length, and more the line end of a text's first record (0 CR LF, 1 LF, 2 the
+// number 0: accepted, with value the row count, the bound, the cost, the step count or the length, and more the line end of a text's first record (0 CR LF, 1 LF, 2 the
 // end of the text) or the steps of a walk. Else the number and place of a refusal.
 #[repr(C)]
 pub struct Reply {
@@ -94,8 +96,8 @@ fn solve_reply(answer: SolveReply) -> Reply
 }
 
 fn mps_reply(answer: MpsReply) -> Reply
-    requires { ⌜ PlaceFits (ofText (mpsMeaning answer)) × ValueFits (ofText (mpsMeaning answer)) ⌝ }
-    ensures { λ r. ⌜ r ≡ ofText (mpsMeaning answer) ⌝ }
+    requires { ⌜ PlaceFits (ofCount (mpsMeaning answer)) × ValueFits (ofCount (mpsMeaning answer)) ⌝ }
+    ensures { λ r. ⌜ r ≡ ofCount (mpsMeaning answer) ⌝ }
 {
     match answer {
         MpsReply::Length(length) => accepted(length as i64, 0),
@@ -119,6 +121,23 @@ fn walk_reply(answer: WalkReply) -> Reply
         WalkReply::NoEdge(i) => refused(312, i),
         WalkReply::OverLimit(i) => refused(313, i),
         WalkReply::Unfinished(length) => refused(314, length),
+    }
+}
+
+fn tally_reply(answer: TallyReply) -> Reply
+    requires { ⌜ PlaceFits (ofCount (tallyMeaning answer)) × ValueFits (ofCount (tallyMeaning answer)) ⌝ }
+    ensures { λ r. ⌜ r ≡ ofCount (tallyMeaning answer) ⌝ }
+{
+    match answer {
+        TallyReply::Accepted(steps) => accepted(steps as i64, 0),
+        TallyReply::Structure(fault) => structure(fault),
+        TallyReply::Columns => refused(421, 0),
+        TallyReply::Length => refused(301, 0),
+        TallyReply::NoBlock(i) => refused(302, i),
+        TallyReply::NotEntry => refused(303, 0),
+        TallyReply::AfterExit(i) => refused(311, i),
+        TallyReply::NoEdge(i) => refused(312, i),
+        TallyReply::Unfinished(length) => refused(314, length),
     }
 }
 
@@ -233,6 +252,42 @@ pub extern "C" fn rolkeyda_walk(
         blocks,
     );
     walk_reply(answer)
+}
+
+// The step count of a recorded walk, and for each loop the number of stays and the greatest number of header visits in one stay; or what is wrong
+// with the walk, with its tables or with the lent columns, which then stay as they were.
+#[no_mangle]
+pub extern "C" fn rolkeyda_tally(
+    cost: &[u32],
+    loops: &[u16],
+    first: &[u16],
+    second: &[u16],
+    figure: &[i64],
+    parent: &[u16],
+    header: &[u16],
+    limit: &[u32],
+    multiplier: &[u64],
+    blocks: &[u16],
+    stays: &mut [u32],
+    greatest: &mut [u32],
+) -> Reply
+    ensures { λ r. ⌜ RecordingReplied (routine (now (cost .entry)) (now (loops .entry)) (now (first .entry)) (now (second .entry)) (now (figure .entry)) (now (parent .entry)) (now (header .entry)) (now (limit .entry)) (now (multiplier .entry))) (now (blocks .entry)) (now (stays .entry)) (now (greatest .entry)) r (now (stays .exit)) (now (greatest .exit)) ⌝ }
+{
+    let answer = tally::tally(
+        cost,
+        loops,
+        first,
+        second,
+        figure,
+        parent,
+        header,
+        limit,
+        multiplier,
+        blocks,
+        stays,
+        greatest,
+    );
+    tally_reply(answer)
 }
 
 // The bound of the remade figures and multipliers, which are then in place of the given ones; or the first broken rule, and both columns stay as

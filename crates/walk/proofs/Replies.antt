@@ -2,15 +2,13 @@
 use mathlib.Core.Path.{_≡_, refl, sym, _∙_, ap}
 use mathlib.Core.Bool.{Bool, true, false, not}
 use mathlib.Core.List.{List, [], _∷_}
-use Prim.Native.Nat.{ℕ, _≤_, _<_}
+use Prim.Native.Nat.{ℕ}
 use native.Mathlib.Omega.{arith}
 use lib.Dec.{eqb, ltb}
-use borrow.Author.Tests.{eqb-true, ltb-false}
 use lib.ListN.{length, getD, drop}
 use lib.Seq.{drop-cons}
 use Rattle.limits.specs.Limits.{longestWalk}
 use Rattle.lists.specs.Search.{if_then_else_}
-use Rattle.lists.proofs.Tests.{or-false}
 use Rattle.wcet.specs.Table.{Routine, blockCount}
 use Rattle.wcet.specs.Rules.{Reply, accepted, refused, check, outOfRange, structureRules}
 use Rattle.wcet.specs.Run.{start}
@@ -23,37 +21,15 @@ use Rattle.nesting.specs.declared.StructureFault.{StructureFault}
 use Rattle.nesting.specs.declared.Structure.the-variants.{Sound, Broken}
 use Rattle.nesting.specs.declared.Structured.{Structured}
 use Rattle.nesting.proofs.Chain.{refusal-stands, sound-holds, sound-sets}
-use Rattle.walk.specs.declared.Entry.{Entry}
-use Rattle.walk.specs.declared.Entry.the-variants as entry
+use Rattle.levels.specs.declared.Depths.{Depths}
+use Rattle.levels.specs.Levels.{DepthsOf}
+use Rattle.stepping.specs.declared.Entry.{Entry}
+use Rattle.stepping.specs.declared.Entry.the-variants as entry
+use Rattle.stepping.specs.Step.{entryAnswer, Walkable}
+use Rattle.stepping.proofs.Along.{walkable, opens, in-length}
 use Rattle.walk.specs.declared.WalkReply.{WalkReply}
 use Rattle.walk.specs.declared.WalkReply.the-variants.{Structure, Length, NoBlock, NotEntry}
-use Rattle.walk.specs.Reply.{meaning, entryAnswer}
-use Rattle.walk.specs.Step.{Walkable}
-use Rattle.walk.proofs.Facts.{walkable}
-
--- what the answer to the first block makes of the reply
-abbrev opens : Entry → Reply Walked → Reply Walked
-opens entry.Entered rest = rest
-opens entry.Length rest = refused 301 0
-opens entry.NoBlock rest = refused 302 0
-opens entry.NotEntry rest = refused 303 0
-
--- 301 does not apply
-in-length : (w : List ℕ) → outOfRange 1 longestWalk (length w) ≡ false → (1 ≤ length w) × (length w ≤ longestWalk)
-in-length w e = let q = or-false (ltb (length w) 1) (ltb longestWalk (length w)) e in (ltb-false (length w) 1 (q .0), ltb-false longestWalk (length w) (q .1))
-
--- the walk starts at block 0
-pub starts : (n : ℕ) (w : List ℕ) → entryAnswer n w ≡ entry.Entered → (0 < length w) × (length w ≤ longestWalk) × (getD w 0 0 ≡ 0)
-unfolding entryAnswer
-starts n w = go (outOfRange 1 longestWalk (length w)) refl (ltb (getD w 0 0) n) (eqb (getD w 0 0) 0) refl
-  where
-    go : (a : Bool) → outOfRange 1 longestWalk (length w) ≡ a → (b d : Bool) → eqb (getD w 0 0) 0 ≡ d
-        → (if a then entry.Length else if not b then entry.NoBlock else if not d then entry.NotEntry else entry.Entered) ≡ entry.Entered
-        → (0 < length w) × (length w ≤ longestWalk) × (getD w 0 0 ≡ 0)
-    go false p true true q e = (in-length w p .0, in-length w p .1, eqb-true (getD w 0 0) 0 q)
-    go true p b d q e = absurd (let z : _≡_ {A = ℕ} 0 1 = cc in omega arith)
-    go false p false d q e = absurd (let z : _≡_ {A = ℕ} 0 1 = cc in omega arith)
-    go false p true false q e = absurd (let z : _≡_ {A = ℕ} 0 1 = cc in omega arith)
+use Rattle.walk.specs.Reply.{meaning}
 
 -- ---- the tables
 
@@ -63,11 +39,11 @@ module _ (t : Routine) (w : List ℕ) (s : Structured) (checked : StructureCheck
   reply-structure f e = walk-checked t w (refusal f) (refusal-stands t s checked f e (lengthRule w ∷ []) (walkBlocks t w (accepted (walked t w))))
 
   module _ (sound : s .answer ≡ Sound) where
-    rules : AllHold (structureRules t)
+    pub rules : AllHold (structureRules t)
     rules = sound-holds t s checked sound
 
-    pub keeps : Walkable t (s .around)
-    keeps = walkable t (s .around) rules (sound-sets t s checked sound)
+    pub keeps : (d : Depths) → DepthsOf (t .parents) d → Walkable t (s .around) (d .each)
+    keeps d deep = walkable t (s .around) d rules (sound-sets t s checked sound) deep
 
     -- ---- the length and the first block
 

@@ -1,3 +1,2 @@
--- The definitions, in reading order.
-pub mod Step
+-- The definitions that the contracts cite.
 pub mod Reply

@@ -91,7 +91,7 @@ module _ (t : Routine) (N : Nested t) where
     stepped false false true c p q = absurd (false≢true (p refl))
     stepped false false false c p q = q refl
 
-    step-visits : (w : List ℕ) (u v : ℕ) → nextCount t u v l (stayVisits t l (w ++ u ∷ [])) ≡ stayVisits t l ((w ++ u ∷ []) ++ v ∷ [])
+    pub step-visits : (w : List ℕ) (u v : ℕ) → nextCount t u v l (stayVisits t l (w ++ u ∷ [])) ≡ stayVisits t l ((w ++ u ∷ []) ++ v ∷ [])
     unfolding nextCount
     step-visits w u v =
         stepped (inside t u l) (inside t v l) (eqb (header t l) v) (stayVisits t l (w ++ u ∷ []))

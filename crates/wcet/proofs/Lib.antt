@@ -12,3 +12,6 @@ pub mod Walks
 pub mod Counts
 pub mod Around
 pub mod Steps
+pub mod Tallies
+pub mod OtherLimits
+pub mod Recordings

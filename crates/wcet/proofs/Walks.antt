@@ -27,11 +27,11 @@ use Rattle.wcet.proofs.Limits.{keeps-each, kept-limits}
 use Rattle.wcet.proofs.Bound.{finished-bounded}
 
 -- a reply that is accepted passed the test before it
-unrefused : {A : Type 0} (c : Bool) (n p : ℕ) (x : Reply A) (a : A) → (if c then refused n p else x) ≡ accepted a → (c ≡ false) × (x ≡ accepted a)
+pub unrefused : {A : Type 0} (c : Bool) (n p : ℕ) (x : Reply A) (a : A) → (if c then refused n p else x) ≡ accepted a → (c ≡ false) × (x ≡ accepted a)
 unrefused true n p x a e = absurd (let z : _≡_ {A = ℕ} 0 1 = cc in omega arith)
 unrefused false n p x a e = (refl, e)
 
-finishes : {A : Type 0} (c : Bool) (n p : ℕ) (x : Reply A) (a : A) → (if c then x else refused n p) ≡ accepted a → (c ≡ true) × (x ≡ accepted a)
+pub finishes : {A : Type 0} (c : Bool) (n p : ℕ) (x : Reply A) (a : A) → (if c then x else refused n p) ≡ accepted a → (c ≡ true) × (x ≡ accepted a)
 finishes true n p x a e = (refl, e)
 finishes false n p x a e = absurd (let z : _≡_ {A = ℕ} 0 1 = cc in omega arith)
 

@@ -7,3 +7,4 @@ pub mod Walk
 pub mod Claim
 pub mod Cases
 pub mod Stays
+pub mod Tally

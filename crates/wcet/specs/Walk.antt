@@ -23,7 +23,7 @@ abbrev pub lengthRule : List ℕ → Rule
 lengthRule w = record { number = 301; places = 1; broken = λ _. outOfRange 1 longestWalk (length w) }
 
 -- 302: "block not below n", at index i; the rest of the reply, where v is a block
-abbrev pub atBlock : Routine → ℕ → ℕ → Reply Walked → Reply Walked
+abbrev pub atBlock : {A : Type 0} → Routine → ℕ → ℕ → Reply A → Reply A
 atBlock t i v rest = if not (ltb v (blockCount t)) then refused 302 i else rest
 
 -- The blocks w that are left, the next of them at index i, from state s; `passed` is the reply where nothing is wrong.

@@ -1,17 +1,20 @@
 use Rattle.wcet.specs.Rules.{Reply, accepted}
 use Rattle.wcet.specs.Run.{start}
 use Rattle.wcet.specs.Walk.{Walked, walked, walkFrom}
-use Rattle.walk.specs.Reply.{meaning}
-use Rattle.walk.specs.declared.Answer.{Answer}
-use Rattle.walk.specs.declared.Answer.the-variants.{NoBlock, AfterExit, NoEdge, OverLimit}
+use Rattle.walk.specs.Reply.{meaning, Unread, walkColumns}
+use Rattle.stepping.specs.declared.Answer.{Answer}
+use Rattle.stepping.specs.declared.Answer.the-variants.{Moved, NoBlock, AfterExit, NoEdge}
 use Rattle.walk.specs.declared.WalkReply.{WalkReply}
 use Rattle.walk.specs.declared.WalkReply.the-variants as reply
-use Rattle.walk.specs.Step.{stateOf, outcome, stepped, Walkable, Unread, walkColumns}
+use Rattle.stepping.specs.Step.{stateOf, outcome, stepped, Walkable}
+use Rattle.stepping.specs.Step as step
+use Rattle.stepping.proofs.Depths.{nesting}
+use Rattle.stepping.proofs.Along.{standing, decided, moved}
 use Rattle.wcet.specs.Table.{Routine}
 use lib.ListN.{length, getD, drop}
 use Prim.Native.Nat.{ℕ, _-_, _<_}
 use mathlib.Core.Path.{_≡_, refl}
-use Rattle.walk.proofs.Walks.{Underway, underway-first, underway-next, standing, end-reply, decided, stop-at}
+use Rattle.walk.proofs.Walks.{Underway, underway-first, underway-next, end-reply, stop-at, stop-over}
 use native.Mathlib.Omega.{arith}
 use borrow.Author.Needs.{needs}
 use Rattle.walk.proofs.follow.Statement.{statement}
@@ -20,15 +23,19 @@ use Rattle.walk.proofs.follow.Reads as reads
 use Rattle.walk.proofs.follow.Lts as lts
 
 abbrev Inv-loop : tie.InvT-loop
-Inv-loop cost loops first second header limit around blocks last₀ i₀ last i =
-    (x : Unread) → Walkable (walkColumns cost loops first second header limit x) around → Underway (walkColumns cost loops first second header limit x) blocks (last .run) i
+Inv-loop cost loops first second header limit around depths blocks last₀ i₀ last i =
+    (x : Unread) → Walkable (walkColumns cost loops first second header limit x) around depths → Underway (walkColumns cost loops first second header limit x) blocks (last .run) i
 
 abbrev μ-loop : tie.MeasureT-loop
-μ-loop cost loops first second header limit around blocks last₀ i₀ last i = length blocks - i
+μ-loop cost loops first second header limit around depths blocks last₀ i₀ last i = length blocks - i
 
 -- the routine of the columns that are read, and of others
 abbrev table : tie.Start Inv-loop μ-loop → Unread → Routine
 table s = let a = s .args in walkColumns (a .cost .now) (a .loops .now) (a .first .now) (a .second .now) (a .header .now) (a .limit .now)
+
+-- the columns that a step does not read
+abbrev unread : tie.Start Inv-loop μ-loop → Unread → step.Unread
+unread s x = record { figures = x .figures; parents = x .parents; limits = s .args .limit .now; multipliers = x .multipliers }
 
 -- where a step has answered
 abbrev entry : tie.After-step Inv-loop μ-loop → tie.Start Inv-loop μ-loop
@@ -37,21 +44,21 @@ entry c = c .before .before .before .before .before .before .before .before .bef
 in-walk : (c : tie.After-step Inv-loop μ-loop) → c .before .before .before .before .loop .i < length (entry c .args .blocks .now)
 in-walk c = c .before .before .before .loop-test .taken
 
-module _ (c : tie.After-step Inv-loop μ-loop) (x : Unread) (S : Walkable (table (entry c) x) (entry c .args .around .now)) where
+module _ (c : tie.After-step Inv-loop μ-loop) (x : Unread) (S : Walkable (table (entry c) x) (entry c .args .around .now) (entry c .args .depths .now)) where
   before-step : Underway (table (entry c) x) (entry c .args .blocks .now) (c .before .before .before .before .loop .last .run) (c .before .before .before .before .loop .i)
   before-step = c .before .before .before .before .loop .inv x S
 
-  step-is : outcome (c .step .result) ≡ stepped (table (entry c) x) (stateOf (c .before .before .before .before .loop .last .run)) (c .before .before .before .before .loop .last .run .cost) (getD (entry c .args .blocks .now) (c .before .before .before .before .loop .i) 0)
-  step-is = c .step .ensures x S (standing before-step (omega (arith, in-walk c, entry c .pre .short)))
+  step-is : outcome (table (entry c) x) (c .step .result) ≡ stepped (table (entry c) x) (stateOf (table (entry c) x) (c .before .before .before .before .loop .last .run)) (c .before .before .before .before .loop .last .run .cost) (getD (entry c .args .blocks .now) (c .before .before .before .before .loop .i) 0)
+  step-is = c .step .ensures (unread (entry c) x) S (standing (before-step .along) (omega (arith, in-walk c, entry c .pre .short)))
 
   stop : (a : Answer) (r : WalkReply) → ((y : Reply Walked) → meaning r ≡ decided a (c .before .before .before .before .loop .i) y) → c .step .result .answer ≡ a
       → meaning r ≡ walkFrom (table (entry c) x) start 1 (drop 1 (entry c .args .blocks .now)) (accepted (walked (table (entry c) x) (entry c .args .blocks .now)))
   stop =
       let s = entry c in
       let loop = c .before .before .before .before .loop in
-      stop-at (table s x) (s .args .around .now) S (s .args .blocks .now) (loop .last .run) (loop .i) before-step (in-walk c) (c .step .result) step-is
+      stop-at (table s x) (s .args .around .now) (s .args .depths .now) S (s .args .blocks .now) (loop .last .run) (loop .i) before-step (in-walk c) (c .step .result) step-is
 
--- the block that the step is about
+-- the block that a step answers of
 abbrev index : tie.After-step Inv-loop μ-loop → ℕ
 index c = c .before .before .before .before .loop .i
 
@@ -64,19 +71,20 @@ start-requires c κs = tt
 loop-holds : tie.Need-loop-holds Inv-loop μ-loop
 loop-holds c = λ x S.
     let s = c .before .before .before .before .before .before .before .before .before in
-    underway-first (table s x) (s .args .around .now) S (s .args .blocks .now) (c .start .result) (s .pre .some) (s .pre .entry) (c .start .ensures .0) (c .start .ensures .1)
+    underway-first (table s x) (s .args .around .now) (s .args .depths .now) S (s .args .blocks .now) (c .start .result) (s .pre .some) (s .pre .entry) (c .start .ensures .0 (table s x) (S .rules)) (c .start .ensures .1)
 
-mul-step : tie.Need-mul-step Inv-loop μ-loop
-mul-step c = search needs
+mul-v : tie.Need-mul-v Inv-loop μ-loop
+mul-v c = search needs
 
-shared-slice-read-step : tie.Need-shared-slice-read-step Inv-loop μ-loop
-shared-slice-read-step c = search needs
+shared-slice-read-v : tie.Need-shared-slice-read-v Inv-loop μ-loop
+shared-slice-read-v c = search needs
 
 step-requires : tie.Need-step-requires Inv-loop μ-loop
 step-requires c κs =
-    let p = c .before .before .before .before .before .before .before .before .before .before .before .before .before .pre in
+    let s = c .before .before .before .before .before .before .before .before .before .before .before .before .before in
+    let p = s .pre in
     let loop = c .before .before .before .loop in
-    record { unread = p .unread; walkable = p .walkable; standing = standing (loop .inv (p .unread) (p .walkable)) (omega (arith, p .short, c .before .before .loop-test .taken)) }
+    record { unread = unread s (p .unread); walkable = p .walkable; standing = standing (loop .inv (p .unread) (p .walkable) .along) (omega (arith, p .short, c .before .before .loop-test .taken)) }
 
 enum-told : tie.Need-enum-told Inv-loop μ-loop
 enum-told c = search needs
@@ -99,11 +107,28 @@ enum-told-4 c = search needs
 returns-3 : tie.Need-returns-3 Inv-loop μ-loop
 returns-3 c = λ x S. stop (c .before .before) x S NoEdge (reply.NoEdge (index (c .before .before))) (λ y. refl) (search needs)
 
-enum-told-5 : tie.Need-enum-told-5 Inv-loop μ-loop
-enum-told-5 c = search needs
+-- a step that goes on ends at a block
+told : (c : tie.After-enum-told Inv-loop μ-loop) → c .before .before .step .result .answer ≡ Moved
+told c = search needs
+
+over-limit-requires : tie.Need-over-limit-requires Inv-loop μ-loop
+over-limit-requires c κs =
+    let d = c .before .before in
+    let s = entry d in
+    let x = s .pre .unread in
+    let S = s .pre .walkable in
+    let loop = d .before .before .before .before .loop in
+    let b : getD (s .args .blocks .now) (loop .i) 0 < length (s .args .cost .now)
+    = moved (table s x) (s .args .around .now) (s .args .depths .now) S (s .args .blocks .now) (loop .last .run) (loop .i) (before-step d x S .along) (in-walk d) (d .step .result) (step-is d x S) (told c) .block in
+    (omega (arith, S .ranged .sized .loops), omega (arith, S .ranged .sized .limits, nesting (table s x) (s .args .around .now) (s .args .depths .now) S .innermost _ b))
 
 returns-4 : tie.Need-returns-4 Inv-loop μ-loop
-returns-4 c = λ x S. stop (c .before .before) x S OverLimit (reply.OverLimit (index (c .before .before))) (λ y. refl) (search needs)
+returns-4 c = λ x S.
+    let d = c .before .before .before .before in
+    let s = entry d in
+    let loop = d .before .before .before .before .loop in
+    stop-over (table s x) (s .args .around .now) (s .args .depths .now) S (s .args .blocks .now) (loop .last .run) (loop .i) (before-step d x S) (in-walk d) (d .step .result) (step-is d x S) (told (c .before .before))
+    (c .before .over-limit .result) (c .before .over-limit .ensures) (c .if1 .taken)
 
 add-i : tie.Need-add-i Inv-loop μ-loop
 add-i c = search needs
@@ -113,21 +138,22 @@ loop-less c = search needs
 
 loop-again : tie.Need-loop-again Inv-loop μ-loop
 loop-again c = λ x S.
-    let d = c .before .before in
+    let d = c .before .before .before .before in
     let s = entry d in
     let loop = d .before .before .before .before .loop in
-    underway-next (table s x) (s .args .around .now) S (s .args .blocks .now) (loop .last .run) (loop .i) (before-step d x S) (in-walk d) (d .step .result) (step-is d x S) (search needs)
+    underway-next (table s x) (s .args .around .now) (s .args .depths .now) S (s .args .blocks .now) (loop .last .run) (loop .i) (before-step d x S) (in-walk d) (d .step .result) (step-is d x S) (told (c .before .before))
+    (c .before .over-limit .result) (c .before .over-limit .ensures) (c .if1 .left)
 
 finish-requires : tie.Need-finish-requires Inv-loop μ-loop
 finish-requires c κs =
     let p = c .before .before .before .before .before .before .before .before .before .before .before .before .pre in
-    (omega (arith, p .walkable .ranged .sized .some-block), c .before .before .loop .inv (p .unread) (p .walkable) .some)
+    (omega (arith, p .walkable .ranged .sized .some-block), c .before .before .loop .inv (p .unread) (p .walkable) .along .some)
 
 returns-5 : tie.Need-returns-5 Inv-loop μ-loop
 returns-5 c = λ x S.
     let s = c .before .before .before .before .before .before .before .before .before .before .before .before .before in
     let loop = c .before .before .before .loop in
-    end-reply (table s x) (s .args .around .now) S (s .args .blocks .now) (loop .last .run) (loop .i) (loop .inv x S) (omega arith) (c .finish .result) (c .finish .ensures)
+    end-reply (table s x) (s .args .around .now) (s .args .depths .now) S (s .args .blocks .now) (loop .last .run) (loop .i) (loop .inv x S) (omega arith) (c .finish .result) (c .finish .ensures)
 
 pub follow-spec : {M : Type 1} → statement M
 follow-spec =
@@ -138,8 +164,8 @@ follow-spec =
     shared-slice-read-start
     start-requires
     loop-holds
-    mul-step
-    shared-slice-read-step
+    mul-v
+    shared-slice-read-v
     step-requires
     enum-told
     enum-told-2
@@ -148,7 +174,7 @@ follow-spec =
     returns-2
     enum-told-4
     returns-3
-    enum-told-5
+    over-limit-requires
     returns-4
     add-i
     loop-less

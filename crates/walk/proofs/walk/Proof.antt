@@ -1,14 +1,22 @@
-use Rattle.walk.specs.Step.{Walkable, Unread, walkColumns}
-use Rattle.walk.specs.declared.Entry.the-variants.{Entered}
-use Rattle.wcet.specs.Table.{Routine}
-use lib.ListN.{length}
+use native.Mathlib.Omega.{arith}
 use mathlib.Core.Path.{_≡_, sym, _∙_}
-use Rattle.walk.proofs.Replies.{starts, keeps, reply-structure, reply-length, reply-no-block, reply-not-entry, reply-follow}
+use lib.ListN.{length}
+use Rattle.wcet.specs.Table.{Routine}
+use Rattle.nesting.specs.declared.Structure.the-variants.{Sound}
+use Rattle.stepping.specs.declared.Entry.the-variants.{Entered}
+use Rattle.stepping.specs.Step.{Walkable}
+use Rattle.stepping.proofs.Along.{parents-ready, starts}
+use Rattle.walk.specs.Reply.{Unread, walkColumns}
+use Rattle.walk.proofs.Replies.{rules, keeps, reply-structure, reply-length, reply-no-block, reply-not-entry, reply-follow}
 use borrow.Author.Needs.{needs}
 use Rattle.walk.proofs.walk.Statement.{statement}
 use Rattle.walk.proofs.walk.Tie as tie
 use Rattle.walk.proofs.walk.Reads as reads
 use Rattle.walk.proofs.walk.Lts as lts
+use Rattle.levels.proofs.depths_of.Reads as depths-of-reads
+use Rattle.nesting.proofs.check_structure.Reads as check-structure-reads
+use Rattle.stepping.proofs.first_block.Reads as first-block-reads
+use Rattle.walk.proofs.follow.Reads as follow-reads
 
 -- the columns that a walk does not read
 abbrev unread : tie.Start → Unread
@@ -17,11 +25,25 @@ unread s = record { figures = s .args .figure .now; parents = s .args .parent .n
 abbrev table : tie.Start → Routine
 table s = let a = s .args in walkColumns (a .cost .now) (a .loops .now) (a .first .now) (a .second .now) (a .header .now) (a .limit .now) (unread s)
 
+-- places on the way: where the structure is checked, and where the first block is taken
+abbrev entry : tie.After-check-structure → tie.Start
+entry c = c .before .before .before .before .before .before .before .before .before .before
+
+abbrev structure : tie.After-enum-told2 → tie.After-check-structure
+structure c = c .before .before .before .before .before
+
+sound : (c : tie.After-enum-told) → c .before .before .check-structure .result .answer ≡ Sound
+sound c = search needs
+
 entered : (c : tie.After-enum-told2) → c .before .before .first-block .result ≡ Entered
 entered c = search needs
 
-walkable : (c : tie.After-around2) → Walkable (table (c .before .before .before .before .before .before .before .before .before .before .before .before .before .before .before .before .before)) (c .before .before .before .before .before .before .before .check-structure .result .around)
-walkable c = search keeps
+-- with the depths of the loops the walk has all that it needs
+walkable : (c : tie.After-depths-of) → Walkable (table (entry (structure (c .before .before)))) (structure (c .before .before) .check-structure .result .around) (c .depths-of .result .each)
+walkable c =
+    let k = structure (c .before .before) in
+    let s = entry k in
+    keeps (table s) (s .args .blocks .now) (k .check-structure .result) (k .check-structure .ensures) (sound (c .before .before .before .before .before)) (c .depths-of .result) (c .depths-of .ensures)
 
 check-structure-requires : tie.Need-check-structure-requires
 check-structure-requires c κs = search needs
@@ -59,14 +81,28 @@ enum-told-5 c = search needs
 returns-4 : tie.Need-returns-4
 returns-4 c = search reply-not-entry
 
+depths-of-requires : tie.Need-depths-of-requires
+depths-of-requires c κs =
+    let k = structure (c .before) in
+    let s = entry k in
+    parents-ready (table s) (rules (table s) (s .args .blocks .now) (k .check-structure .result) (k .check-structure .ensures) (sound (c .before .before .before .before)))
+
 follow-requires : tie.Need-follow-requires
 follow-requires c κs =
-    let s = c .before .before .before .before .before .before .before .before .before .before .before .before .before .before .before .before .before in
-    let entered-at = starts (length (s .args .cost .now)) (s .args .blocks .now) (sym (c .before .before .before .before .first-block .ensures) ∙ entered (c .before .before)) in
-    record { unread = unread s; walkable = walkable c; some = entered-at .0; short = entered-at .1; entry = entered-at .2 }
+    let d = c .before .before .before in
+    let e = d .before .before in
+    let s = entry (structure e) in
+    let entered-at = starts (length (s .args .cost .now)) (s .args .blocks .now) (sym (e .before .before .first-block .ensures) ∙ entered e) in
+    record { unread = unread s; walkable = walkable d; some = entered-at .0; short = entered-at .1; entry = entered-at .2 }
 
 returns-5 : tie.Need-returns-5
-returns-5 c = search (reply-follow, c .follow .ensures (unread (c .before .before .before .before .before .before .before .before .before .before .before .before .before .before .before .before .before .before)) (walkable (c .before)))
+returns-5 c =
+    let d = c .before .before .before .before in
+    let e = d .before .before in
+    let k = structure e in
+    let s = entry k in
+    reply-follow (table s) (s .args .blocks .now) (k .check-structure .result) (k .check-structure .ensures) (sound (e .before .before .before)) (e .before .before .first-block .result) (e .before .before .first-block .ensures) (entered e)
+    (c .follow .result) (c .follow .ensures (unread s) (walkable d))
 
 pub walk-spec : {M : Type 1} → statement M
 walk-spec =
@@ -84,5 +120,6 @@ walk-spec =
     returns-3
     enum-told-5
     returns-4
+    depths-of-requires
     follow-requires
     returns-5)

@@ -1,0 +1,126 @@
+use Rattle.rolkeyda.proofs.Answers.{tally-structure, tally-no-block, tally-after-exit, tally-no-edge, tally-unfinished, tally-fault, tally-told, steps-fit, tally-accepted}
+use borrow.Author.Needs.{needs}
+use Rattle.rolkeyda.proofs.tally_reply.Statement.{statement}
+use Rattle.rolkeyda.proofs.tally_reply.Tie as tie
+use Rattle.rolkeyda.proofs.tally_reply.Reads as reads
+use Rattle.rolkeyda.proofs.tally_reply.Lts as lts
+use Rattle.rolkeyda.proofs.accepted.Reads as accepted-reads
+use Rattle.rolkeyda.proofs.refused.Reads as refused-reads
+use Rattle.rolkeyda.proofs.structure.Reads as structure-reads
+
+enum-known-answer : tie.Need-enum-known-answer
+enum-known-answer c = search needs
+
+cast-accepted : tie.Need-cast-accepted
+cast-accepted c = search (steps-fit, needs)
+
+accepted-requires : tie.Need-accepted-requires
+accepted-requires c κs = search needs
+
+enum-known-answer-2 : tie.Need-enum-known-answer-2
+enum-known-answer-2 c = search needs
+
+structure-requires : tie.Need-structure-requires
+structure-requires c κs = search tally-structure
+
+enum-told : tie.Need-enum-told
+enum-told c = search needs
+
+refused-requires : tie.Need-refused-requires
+refused-requires c κs = search needs
+
+enum-told-2 : tie.Need-enum-told-2
+enum-told-2 c = search needs
+
+refused-requires-2 : tie.Need-refused-requires-2
+refused-requires-2 c κs = search needs
+
+enum-known-answer-3 : tie.Need-enum-known-answer-3
+enum-known-answer-3 c = search needs
+
+refused-requires-3 : tie.Need-refused-requires-3
+refused-requires-3 c κs = search tally-no-block
+
+enum-told-3 : tie.Need-enum-told-3
+enum-told-3 c = search needs
+
+refused-requires-4 : tie.Need-refused-requires-4
+refused-requires-4 c κs = search needs
+
+enum-known-answer-4 : tie.Need-enum-known-answer-4
+enum-known-answer-4 c = search needs
+
+refused-requires-5 : tie.Need-refused-requires-5
+refused-requires-5 c κs = search tally-after-exit
+
+enum-known-answer-5 : tie.Need-enum-known-answer-5
+enum-known-answer-5 c = search needs
+
+refused-requires-6 : tie.Need-refused-requires-6
+refused-requires-6 c κs = search tally-no-edge
+
+enum-known-answer-6 : tie.Need-enum-known-answer-6
+enum-known-answer-6 c = search needs
+
+refused-requires-7 : tie.Need-refused-requires-7
+refused-requires-7 c κs = search tally-unfinished
+
+returns : tie.Need-returns
+returns c = search (tally-accepted, needs)
+
+returns-2 : tie.Need-returns-2
+returns-2 c = search (tally-fault, needs)
+
+returns-3 : tie.Need-returns-3
+returns-3 c = search tally-told
+
+returns-4 : tie.Need-returns-4
+returns-4 c = search tally-told
+
+returns-5 : tie.Need-returns-5
+returns-5 c = search tally-told
+
+returns-6 : tie.Need-returns-6
+returns-6 c = search tally-told
+
+returns-7 : tie.Need-returns-7
+returns-7 c = search tally-told
+
+returns-8 : tie.Need-returns-8
+returns-8 c = search tally-told
+
+returns-9 : tie.Need-returns-9
+returns-9 c = search tally-told
+
+pub tally-reply-spec : {M : Type 1} → statement M
+tally-reply-spec =
+    tie.close
+    (tie.spec
+    enum-known-answer
+    cast-accepted
+    accepted-requires
+    enum-known-answer-2
+    structure-requires
+    enum-told
+    refused-requires
+    enum-told-2
+    refused-requires-2
+    enum-known-answer-3
+    refused-requires-3
+    enum-told-3
+    refused-requires-4
+    enum-known-answer-4
+    refused-requires-5
+    enum-known-answer-5
+    refused-requires-6
+    enum-known-answer-6
+    refused-requires-7
+    returns
+    returns-2
+    returns-3
+    returns-4
+    returns-5
+    returns-6
+    returns-7
+    returns-8
+    returns-9)
