@@ -1,5 +1,6 @@
 /*
- * Rolkeyda: the importer, the final checker, a solver and a writer of MPS for a worst-case execution time (WCET) analysis, proved. For C11 and C++11.
+ * Rolkeyda: the importer, the final checker, a solver, a writer of MPS and a tally of recordings for a worst-case execution time (WCET) analysis,
+ * proved. For C11 and C++11.
  *
  * Every function takes any input, checks it and returns a rolkeyda_reply by value. No function allocates, keeps a pointer or fails in
  * another way. A column is a pointer to its first value and then its length, a count of values (of bytes for a text). A column or text that a
@@ -54,16 +55,17 @@ extern "C" {
 #define ROLKEYDA_STACK_WALK 8192u
 #define ROLKEYDA_STACK_SOLVE 81920u
 #define ROLKEYDA_STACK_MPS 16384u
+#define ROLKEYDA_STACK_TALLY 8192u
 
 /*
  * The reply of every function (`Reply` in the crate).
  *
  * number   0: accepted. Else the number of the first rule that is broken:
  *          101 to 106 and 108 for a text, 201 to 209 for a pair of tables, 301 to 303 and 311 to 314 for a walk, 401 to 403 for the solver,
- *          411 for an MPS text that does not fit. The rules for tables are checked in the order 201 to 207, 209, 208.
- * place    where: the record of a text (the first is 1), the block or loop of a table (0 for 201, 209, 402, 403 and 411), the index in a walk.
- *          0 when accepted.
- * value    when accepted: the count of rows, the bound, the cost, or the length of the MPS text. Else 0.
+ *          411 for an MPS text that does not fit, 421 for the columns of a tally. The rules for tables are checked in the order 201 to 207, 209, 208.
+ * place    where: the record of a text (the first is 1), the block or loop of a table (0 for 201, 209, 402, 403, 411 and 421), the index in a
+ *          walk. 0 when accepted.
+ * value    when accepted: the count of rows, the bound, the cost, the length of the MPS text, or the steps of a walk that is tallied. Else 0.
  * more     when a text is accepted: the line end of record 1, a header included (ROLKEYDA_CR_LF, ROLKEYDA_LF or ROLKEYDA_END_OF_TEXT).
  *          When a walk is accepted: its steps, the length less one. Else 0.
  */
@@ -176,6 +178,28 @@ rolkeyda_reply rolkeyda_mps(
     const uint32_t *limit, size_t limit_length,
     const uint64_t *multiplier, size_t multiplier_length,
     uint8_t *text, size_t text_length);
+
+/*
+ * Tells which limits a recording shows: a walk from block 0 to the last block, over tables that keep rules 201 to 207 (208 and 209 are not checked).
+ * The limits in the table count only for their range, so there is no 313. Accepted: `value` is the walk's steps. For each loop `stays` has the
+ * number of stretches of the walk inside the loop, each as long as can be, and `greatest` the greatest number of visits to the header in one of them;
+ * a loop that is never entered has 0 and 0, and loop 0 has 1 and 1. If all of `greatest` are at most 65,535 and are put in as limits, with 1 in place
+ * of 0, rolkeyda_walk accepts the walk; with any that is 2 or more lowered, not below 1, it says 313. Refused: neither column is changed. 421 where
+ * a column has a length other than the number of loops, after 207 and before 301. Stack: ROLKEYDA_STACK_TALLY.
+ */
+rolkeyda_reply rolkeyda_tally(
+    const uint32_t *cost, size_t cost_length,
+    const uint16_t *loops, size_t loops_length,
+    const uint16_t *first, size_t first_length,
+    const uint16_t *second, size_t second_length,
+    const int64_t *figure, size_t figure_length,
+    const uint16_t *parent, size_t parent_length,
+    const uint16_t *header, size_t header_length,
+    const uint32_t *limit, size_t limit_length,
+    const uint64_t *multiplier, size_t multiplier_length,
+    const uint16_t *blocks, size_t blocks_length,
+    uint32_t *stays, size_t stays_length,
+    uint32_t *greatest, size_t greatest_length);
 
 #ifdef __cplusplus
 }

@@ -6,6 +6,7 @@ use crate::lent::Yard;
 use crate::random::Random;
 use crate::reference::{self, Refusal};
 use crate::solving;
+use crate::tallying::{self, Seen};
 use crate::texts::{Case, Table};
 
 /// The memory that is lent, and the generator for old contents and places.
@@ -13,6 +14,7 @@ pub struct Bench {
     text: Yard,
     columns: Vec<Yard>,
     list: Yard,
+    seen: [Yard; 2],
     random: Random,
 }
 
@@ -50,6 +52,7 @@ impl Bench {
             text: Yard::new(512 * 1024),
             columns: (0..9).map(|_| column()).collect(),
             list: Yard::new(2 * 1_048_600),
+            seen: [column(), column()],
             random: Random::new(seed),
         }
     }
@@ -185,6 +188,22 @@ impl Bench {
         agree(reply(wanted), given)?;
         self.kept(&after)?;
         Ok((given, after))
+    }
+
+    /// The reply, and what it says of the walk. The lent columns have these lengths and other numbers in them, which a refusal leaves there.
+    pub fn tally(&mut self, tables: &Tables, list: &[u16], lengths: [usize; 2]) -> Result<(Reply, Result<Seen, Refusal>), String> {
+        let wanted = tallying::tally(&tables.blocks, &tables.loops, list, lengths);
+        let columns = self.lend(tables);
+        let Bench { list: walk, seen: [stays, greatest], random, .. } = self;
+        let old = lengths.map(|length| (0..length).map(|_| random.next() as u32).collect::<Vec<u32>>());
+        let given = abi::tally(columns, walk.lend(list, random), stays.lend(&old[0], random), greatest.lend(&old[1], random));
+        let after = wanted.as_ref().map_or([&old[0], &old[1]], |seen| [&seen.stays, &seen.greatest]);
+        agree(reply(wanted.as_ref().map(|seen| (seen.steps as i64, 0)).map_err(|refusal| *refusal)), given)?;
+        unchanged(walk.holds(list), "the walk")?;
+        unchanged(stays.holds(after[0]), "column stays")?;
+        unchanged(greatest.holds(after[1]), "column greatest")?;
+        self.kept(tables)?;
+        Ok((given, wanted))
     }
 
     /// The program of the tables as MPS, in a lent buffer of this length that has other bytes in it. What is wanted is the text, or a refusal.

@@ -638,15 +638,19 @@ pub fn tables(random: &mut Random) -> Tables {
 /// A walk: a run of the graph by a plan, then perhaps one change.
 pub fn walk(random: &mut Random, tables: &Tables) -> Vec<u16> {
     let Tables { blocks, loops } = tables;
-    let n = blocks.first.len();
+    if random.once_in(40) {
+        return Vec::new();
+    }
+    let list = run(random, blocks, loops);
+    changed(random, blocks.first.len(), list)
+}
+
+/// Perhaps one change in a walk of a routine with `n` blocks.
+fn changed(random: &mut Random, n: usize, mut list: Vec<u16>) -> Vec<u16> {
     let any = |random: &mut Random| {
         let inside = random.below(n + 1);
         random.pick(&[0, 1, n.wrapping_sub(1), n, n + 1, 1023, 1024, 65_534, 65_535, inside, inside, inside]) as u16
     };
-    if random.once_in(40) {
-        return Vec::new();
-    }
-    let mut list = run(random, blocks, loops);
     match random.below(12) {
         0 => list.truncate(random.below(list.len() + 1)),
         1 => {
@@ -673,6 +677,34 @@ pub fn walk(random: &mut Random, tables: &Tables) -> Vec<u16> {
         _ => {}
     }
     list
+}
+
+/// A recording: a run that takes no heed of limits, then perhaps one change.
+pub fn recording(random: &mut Random, tables: &Tables) -> Vec<u16> {
+    let list = wander(random, &tables.blocks);
+    if random.once_in(3) { changed(random, tables.blocks.first.len(), list) } else { list }
+}
+
+/// A run from block 0 by any edges, not to the exit if it can be helped, and after some blocks by the shortest way there.
+fn wander(random: &mut Random, blocks: &Blocks) -> Vec<u16> {
+    let n = blocks.first.len();
+    let mut list = vec![0u16];
+    if n == 0 || blocks.second.len() < n {
+        return list;
+    }
+    let far = distances(blocks);
+    let turn = if random.once_in(40) { 3000 } else { random.pick(&[0, 5, 20, 100, 300]) };
+    let stays = random.once_in(2);
+    loop {
+        let u = usize::from(list[list.len() - 1]);
+        let mut ends: Vec<usize> = [blocks.first[u], blocks.second[u]].into_iter().map(usize::from).filter(|v| *v < n && far[*v] < n).collect();
+        ends.sort_by_key(|v| far[*v]);
+        if ends.is_empty() || list.len() > turn + n {
+            return list;
+        }
+        let near = list.len() >= turn || (ends.len() == 2 && ends[0] != n - 1 && random.once_in(if stays { 4 } else { 2 }));
+        list.push(ends[if near { 0 } else { ends.len() - 1 }] as u16);
+    }
 }
 
 /// A run from block 0 that follows edges, by one of some habits: toward the exit, round and round, up to the limits, or past them.

@@ -8,10 +8,12 @@ mod graphs;
 mod lent;
 mod named;
 mod random;
+mod recordings;
 mod reference;
 mod searching;
 mod solvable;
 mod solving;
+mod tallying;
 mod texts;
 
 use compare::Bench;
@@ -21,12 +23,13 @@ use std::collections::BTreeMap;
 use std::sync::atomic::{AtomicU64, Ordering};
 use texts::{Case, Table};
 
-const FUNCTIONS: [&str; 5] = ["read_blocks", "read_loops", "check", "walk", "solve"];
+const FUNCTIONS: [&str; 6] = ["read_blocks", "read_loops", "check", "walk", "solve", "tally"];
 const CHECK: usize = 2;
 const WALK: usize = 3;
 const SOLVE: usize = 4;
-const NUMBERS: [u32; 27] = [
-    0, 101, 102, 103, 104, 105, 106, 108, 201, 202, 203, 204, 205, 206, 207, 208, 209, 301, 302, 303, 311, 312, 313, 314, 401, 402, 403,
+const TALLY: usize = 5;
+const NUMBERS: [u32; 28] = [
+    0, 101, 102, 103, 104, 105, 106, 108, 201, 202, 203, 204, 205, 206, 207, 208, 209, 301, 302, 303, 311, 312, 313, 314, 401, 402, 403, 421,
 ];
 /// The readers' replies that depend on line ends: number and more. Each is wanted from both readers, with and without a header row.
 const LINE_ENDS: [(&str, u32, u64); 4] = [("CR LF", 0, 0), ("LF", 0, 1), ("text", 0, 2), ("108", 108, 0)];
@@ -50,7 +53,7 @@ const OFTEN: u64 = 100;
 
 /// What came out so far: counts of replies by function and number, and the failures.
 #[derive(Default)]
-pub struct Tally {
+pub struct Score {
     passed: u64,
     failed: u64,
     replies: BTreeMap<(u32, usize), u64>,
@@ -61,10 +64,13 @@ pub struct Tally {
     /// The solved tables of each kind of `solvable::KINDS`, and those that were tried in each way of `TRIED`.
     solved: [u64; solvable::KINDS.len()],
     tried: [u64; TRIED.len()],
+    /// The recordings of each kind of `recordings::KINDS`, and what was tried with the limits that they show, by `recordings::TRIED`.
+    recorded: [u64; recordings::KINDS.len()],
+    put_in: [u64; recordings::TRIED.len()],
     failures: Vec<String>,
 }
 
-impl Tally {
+impl Score {
     fn count(&mut self, function: usize, outcome: Result<abi::Reply, String>, input: impl FnOnce() -> String) {
         match outcome {
             Ok(reply) => {
@@ -97,7 +103,7 @@ impl Tally {
         }
     }
 
-    fn add(&mut self, other: Tally) {
+    fn add(&mut self, other: Score) {
         self.passed += other.passed;
         self.failed += other.failed;
         for (key, count) in other.replies {
@@ -106,8 +112,9 @@ impl Tally {
         for (key, count) in other.reads {
             *self.reads.entry(key).or_default() += count;
         }
-        let sums = self.graphs.iter_mut().chain(&mut self.solved).chain(&mut self.tried);
-        for (sum, count) in sums.zip(other.graphs.into_iter().chain(other.solved).chain(other.tried)) {
+        let sums = self.graphs.iter_mut().chain(&mut self.solved).chain(&mut self.tried).chain(&mut self.recorded).chain(&mut self.put_in);
+        let counts = other.graphs.into_iter().chain(other.solved).chain(other.tried).chain(other.recorded).chain(other.put_in);
+        for (sum, count) in sums.zip(counts) {
             *sum += count;
         }
         self.failures.extend(other.failures);
@@ -160,27 +167,27 @@ fn shorter(bench: &mut Bench, case: &Case) -> Case {
     best
 }
 
-fn read(bench: &mut Bench, tally: &mut Tally, case: &Case) {
+fn read(bench: &mut Bench, score: &mut Score, case: &Case) {
     let mut outcome = bench.read(case);
     let mut shown = String::new();
     if outcome.is_err() {
-        let best = if tally.failed < 5 { shorter(bench, case) } else { case.clone() };
+        let best = if score.failed < 5 { shorter(bench, case) } else { case.clone() };
         shown = show_case(&best);
         outcome = bench.read(&best).and(outcome);
     }
     let function = usize::from(case.table == Table::Loops);
     if let Ok(reply) = &outcome {
-        *tally.reads.entry((reply.number, reply.more, function, case.header_row)).or_default() += 1;
+        *score.reads.entry((reply.number, reply.more, function, case.header_row)).or_default() += 1;
     }
-    tally.count(function, outcome, || shown);
+    score.count(function, outcome, || shown);
 }
 
 /// Whether the solver's certificate holds what request 3 promises, as far as that can be tried on these tables without it. `given` is the bound
 /// of the certificate that they had, if it was accepted.
-fn promised(tally: &mut Tally, made: &Tables, bound: i64, given: Option<i64>) -> Result<(), String> {
+fn promised(score: &mut Score, made: &Tables, bound: i64, given: Option<i64>) -> Result<(), String> {
     if let Some(given) = given {
-        tally.tried[OTHER] += 1;
-        tally.tried[GREATER] += u64::from(given > bound);
+        score.tried[OTHER] += 1;
+        score.tried[GREATER] += u64::from(given > bound);
         if given < bound {
             return Err(format!("the bound is {bound}, and an accepted certificate gives {given}"));
         }
@@ -191,7 +198,7 @@ fn promised(tally: &mut Tally, made: &Tables, bound: i64, given: Option<i64>) ->
     if searching::states(made) > MOST_STATES {
         return Ok(());
     }
-    tally.tried[SEARCHED] += 1;
+    score.tried[SEARCHED] += 1;
     let most = searching::most_of_a_run(made);
     if most != Some(bound) {
         return Err(format!("the bound is {bound}, and the greatest cost of a finished counted run is {most:?}"));
@@ -207,97 +214,103 @@ fn promised(tally: &mut Tally, made: &Tables, bound: i64, given: Option<i64>) ->
 
 /// Solves tables. What the solver made is accepted with the same bound, is made again from itself and from any other values, and some run costs
 /// the bound. Gives back the bound.
-fn solve(bench: &mut Bench, tally: &mut Tally, random: &mut Random, tables: &Tables, given: Option<i64>) -> Option<i64> {
+fn solve(bench: &mut Bench, score: &mut Score, random: &mut Random, tables: &Tables, given: Option<i64>) -> Option<i64> {
     let outcome = bench.solve(tables);
     let Some((reply, made)) = outcome.clone().ok().filter(|(reply, _)| reply.number == 0) else {
-        tally.count(SOLVE, outcome.map(|(reply, _)| reply), || show_tables(tables));
+        score.count(SOLVE, outcome.map(|(reply, _)| reply), || show_tables(tables));
         return None;
     };
     let solved = solvable::Solved::new(&made);
-    for (count, (_, is)) in tally.solved.iter_mut().zip(solvable::KINDS) {
+    for (count, (_, is)) in score.solved.iter_mut().zip(solvable::KINDS) {
         *count += u64::from(is(&solved));
     }
-    let outcome = promised(tally, &made, reply.value, given).map(|()| reply);
-    tally.count(SOLVE, outcome, || show_tables(&made));
+    let outcome = promised(score, &made, reply.value, given).map(|()| reply);
+    score.count(SOLVE, outcome, || show_tables(&made));
     let same = |again: abi::Reply| if again == reply { Ok(again) } else { Err(format!("{again:?}, where the solver said {reply:?}")) };
-    tally.count(CHECK, bench.check(&made).and_then(same), || show_tables(&made));
+    score.count(CHECK, bench.check(&made).and_then(same), || show_tables(&made));
     let mut other = made.clone();
     solvable::scramble(random, &mut other);
     for tables in [&made, &other] {
         let again = bench.solve(tables).and_then(|(again, after)| if after == made { same(again) } else { Err("other columns".to_string()) });
-        tally.count(SOLVE, again, || show_tables(tables));
+        score.count(SOLVE, again, || show_tables(tables));
     }
     if let Some(run) = solving::costly_run(&made.blocks, &made.loops, LONGEST_RUN) {
-        tally.tried[WALKED] += 1;
+        score.tried[WALKED] += 1;
         let walked = bench.walk(&made, &run).and_then(|walked| match (walked.number, walked.value) {
             (0, cost) if cost == reply.value => Ok(walked),
             _ => Err(format!("{walked:?}, where the bound is {}", reply.value)),
         });
-        tally.count(WALK, walked, || format!("{}\n  walk {run:?}", show_tables(&made)));
+        score.count(WALK, walked, || format!("{}\n  walk {run:?}", show_tables(&made)));
     }
     Some(reply.value)
 }
 
 /// The cases of one seed.
-fn part(seed: u64, rounds: usize) -> Tally {
+fn part(seed: u64, rounds: usize) -> Score {
     let mut random = Random::new(seed);
     let mut bench = Bench::new(!seed);
-    let mut tally = Tally::default();
-    // the solver's cases have a generator of their own
+    let mut score = Score::default();
+    // the solver's cases have a generator of their own, and so has the tally
     let mut solving = Random::new(seed + (1 << 32));
+    let mut recording = Random::new(seed + (2 << 32));
     for round in 0..rounds {
         for table in [Table::Blocks, Table::Loops] {
             let case = texts::case(&mut random, table);
-            read(&mut bench, &mut tally, &case);
+            read(&mut bench, &mut score, &case);
             let case = texts::noise(&mut random, table);
-            read(&mut bench, &mut tally, &case);
+            read(&mut bench, &mut score, &case);
         }
         let tables = graphs::tables(&mut random);
         let checked = bench.check(&tables);
         let bound = checked.as_ref().ok().filter(|reply| reply.number == 0).map(|reply| reply.value);
         if let Ok(reply) = &checked {
-            tally.count_graph(&tables, reply.number);
+            score.count_graph(&tables, reply.number);
         }
+        let number = checked.as_ref().map_or(0, |reply| reply.number);
         // most walks on tables that are good for walks
-        let walks = if checked.as_ref().is_ok_and(|reply| (201..208).contains(&reply.number)) { 1 } else { 4 };
-        tally.count(CHECK, checked, || show_tables(&tables));
+        let walks = if (201..208).contains(&number) { 1 } else { 4 };
+        score.count(CHECK, checked, || show_tables(&tables));
         // the solver's bound is no greater
-        let bound = solve(&mut bench, &mut tally, &mut solving, &tables, bound).or(bound);
+        let bound = solve(&mut bench, &mut score, &mut solving, &tables, bound).or(bound);
         for _ in 0..walks {
             let list = graphs::walk(&mut random, &tables);
             let outcome = bench.walk(&tables, &list).and_then(|reply| match bound {
                 Some(bound) if reply.number == 0 && reply.value > bound => Err(format!("cost {} over the bound {bound}", reply.value)),
                 _ => Ok(reply),
             });
-            tally.count(WALK, outcome, || format!("{}\n  walk {list:?}", show_tables(&tables)));
+            score.count(WALK, outcome, || format!("{}\n  walk {list:?}", show_tables(&tables)));
+            let recorded = graphs::recording(&mut recording, &tables);
+            for list in [list, recorded] {
+                recordings::tally(&mut bench, &mut score, &mut recording, &tables, &list, number);
+            }
         }
         let small = solvable::small(&mut solving);
-        solve(&mut bench, &mut tally, &mut solving, &small, None);
+        solve(&mut bench, &mut score, &mut solving, &small, None);
         if round % 20 == 0 {
             let heavy = solvable::heavy(&mut solving);
-            solve(&mut bench, &mut tally, &mut solving, &heavy, None);
+            solve(&mut bench, &mut score, &mut solving, &heavy, None);
         }
         if round % 400 == 0 {
             let large = graphs::large(&mut solving);
-            solve(&mut bench, &mut tally, &mut solving, &large, None);
+            solve(&mut bench, &mut score, &mut solving, &large, None);
         }
     }
-    tally
+    score
 }
 
 /// The cases of so many seeds, on all processors.
-fn cases(parts: u64) -> Vec<Tally> {
+fn cases(parts: u64) -> Vec<Score> {
     let next = AtomicU64::new(0);
     let threads = std::thread::available_parallelism().map_or(1, usize::from);
     std::thread::scope(|scope| {
         let work = || {
-            let mut tally = Tally::default();
+            let mut score = Score::default();
             loop {
                 let seed = next.fetch_add(1, Ordering::Relaxed);
                 if seed >= parts {
-                    return tally;
+                    return score;
                 }
-                tally.add(part(seed + 1, ROUNDS));
+                score.add(part(seed + 1, ROUNDS));
             }
         };
         let handles: Vec<_> = (0..threads).map(|_| scope.spawn(work)).collect();
@@ -306,37 +319,47 @@ fn cases(parts: u64) -> Vec<Tally> {
 }
 
 /// Prints how often the cases reached each reply and each kind of table, and tests that this is often enough.
-fn report(tally: &mut Tally) {
+fn report(score: &mut Score) {
     let cells = |counts: &[u64]| counts.iter().map(|count| format!(" {count:>12}")).collect::<String>();
     println!("reply {}", FUNCTIONS.map(|name| format!(" {name:>12}")).concat());
     for number in NUMBERS {
-        let counts: Vec<u64> = (0..FUNCTIONS.len()).map(|function| tally.replies.get(&(number, function)).copied().unwrap_or(0)).collect();
+        let counts: Vec<u64> = (0..FUNCTIONS.len()).map(|function| score.replies.get(&(number, function)).copied().unwrap_or(0)).collect();
         println!("{number:>5} {}", cells(&counts));
-        tally.often(&format!("reply {number}"), counts.iter().sum());
+        score.often(&format!("reply {number}"), counts.iter().sum());
         // the solver gives these
         if matches!(number, 0 | 201..=207 | 209 | 401..=403) {
-            tally.often(&format!("reply {number} of solve"), counts[SOLVE]);
+            score.often(&format!("reply {number} of solve"), counts[SOLVE]);
+        }
+        // and the tally these
+        if matches!(number, 0 | 201..=207 | 301..=303 | 311 | 312 | 314 | 421) {
+            score.often(&format!("reply {number} of tally"), counts[TALLY]);
         }
     }
     println!("the readers by line end, each without and with a header row");
     for (name, number, more) in LINE_ENDS {
         let kinds = [(0, false), (0, true), (1, false), (1, true)];
-        let counts = kinds.map(|(function, header_row)| tally.reads.get(&(number, more, function, header_row)).copied().unwrap_or(0));
+        let counts = kinds.map(|(function, header_row)| score.reads.get(&(number, more, function, header_row)).copied().unwrap_or(0));
         println!("{name:>5} {}", cells(&counts));
         for ((function, header_row), count) in kinds.into_iter().zip(counts) {
-            tally.often(&format!("{}, header row {header_row}, {name}", FUNCTIONS[function]), count);
+            score.often(&format!("{}, header row {header_row}, {name}", FUNCTIONS[function]), count);
         }
     }
     println!("the checked tables by what their graphs have");
-    for ((number, name, _), count) in cycles::KINDS.into_iter().zip(tally.graphs) {
+    for ((number, name, _), count) in cycles::KINDS.into_iter().zip(score.graphs) {
         println!("{number:>5}  {count:>12} {name}");
-        tally.often(&format!("reply {number} {name}"), count);
+        score.often(&format!("reply {number} {name}"), count);
     }
     println!("the solved tables by what they have, and by what was tried");
     let names = solvable::KINDS.into_iter().map(|(name, _)| name).chain(TRIED);
-    for (name, count) in names.zip(tally.solved.into_iter().chain(tally.tried)) {
+    for (name, count) in names.zip(score.solved.into_iter().chain(score.tried)) {
         println!("       {count:>12} {name}");
-        tally.often(&format!("solved: {name}"), count);
+        score.often(&format!("solved: {name}"), count);
+    }
+    println!("the recordings by what they have, and by what was tried with their limits");
+    let names = recordings::KINDS.into_iter().map(|(name, _)| name).chain(recordings::TRIED);
+    for (name, count) in names.zip(score.recorded.into_iter().chain(score.put_in)) {
+        println!("       {count:>12} {name}");
+        score.often(&format!("recordings: {name}"), count);
     }
 }
 
@@ -351,17 +374,17 @@ fn main() {
         }
     }
     let parts = if long { 10 * PARTS } else { PARTS };
-    let mut tally = Tally::default();
-    named::all(&mut tally);
-    println!("named tests: {} passed, {} failed", tally.passed, tally.failed);
+    let mut score = Score::default();
+    named::all(&mut score);
+    println!("named tests: {} passed, {} failed", score.passed, score.failed);
     for result in cases(parts) {
-        tally.add(result);
+        score.add(result);
     }
-    report(&mut tally);
-    tally.failures.sort_by_key(|what| what.len());
-    for what in tally.failures.iter().take(10) {
+    report(&mut score);
+    score.failures.sort_by_key(|what| what.len());
+    for what in score.failures.iter().take(10) {
         println!("FAILED {what}");
     }
-    println!("{} passed, {} failed", tally.passed, tally.failed);
-    std::process::exit(i32::from(tally.failed > 0));
+    println!("{} passed, {} failed", score.passed, score.failed);
+    std::process::exit(i32::from(score.failed > 0));
 }

@@ -21,6 +21,8 @@ mod solvable;
 #[allow(dead_code)]
 mod solving;
 #[allow(dead_code)]
+mod tallying;
+#[allow(dead_code)]
 mod texts;
 mod writing;
 

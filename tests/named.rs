@@ -1,14 +1,15 @@
 //! Named tests: the marked cases of document 01, each sentence of its "Plausible and wrong", the edges of its rules, and of document 02 the
-//! line ends of request 1, the closed walks of request 2, the solver of request 3, for request 4 numbers at the ends of every width, and the
-//! order of request 6.
+//! line ends of request 1, the closed walks of request 2, the solver of request 3, for request 4 numbers at the ends of every width, the
+//! order of request 6, and the recordings of request 7.
 
 use crate::cycles::Graph;
 use crate::compare::Bench;
 use crate::graphs::{edges, Tables};
+use crate::recordings;
 use crate::reference::{self, MISSING};
 use crate::solving;
 use crate::texts::{mixtures, Case, Table};
-use crate::Tally;
+use crate::Score;
 
 /// The wanted reply: value and more, or number and place.
 #[derive(Clone, Copy, Debug, PartialEq)]
@@ -26,7 +27,7 @@ const TEXT: u64 = 2;
 
 struct Tester<'a> {
     bench: Bench,
-    tally: &'a mut Tally,
+    score: &'a mut Score,
 }
 
 impl Tester<'_> {
@@ -35,7 +36,7 @@ impl Tester<'_> {
             let given = if reply.number == 0 { Accepted(reply.value, reply.more) } else { Refused(reply.number, reply.place) };
             if given == wanted { Ok(()) } else { Err(format!("wanted {wanted:?}, got {given:?}")) }
         });
-        self.tally.test(name, outcome);
+        self.score.test(name, outcome);
     }
 
     /// Reads a text into columns of the given length.
@@ -53,6 +54,28 @@ impl Tester<'_> {
     fn walk(&mut self, name: &str, tables: &Tables, list: &[u16], wanted: Want) {
         let outcome = self.bench.walk(tables, list);
         self.expect(name, wanted, outcome);
+    }
+
+    /// A walk that is tallied, with the stays and the greatest numbers by loop. What request 7 promises of the limits that it shows is tried too.
+    fn tally(&mut self, name: &str, tables: &Tables, list: &[u16], stays: &[u32], greatest: &[u32]) {
+        let outcome = self.bench.tally(tables, list, [tables.loops.parent.len(); 2]);
+        let seen = outcome.as_ref().ok().and_then(|(_, answer)| answer.clone().ok());
+        self.expect(name, Accepted(list.len() as i64 - 1, 0), outcome.map(|(reply, _)| reply));
+        let columns = match &seen {
+            Some(seen) if seen.stays == stays && seen.greatest == greatest => Ok(()),
+            _ => Err(format!("{seen:?}")),
+        };
+        self.score.test(&format!("{name}, its columns"), columns);
+        if let Some(seen) = seen {
+            let outcome = recordings::promised(&mut self.bench, self.score, tables, list, &seen);
+            self.score.test(&format!("{name}, the limits that it shows"), outcome);
+        }
+    }
+
+    /// A walk that is refused, with lent columns of these lengths.
+    fn untallied(&mut self, name: &str, tables: &Tables, list: &[u16], lengths: [usize; 2], number: u32, place: u32) {
+        let outcome = self.bench.tally(tables, list, lengths).map(|(reply, _)| reply);
+        self.expect(name, Refused(number, place), outcome);
     }
 
     /// A table that the solver refuses, also with other figures and multipliers where the given ones are not the reason.
@@ -79,7 +102,7 @@ impl Tester<'_> {
         } else {
             Err(format!("figures {:?}, multipliers {:?}", made.blocks.figure, made.loops.multiplier))
         };
-        self.tally.test(&format!("{name}, its columns"), columns);
+        self.score.test(&format!("{name}, its columns"), columns);
         self.check(&format!("{name}, checked"), &made, Accepted(bound, 0));
         if let Some(run) = solving::costly_run(&made.blocks, &made.loops, 1_048_576) {
             self.walk(&format!("{name}, a run that costs the bound"), &made, &run, Accepted(bound, run.len() as u64 - 1));
@@ -87,8 +110,8 @@ impl Tester<'_> {
     }
 }
 
-pub fn all(tally: &mut Tally) {
-    let mut tester = Tester { bench: Bench::new(1), tally };
+pub fn all(score: &mut Score) {
+    let mut tester = Tester { bench: Bench::new(1), score };
     marked(&mut tester);
     plausible_and_wrong(&mut tester);
     texts(&mut tester);
@@ -106,6 +129,12 @@ pub fn all(tally: &mut Tally) {
     solver_order(&mut tester);
     solver_columns(&mut tester);
     solver_small_graphs(&mut tester);
+    recorded(&mut tester);
+    recorded_past_limits(&mut tester);
+    recorded_wrongly(&mut tester);
+    lent_to_tally(&mut tester);
+    recorded_long(&mut tester);
+    recorded_small_graphs(&mut tester);
 }
 
 /// Records written with '|' for CR LF.
@@ -146,7 +175,7 @@ fn marked(t: &mut Tester) {
         && plain.loops.header == [0, 1]
         && plain.loops.limit == [1, 4]
         && plain.loops.multiplier == [0, 8];
-    t.tally.test("marked: columns of A", if by_hand { Ok(()) } else { Err("other columns".to_string()) });
+    t.score.test("marked: columns of A", if by_hand { Ok(()) } else { Err("other columns".to_string()) });
     t.check("marked: A", &plain, Accepted(30, 0));
     t.check("marked: A, figure of block 0 is 27", &a(|x| x.blocks.figure[0] = 27), Refused(208, 0));
     t.check("marked: A, multiplier 7", &a(|x| x.loops.multiplier[1] = 7), Refused(208, 2));
@@ -522,12 +551,12 @@ fn line_ends(t: &mut Tester) {
 
         for case in mixtures(table) {
             let outcome = t.bench.read(&case).map(|_| ());
-            t.tally.test(&format!("line ends, all mixtures: {}", crate::show_case(&case)), outcome);
+            t.score.test(&format!("line ends, all mixtures: {}", crate::show_case(&case)), outcome);
         }
     }
     let by_lf = reference::read_blocks(&lf(A_BLOCKS), false, 4).map(|(blocks, _)| blocks) == Ok(a(|_| ()).blocks)
         && reference::read_loops(&lf(A_LOOPS), false, 2).map(|(loops, _)| loops) == Ok(a(|_| ()).loops);
-    t.tally.test("line ends: columns of A with LF", if by_lf { Ok(()) } else { Err("other columns".to_string()) });
+    t.score.test("line ends: columns of A with LF", if by_lf { Ok(()) } else { Err("other columns".to_string()) });
 }
 
 /// The edges of lengths: fields, rows, texts and columns.
@@ -959,7 +988,7 @@ fn small_graph(t: &mut Tester, name: &str, tables: &mut Tables, closed: bool, ra
         got if got == wanted => Ok(()),
         _ => Err(format!("{reply:?}, not {wanted:?}")),
     });
-    t.tally.test(&format!("{name}, figure 1 at {raised:?}"), outcome);
+    t.score.test(&format!("{name}, figure 1 at {raised:?}"), outcome);
 }
 
 /// Every graph of four blocks with some ways to declare loops in it, beside a third way to find a closed walk.
@@ -981,29 +1010,39 @@ fn small_graphs(t: &mut Tester) {
     }
 }
 
+/// Walks that routine A refuses, whatever its limit.
+const WRONG_WALKS: &[(&str, &[u16], (u32, u32))] = &[
+    ("of length 0", &[], (301, 0)),
+    ("of block 0 alone", &[0], (314, 1)),
+    ("that starts at 1", &[1], (303, 0)),
+    ("that starts at the exit", &[3], (303, 0)),
+    ("that starts at n", &[4], (302, 0)),
+    ("that starts at 65,535", &[65_535], (302, 0)),
+    ("with block n", &[0, 1, 4], (302, 2)),
+    ("past the exit", &[0, 1, 3, 1], (311, 3)),
+    ("past the exit to the exit", &[0, 1, 3, 3], (311, 3)),
+    ("past the exit to no block", &[0, 1, 3, 4], (302, 3)),
+    ("past the exit to 65,535", &[0, 1, 3, 65_535], (302, 3)),
+    ("without an edge", &[0, 2], (312, 1)),
+    ("that stays at block 0", &[0, 0], (312, 1)),
+    ("without an edge, later", &[0, 1, 2, 3], (312, 3)),
+    ("that ends in the loop", &[0, 1, 2], (314, 3)),
+];
+
+/// An outer loop 1 (block 1) around block 2, which heads loop 2 and names itself; both limits 65,535.
+fn deep() -> Tables {
+    tables_of(
+        "0,1000000,0,1,,0|1,1000000,1,2,3,0|2,1000000,2,2,1,0|3,1000000,0,,,0",
+        "0,0,0,1,0|1,0,1,65535,0|2,1,2,65535,0",
+    )
+}
+
 fn walks(t: &mut Tester) {
     let plain = a(|_| ());
-    let cases: &[(&str, &[u16], Want)] = &[
-        ("of length 0", &[], Refused(301, 0)),
-        ("of block 0 alone", &[0], Refused(314, 1)),
-        ("that starts at 1", &[1], Refused(303, 0)),
-        ("that starts at the exit", &[3], Refused(303, 0)),
-        ("that starts at n", &[4], Refused(302, 0)),
-        ("that starts at 65,535", &[65_535], Refused(302, 0)),
-        ("with block n", &[0, 1, 4], Refused(302, 2)),
-        ("past the exit", &[0, 1, 3, 1], Refused(311, 3)),
-        ("past the exit to the exit", &[0, 1, 3, 3], Refused(311, 3)),
-        ("past the exit to no block", &[0, 1, 3, 4], Refused(302, 3)),
-        ("past the exit to 65,535", &[0, 1, 3, 65_535], Refused(302, 3)),
-        ("without an edge", &[0, 2], Refused(312, 1)),
-        ("that stays at block 0", &[0, 0], Refused(312, 1)),
-        ("without an edge, later", &[0, 1, 2, 3], Refused(312, 3)),
-        ("the shortest", &[0, 1, 3], Accepted(6, 2)),
-        ("that ends in the loop", &[0, 1, 2], Refused(314, 3)),
-    ];
-    for (name, list, wanted) in cases {
-        t.walk(&format!("a walk {name}"), &plain, list, *wanted);
+    for (name, list, (number, place)) in WRONG_WALKS {
+        t.walk(&format!("a walk {name}"), &plain, list, Refused(*number, *place));
     }
+    t.walk("the shortest walk", &plain, &[0, 1, 3], Accepted(6, 2));
     t.walk("a walk where 208 applies", &a(|x| x.blocks.figure[0] = 27), &[0, 1, 3], Accepted(6, 2));
     t.walk("a walk of length 0 where 202 applies", &a(|x| x.loops.limit[1] = 0), &[], Refused(202, 1));
     t.walk("a walk where a figure is out of range", &a(|x| x.blocks.figure[0] = i64::MAX), &[0, 1, 3], Refused(203, 0));
@@ -1011,11 +1050,7 @@ fn walks(t: &mut Tester) {
     // 65,535 is no block, though it stands for a missing successor
     t.walk("a walk to a missing successor", &plain, &[0, 65_535], Refused(302, 1));
 
-    // an outer loop 1 (block 1) around block 2, which heads loop 2 and names itself; both limits 65,535
-    let deep = tables_of(
-        "0,1000000,0,1,,0|1,1000000,1,2,3,0|2,1000000,2,2,1,0|3,1000000,0,,,0",
-        "0,0,0,1,0|1,0,1,65535,0|2,1,2,65535,0",
-    );
+    let deep = deep();
     let long = |length: usize, stay: usize| {
         let mut list = vec![0u16, 1];
         let mut left = stay;
@@ -1388,11 +1423,262 @@ fn solver_small_graphs(t: &mut Tester) {
                 tables.blocks.second[u] = end(code >> (4 * u + 2) & 3);
             }
             let outcome = t.bench.solve(&tables).and_then(|(reply, made)| match reply.number {
-                0 => crate::promised(t.tally, &made, reply.value, None),
+                0 => crate::promised(t.score, &made, reply.value, None),
                 207 | 209 | 401 => Ok(()),
                 _ => Err(format!("{reply:?}")),
             });
-            t.tally.test(&format!("solver: small graph {code:#x}, loops {loops:?}"), outcome);
+            t.score.test(&format!("solver: small graph {code:#x}, loops {loops:?}"), outcome);
+        }
+    }
+}
+
+/// Request 7 of document 02, counted by hand: edges and loops as above, a walk, then stays and greatest numbers by loop.
+const RECORDED: &[(&str, &str, &[Loop], &str, &[u32], &[u32])] = &[
+    ("loop 0 alone", "0123", &[], "0123", &[1], &[1]),
+    ("two blocks", "01", &[], "01", &[1], &[1]),
+    ("one visit", "0121 13", &[(0, 1, &[2])], "013", &[1, 1], &[1, 1]),
+    ("three visits", "0121 13", &[(0, 1, &[2])], "0121213", &[1, 1], &[1, 3]),
+    ("a loop that is never entered", "0121 03 23", &[(0, 1, &[2])], "03", &[1, 0], &[1, 0]),
+    ("an unreachable loop", "03 121 23", &[(0, 1, &[2])], "03", &[1, 0], &[1, 0]),
+    ("an inner loop that is never entered", "01221 13", &[(0, 1, &[]), (1, 2, &[])], "013", &[1, 1, 0], &[1, 1, 0]),
+    // a header that names itself
+    ("a header that names itself, one visit", "0112", &[(0, 1, &[])], "012", &[1, 1], &[1, 1]),
+    ("a header that names itself, four visits", "0112", &[(0, 1, &[])], "011112", &[1, 1], &[1, 4]),
+    // several stays, by a closed walk that no loop declares
+    ("two stays, one visit each", "01121 23", &[(0, 1, &[])], "012123", &[1, 2], &[1, 1]),
+    ("the first of two stays has most visits", "01121 23", &[(0, 1, &[])], "01112123", &[1, 2], &[1, 3]),
+    ("the last of two stays has most visits", "01121 23", &[(0, 1, &[])], "01211123", &[1, 2], &[1, 3]),
+    ("the second of three stays has most visits", "01121 23", &[(0, 1, &[])], "011211121123", &[1, 3], &[1, 3]),
+    // loops in loops
+    ("an inner loop in each round", "01223 31 34", &[(0, 1, &[3]), (1, 2, &[])], "0122312231234", &[1, 1, 3], &[1, 3, 2]),
+    ("an inner loop in one round", "012 15 23 24 31 41", &[(0, 1, &[2, 4]), (1, 3, &[])], "012412312415", &[1, 1, 1], &[1, 4, 1]),
+    ("back to the outer header from the inner loop", "0121 23", &[(0, 1, &[]), (1, 2, &[])], "01212123", &[1, 1, 3], &[1, 3, 1]),
+    ("back past the header between", "01231 34", &[(0, 1, &[]), (1, 2, &[]), (2, 3, &[])], "01231234", &[1, 1, 2, 2], &[1, 2, 1, 1]),
+    ("back to the middle header", "012332 24", &[(0, 1, &[]), (1, 2, &[]), (2, 3, &[])], "012332324", &[1, 1, 1, 2], &[1, 1, 3, 2]),
+    ("out of both loops at once", "01223", &[(0, 1, &[]), (1, 2, &[])], "012223", &[1, 1, 1], &[1, 1, 3]),
+    ("out of one loop into the next", "011223", &[(0, 1, &[]), (0, 2, &[])], "0112223", &[1, 1, 1], &[1, 2, 3]),
+    ("from one inner loop to another and back", "01232 34", &[(0, 1, &[]), (1, 2, &[]), (1, 3, &[])], "012323234", &[1, 1, 3, 3], &[1; 4]),
+    // a stay under way at the end
+    ("the exit inside a loop", "0121 13", &[(0, 1, &[2, 3])], "01213", &[1, 1], &[1, 2]),
+    ("the exit inside a loop, at the second stay", "012 13 21 31 34", &[(0, 1, &[3, 4])], "01213134", &[1, 2], &[1, 2]),
+    ("the exit inside two loops", "01223", &[(0, 1, &[]), (1, 2, &[3])], "012223", &[1, 1, 1], &[1, 1, 3]),
+    ("the exit as a header", "012", &[(0, 2, &[])], "012", &[1, 1], &[1, 1]),
+    ("the exit as an inner header", "0121 13", &[(0, 1, &[2]), (1, 3, &[])], "0121213", &[1, 1, 1], &[1, 3, 1]),
+    // 209 is not asked for
+    ("doubled edges", "01 01 12 12 21 23", &[(0, 1, &[2])], "012123", &[1, 1], &[1, 2]),
+    ("a closed walk that no loop declares", "0121 23", &[], "012123", &[1], &[1]),
+    ("a closed walk in a loop that no loop declares", "01221 13", &[(0, 1, &[2])], "01222213", &[1, 1], &[1, 2]),
+];
+
+/// The walk that a row of digits writes.
+fn digits(row: &str) -> Vec<u16> {
+    row.bytes().map(|byte| u16::from(byte - b'0')).collect()
+}
+
+fn recorded(t: &mut Tester) {
+    for (name, rows, loops, walk, stays, greatest) in RECORDED {
+        let edges = ways(rows);
+        let n = edges.iter().map(|(_, v)| v + 1).max().unwrap();
+        let mut tables = free(n, edges, loops);
+        tables.blocks.cost.iter_mut().zip(0..).for_each(|(cost, u)| *cost = 1 << u);
+        // the limits play no part
+        for limit in [1, 2, 65_535] {
+            tables.loops.limit[1..].fill(limit);
+            t.tally(&format!("recorded: {name}, limits {limit}"), &tables, &digits(walk), stays, greatest);
+        }
+    }
+    let row: Vec<u16> = (0..=64).collect();
+    t.tally("recorded: 1,024 blocks", &straight(1024), &(0..1024).collect::<Vec<u16>>(), &[1], &[1]);
+    t.tally("recorded: 64 loops", &headed(64, false), &row, &[1; 64], &[1; 64]);
+    t.tally("recorded: depth 16", &headed(16, true), &row[..=16], &[1; 16], &[1; 16]);
+    // each header names itself: header l is visited l times
+    let mut itself = headed(64, false);
+    (1..64).for_each(|l| itself.blocks.second[l] = l as u16);
+    let walk: Vec<u16> = (0..=64).flat_map(|u| vec![u; if u == 64 { 1 } else { usize::from(u).max(1) }]).collect();
+    let visits: Vec<u32> = (0..64).map(|l| l.max(1)).collect();
+    t.tally("recorded: 64 loops whose headers name themselves", &itself, &walk, &[1; 64], &visits);
+}
+
+/// Routine A and walks past its limit; what the limit, the figures and the multipliers have to do with it.
+fn recorded_past_limits(t: &mut Tester) {
+    let rounds = |visits: usize| [&[0][..], &[1, 2].repeat(visits - 1), &[1, 3]].concat();
+    for visits in 1..8 {
+        for limit in [1, 2, 3, 4, 5, 6, 7, 65_535] {
+            let name = format!("recorded: A, {visits} visits, limit {limit}");
+            t.tally(&name, &a(|x| x.loops.limit[1] = limit), &rounds(visits), &[1, 1], &[1, visits as u32]);
+        }
+    }
+    let two = nested();
+    t.tally("recorded: two stays at their limits", &two, &[0, 1, 2, 2, 3, 1, 2, 2, 3, 4], &[1, 1, 2], &[1, 2, 2]);
+    t.tally("recorded: a third visit in one stay", &two, &[0, 1, 2, 2, 3, 1, 2, 2, 2, 3, 4], &[1, 1, 2], &[1, 2, 3]);
+    for limit in [0, 65_536, u32::MAX] {
+        t.untallied(&format!("recorded: A, limit {limit}"), &a(|x| x.loops.limit[1] = limit), &rounds(2), [2, 2], 202, 1);
+    }
+    t.untallied("recorded: limit 2 for loop 0", &a(|x| x.loops.limit[0] = 2), &rounds(2), [2, 2], 202, 0);
+    let cases: &[(&str, fn(&mut Tables))] = &[
+        ("208 applies at block 0", |x| x.blocks.figure[0] = 27),
+        ("208 applies at block 2", |x| x.loops.multiplier[1] = 7),
+        ("209 applies", |x| x.blocks.inner[2] = 0),
+        ("a figure of 2^60", |x| x.blocks.figure[2] = 1 << 60),
+        ("a multiplier of 2^40", |x| x.loops.multiplier[1] = 1 << 40),
+    ];
+    for (name, change) in cases {
+        // with block 2 in loop 0 each visit is a stay
+        let tables = a(*change);
+        let (stays, greatest) = if tables.blocks.inner[2] == 0 { (3, 1) } else { (1, 3) };
+        t.tally(&format!("recorded: A where {name}"), &tables, &rounds(3), &[1, stays], &[1, greatest]);
+    }
+}
+
+/// Walks and tables that are refused as in document 01, and in which order.
+fn recorded_wrongly(t: &mut Tester) {
+    for (name, list, (number, place)) in WRONG_WALKS {
+        for limit in [1, 65_535] {
+            let tables = a(|x| x.loops.limit[1] = limit);
+            t.untallied(&format!("recorded: a walk {name}, limit {limit}"), &tables, list, [2, 2], *number, *place);
+        }
+        // 421 comes before all of these
+        for lengths in [[1, 2], [2, 3], [0, 0]] {
+            t.untallied(&format!("recorded: a walk {name}, lengths {lengths:?}"), &a(|_| ()), list, lengths, 421, 0);
+        }
+    }
+    // where rolkeyda_walk says 313
+    let past = [0, 1, 2, 1, 2, 1, 2, 1, 2, 1];
+    for (name, more, number, place) in [
+        ("ends in the loop", &[][..], 314, 10),
+        ("goes to no block", &[4], 302, 10),
+        ("has no edge", &[0], 312, 10),
+        ("goes past the exit", &[3, 1], 311, 11),
+    ] {
+        let list = [&past[..], more].concat();
+        t.walk(&format!("a walk past the limit that {name}"), &a(|_| ()), &list, Refused(313, 9));
+        t.untallied(&format!("recorded: a walk past the limit that {name}"), &a(|_| ()), &list, [2, 2], number, place);
+    }
+    let broken: &[(&str, Tables, u32, u32)] = &[
+        ("no blocks", Tables { blocks: Default::default(), ..straight(2) }, 201, 0),
+        ("no loops", Tables { loops: Default::default(), ..straight(2) }, 201, 0),
+        ("1,025 blocks", straight(1025), 201, 0),
+        ("65 loops", headed(65, false), 201, 0),
+        ("a multiplier of 2^40 + 1", a(|x| x.loops.multiplier[1] = (1 << 40) + 1), 202, 1),
+        ("cost 1,000,001", a(|x| x.blocks.cost[3] = 1_000_001), 203, 3),
+        ("a figure of -2^60 - 1", a(|x| x.blocks.figure[3] = -(1 << 60) - 1), 203, 3),
+        ("a header in another loop", a(|x| x.loops.header[1] = 3), 204, 1),
+        ("depth 17", headed(17, true), 205, 16),
+        ("an edge out of the exit", a(|x| x.blocks.first[3] = 1), 206, 3),
+        ("an edge past the header", a(|x| x.blocks.second[0] = 2), 207, 0),
+    ];
+    for (name, tables, number, place) in broken {
+        let m = tables.loops.parent.len();
+        for (list, lengths) in [(&[0, 1, 3][..], [m, m]), (&[], [m, m]), (&[0, 1, 3], [m, m + 1]), (&[], [0, 0]), (&[65_535], [m + 1, m])] {
+            t.untallied(&format!("recorded: {name}, walk {list:?}, lengths {lengths:?}"), tables, list, lengths, *number, *place);
+        }
+    }
+    for (name, change) in COLUMNS {
+        for (more, lengths) in [(false, [2, 2]), (true, [2, 2]), (false, [1, 1]), (true, [3, 3])] {
+            let tables = a(|x| change(x, more));
+            t.untallied(&format!("recorded: column {name}, longer {more}, lengths {lengths:?}"), &tables, &[0, 1, 3], lengths, 201, 0);
+        }
+    }
+}
+
+/// Lent columns of all lengths.
+fn lent_to_tally(t: &mut Tester) {
+    for (name, m, tables) in [("one loop", 1, straight(3)), ("two loops", 2, headed(2, false)), ("64 loops", 64, headed(64, false))] {
+        let walk: Vec<u16> = (0..tables.blocks.cost.len() as u16).collect();
+        let lengths = [0, 1, 2, m - 1, m, m + 1, 63, 64, 65, 2 * m, 1024, 4096];
+        for stays in lengths {
+            for greatest in lengths {
+                let name = format!("tally: {name}, lengths {stays} and {greatest}");
+                if (stays, greatest) == (m, m) {
+                    t.tally(&name, &tables, &walk, &vec![1; m], &vec![1; m]);
+                } else {
+                    t.untallied(&name, &tables, &walk, [stays, greatest], 421, 0);
+                }
+            }
+        }
+    }
+}
+
+/// The longest recordings, and numbers around and over 65,535.
+fn recorded_long(t: &mut Tester) {
+    let most = 1_048_576;
+    let deep = deep();
+    let stay = |visits: usize| [&[0, 1][..], &vec![2; visits], &[1, 3]].concat();
+    let outer = |visits: usize| [&[0u16][..], &[1, 2].repeat(visits - 1), &[1, 3]].concat();
+    for visits in [65_534, 65_535, 65_536, 65_537, 131_072, most - 4] {
+        let seen = visits as u32;
+        t.tally(&format!("recorded: {visits} visits in one stay"), &deep, &stay(visits), &[1, 1, 1], &[1, 2, seen]);
+    }
+    for visits in [65_535, 65_536, 65_537, most / 2 - 1] {
+        let seen = visits as u32;
+        t.tally(&format!("recorded: {visits} visits and as many stays but one"), &deep, &outer(visits), &[1, 1, seen - 1], &[1, seen, 1]);
+    }
+    // a number over 65,535 is no limit
+    for limit in [65_536, most as u32 - 4] {
+        let tables = { let mut x = deep.clone(); x.loops.limit[2] = limit; x };
+        t.walk(&format!("recorded: the limit {limit} put in"), &tables, &stay(limit as usize), Refused(202, 2));
+        t.untallied(&format!("recorded: the limit {limit} in the table"), &tables, &stay(limit as usize), [3, 3], 202, 2);
+    }
+    // the greatest number once at the first, once at the last and once at a stay between
+    let stays = |visits: [usize; 3]| [&[0][..], &visits.map(|count| [vec![1], vec![2; count]].concat()).concat(), &[1, 3]].concat();
+    for visits in [[65_535, 2, 1], [3, 65_535, 65_534], [1, 70_000, 65_535], [65_536, 1, 65_537]] {
+        let greatest = visits.into_iter().max().unwrap() as u32;
+        t.tally(&format!("recorded: stays of {visits:?} visits"), &deep, &stays(visits), &[1, 1, 3], &[1, 4, greatest]);
+    }
+    let full = stay(most - 4);
+    t.untallied("recorded: 1,048,577 blocks", &deep, &stay(most - 3), [3, 3], 301, 0);
+    t.untallied("recorded: 1,048,577 blocks, a column too short", &deep, &stay(most - 3), [3, 2], 421, 0);
+    t.untallied("recorded: 1,048,576 blocks, a column too long", &deep, &full, [4, 3], 421, 0);
+    t.untallied("recorded: 1,048,576 blocks, the last no block", &deep, &[&full[..most - 1], &[4]].concat(), [3, 3], 302, most as u32 - 1);
+    t.untallied("recorded: 1,048,576 blocks, the last without an edge", &deep, &[&full[..most - 1], &[0]].concat(), [3, 3], 312, most as u32 - 1);
+    t.untallied("recorded: 1,048,576 blocks before the exit", &deep, &[&full[..most - 1], &[2]].concat(), [3, 3], 314, most as u32);
+    t.untallied("recorded: 1,048,575 blocks", &deep, &full[..most - 1], [3, 3], 314, most as u32 - 1);
+    // nothing of a recording is left for the next
+    let outermost = outer(most / 2 - 1);
+    for (name, list, stays, greatest) in [
+        ("the longest stay", &full[..], [1, 1, 1], [1, 2, most as u32 - 4]),
+        ("the most stays after it", &outermost, [1, 1, most as u32 / 2 - 2], [1, most as u32 / 2 - 1, 1]),
+        ("a short one after both", &[0, 1, 3], [1, 1, 0], [1, 1, 0]),
+    ] {
+        t.tally(&format!("recorded: {name}"), &deep, list, &stays, &greatest);
+    }
+}
+
+/// All walks of at most `left` further blocks from the last block of `walk` to block 3.
+fn walks_on(tables: &Tables, walk: &mut Vec<u16>, left: usize, found: &mut Vec<Vec<u16>>) {
+    let u = usize::from(walk[walk.len() - 1]);
+    if u == 3 {
+        found.push(walk.clone());
+    }
+    let mut ends = reference::successors(&tables.blocks, u);
+    ends.dedup();
+    for v in ends.into_iter().filter(|_| left > 0) {
+        walk.push(v as u16);
+        walks_on(tables, walk, left - 1, found);
+        walk.pop();
+    }
+}
+
+/// Every graph of four blocks with some ways to declare loops in it, and all walks through it of at most six blocks.
+fn recorded_small_graphs(t: &mut Tester) {
+    let declared: [&[Loop]; 5] = [&[], &[(0, 1, &[])], &[(0, 1, &[2])], &[(0, 1, &[]), (0, 2, &[])], &[(0, 1, &[]), (1, 2, &[])]];
+    for loops in declared {
+        for code in 0..1 << 12 {
+            let mut tables = free(4, [], loops);
+            tables.blocks.cost = vec![1, 2, 4, 8];
+            for u in 0..3 {
+                let end = |bits: usize| if bits == 0 { MISSING } else { bits as u16 };
+                tables.blocks.first[u] = end(code >> (4 * u) & 3);
+                tables.blocks.second[u] = end(code >> (4 * u + 2) & 3);
+            }
+            let mut walks = Vec::new();
+            walks_on(&tables, &mut vec![0], 5, &mut walks);
+            let outcome = walks.iter().try_for_each(|walk| match t.bench.tally(&tables, walk, [loops.len() + 1; 2])? {
+                (_, Ok(seen)) => recordings::promised(&mut t.bench, t.score, &tables, walk, &seen),
+                (reply, _) if reply.number == 207 => Ok(()),
+                (reply, _) => Err(format!("{reply:?}, walk {walk:?}")),
+            });
+            t.score.test(&format!("recorded: small graph {code:#x}, loops {loops:?}"), outcome);
         }
     }
 }

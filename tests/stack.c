@@ -53,6 +53,8 @@ static uint64_t multiplier[LOOPS + 1];
 static size_t n, m;
 static uint16_t list[LENGTH + 1];
 static size_t list_length;
+static uint32_t stays[LOOPS + 1], greatest[LOOPS + 1];
+static size_t stays_length, greatest_length;
 static uint8_t program[ROLKEYDA_MPS_MOST];
 static size_t program_length;
 static rolkeyda_reply reply;
@@ -88,6 +90,12 @@ static void mps(void)
         cost, n, loops, n, first, n, second, n, figure, n, parent, m, header, m, limit, m, multiplier, m, program, program_length);
 }
 
+static void tally(void)
+{
+    reply = rolkeyda_tally(cost, n, loops, n, first, n, second, n, figure, n, parent, m, header, m, limit, m, multiplier, m, list, list_length,
+        stays, stays_length, greatest, greatest_length);
+}
+
 struct function {
     const char *name;
     void (*call)(void);
@@ -103,8 +111,9 @@ static struct function functions[] = {
     {"rolkeyda_walk", walk, ROLKEYDA_STACK_WALK, 0, 0},
     {"rolkeyda_solve", solve, ROLKEYDA_STACK_SOLVE, 0, 0},
     {"rolkeyda_mps", mps, ROLKEYDA_STACK_MPS, 0, 0},
+    {"rolkeyda_tally", tally, ROLKEYDA_STACK_TALLY, 0, 0},
 };
-enum { READ_BLOCKS, READ_LOOPS, CHECK, WALK, SOLVE, MPS };
+enum { READ_BLOCKS, READ_LOOPS, CHECK, WALK, SOLVE, MPS, TALLY };
 
 /* What a process of a call hands back: the reply, and the stack of a first call and of the next. */
 static struct outcome {
@@ -593,37 +602,73 @@ static void cycle_walk(void)
     list[list_length - 1] = BLOCKS - 1;
 }
 
-static void walks(void)
+/* A walk that is accepted: the reply of a walk is its cost and its steps, that of a tally the steps alone. */
+static void good_walk(int which, const char *name, int64_t cost_of_walk)
+{
+    uint64_t steps = list_length - 1;
+    if (which == TALLY)
+        accepted(which, name, (int64_t)steps, 0);
+    else
+        accepted(which, name, cost_of_walk, steps);
+}
+
+static void walks(int which)
 {
     long_walk(LENGTH);
-    accepted(WALK, "1,048,576 blocks", LENGTH, LENGTH - 1);
+    good_walk(which, "1,048,576 blocks", LENGTH);
     list_length = LENGTH - 1;
-    refused(WALK, "the exit left out", 314, LENGTH - 1);
+    refused(which, "the exit left out", 314, LENGTH - 1);
     list_length = LENGTH + 1;
-    refused(WALK, "1,048,577 blocks", 301, 0);
+    refused(which, "1,048,577 blocks", 301, 0);
     list_length = 0;
-    refused(WALK, "no block", 301, 0);
+    refused(which, "no block", 301, 0);
     long_walk(LENGTH);
     list[LENGTH - 1] = ROLKEYDA_MISSING;
-    refused(WALK, "no such block at the end", 302, LENGTH - 1);
+    refused(which, "no such block at the end", 302, LENGTH - 1);
     list[LENGTH - 1] = 0;
-    refused(WALK, "no such edge at the end", 312, LENGTH - 1);
+    refused(which, "no such edge at the end", 312, LENGTH - 1);
     list[0] = 1;
-    refused(WALK, "a start at block 1", 303, 0);
+    refused(which, "a start at block 1", 303, 0);
     long_walk(LENGTH - 1);
     list[LENGTH - 1] = 0;
     list_length = LENGTH;
-    refused(WALK, "a block after the exit", 311, LENGTH - 1);
+    refused(which, "a block after the exit", 311, LENGTH - 1);
     for (size_t i = 2; i < LENGTH; i++)
         list[i] = 2;
-    refused(WALK, "65,536 visits in one stay", 313, 65537);
+    /* the limits play no part in a tally */
+    if (which == TALLY)
+        refused(which, "1,048,574 visits in one stay, which is not left", 314, LENGTH);
+    else
+        refused(which, "65,536 visits in one stay", 313, 65537);
     limit[LOOPS - 1] = 0;
-    refused(WALK, "a limit of 0 in the last loop", 202, LOOPS - 1);
+    refused(which, "a limit of 0 in the last loop", 202, LOOPS - 1);
     largest_tables();
     second[BLOCKS - 2] = 15;
-    refused(WALK, "an edge past 14 headers", 207, BLOCKS - 2);
+    refused(which, "an edge past 14 headers", 207, BLOCKS - 2);
     cycle_walk();
-    accepted(WALK, "a cycle of 1,022 blocks, round and round", 0, list_length - 1);
+    good_walk(which, "a cycle of 1,022 blocks, round and round", 0);
+}
+
+/* The same, a walk that stays at every header, up to 16 loops deep, and lent columns of other lengths. */
+static void tallies(void)
+{
+    stays_length = greatest_length = LOOPS;
+    walks(TALLY);
+    largest_tables();
+    for (uint16_t l = 1; l < LOOPS; l++)
+        second[l] = l;
+    list_length = 0;
+    list[list_length++] = 0;
+    for (uint16_t u = 1; u < BLOCKS; u++)
+        for (size_t visits = u < LOOPS ? 16384 : 1; visits > 0; visits--)
+            list[list_length++] = u;
+    good_walk(TALLY, "16,384 visits of each header", 0);
+    greatest_length = LOOPS + 1;
+    refused(TALLY, "a column that is one place too long", 421, 0);
+    stays_length = 0;
+    refused(TALLY, "an empty column", 421, 0);
+    second[BLOCKS - 2] = 15;
+    refused(TALLY, "an empty column, and an edge past 14 headers", 207, BLOCKS - 2);
 }
 
 /* The largest tables where each header that is not the first of its nest leads back to the one before. */
@@ -724,9 +769,10 @@ int main(void)
     readers();
     checks();
     closed_walks(CHECK);
-    walks();
+    walks(WALK);
     solutions();
     programs();
+    tallies();
     for (size_t i = 0; i < sizeof functions / sizeof functions[0]; i++) {
         const struct function *function = &functions[i];
         printf("%-20s %6zu bytes of stack measured, %6zu at the first call, %6zu stated\n", function->name, function->again, function->first,
