@@ -64,6 +64,21 @@ extern "C" {
         limit: *const u32, limit_length: usize, multiplier: *const u64, multiplier_length: usize,
         blocks: *const u16, blocks_length: usize,
     ) -> Reply;
+    #[cfg(before)]
+    fn before_walk(
+        cost: *const u32, cost_length: usize, loops: *const u16, loops_length: usize, first: *const u16, first_length: usize,
+        second: *const u16, second_length: usize, figure: *const i64, figure_length: usize,
+        parent: *const u16, parent_length: usize, header: *const u16, header_length: usize,
+        limit: *const u32, limit_length: usize, multiplier: *const u64, multiplier_length: usize,
+        blocks: *const u16, blocks_length: usize,
+    ) -> Reply;
+    fn rolkeyda_tally(
+        cost: *const u32, cost_length: usize, loops: *const u16, loops_length: usize, first: *const u16, first_length: usize,
+        second: *const u16, second_length: usize, figure: *const i64, figure_length: usize,
+        parent: *const u16, parent_length: usize, header: *const u16, header_length: usize,
+        limit: *const u32, limit_length: usize, multiplier: *const u64, multiplier_length: usize,
+        blocks: *const u16, blocks_length: usize, stays: *mut u32, stays_length: usize, greatest: *mut u32, greatest_length: usize,
+    ) -> Reply;
     fn rolkeyda_mps(
         cost: *const u32, cost_length: usize, loops: *const u16, loops_length: usize, first: *const u16, first_length: usize,
         second: *const u16, second_length: usize, figure: *const i64, figure_length: usize,
@@ -125,6 +140,26 @@ fn check_by(check: Check, t: &Routine) -> Reply {
     }
 }
 
+#[rustfmt::skip]
+type Walk = unsafe extern "C" fn(
+    *const u32, usize, *const u16, usize, *const u16, usize, *const u16, usize, *const i64, usize,
+    *const u16, usize, *const u16, usize, *const u32, usize, *const u64, usize, *const u16, usize,
+) -> Reply;
+
+#[rustfmt::skip]
+fn walk_by(by: Walk, t: &Routine, walk: &[u16]) -> Reply {
+    let (b, l) = (&t.blocks, &t.loops);
+    let (n, m) = (b.cost.len(), l.parent.len());
+    // SAFETY: each pointer comes with the length of its own column.
+    unsafe {
+        by(
+            b.cost.as_ptr(), n, b.loops.as_ptr(), n, b.first.as_ptr(), n, b.second.as_ptr(), n, b.figure.as_ptr(), n,
+            l.parent.as_ptr(), m, l.header.as_ptr(), m, l.limit.as_ptr(), m, l.multiplier.as_ptr(), m,
+            walk.as_ptr(), walk.len(),
+        )
+    }
+}
+
 pub struct Library;
 
 #[rustfmt::skip]
@@ -170,14 +205,23 @@ impl Library {
     }
 
     pub fn walk(t: &Routine, walk: &[u16]) -> Reply {
+        walk_by(rolkeyda_walk, t, walk)
+    }
+
+    #[cfg(before)]
+    pub fn walk_before(t: &Routine, walk: &[u16]) -> Reply {
+        walk_by(before_walk, t, walk)
+    }
+
+    pub fn tally(t: &Routine, walk: &[u16], stays: &mut [u32], greatest: &mut [u32]) -> Reply {
         let (b, l) = (&t.blocks, &t.loops);
         let (n, m) = (b.cost.len(), l.parent.len());
-        // SAFETY: each pointer comes with the length of its own column.
+        // SAFETY: each pointer comes with the length of its own column, and those that are written overlap no other.
         unsafe {
-            rolkeyda_walk(
+            rolkeyda_tally(
                 b.cost.as_ptr(), n, b.loops.as_ptr(), n, b.first.as_ptr(), n, b.second.as_ptr(), n, b.figure.as_ptr(), n,
                 l.parent.as_ptr(), m, l.header.as_ptr(), m, l.limit.as_ptr(), m, l.multiplier.as_ptr(), m,
-                walk.as_ptr(), walk.len(),
+                walk.as_ptr(), walk.len(), stays.as_mut_ptr(), stays.len(), greatest.as_mut_ptr(), greatest.len(),
             )
         }
     }

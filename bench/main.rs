@@ -298,21 +298,81 @@ fn solving(name: &str) {
     }
 }
 
-fn walking(routine: &Routine) {
-    let walk = routine.walk(1 << 20);
-    let ours = Library::walk(routine, &walk);
-    assert_eq!((ours.number, ours.place), (0, 0));
-    assert_eq!(straight::walk(routine, &walk), Ok((ours.value as u64, ours.more)));
-    compare(
-        &format!("a walk of {} blocks (cost {})", walk.len(), ours.value),
-        (walk.len() as f64, "blocks"),
-        (60, 1),
-        &[1.5],
-        &mut [
-            Measure::new("rolkeyda_walk", || keep(Library::walk(routine, black_box(&walk)))),
-            Measure::new("straight Rust", || keep(straight::walk(routine, black_box(&walk)))),
-        ],
-    );
+// A routine and a walk of 1,048,576 blocks through it, what it goes through, and what the walk beside straight Rust is to reach.
+struct Recording {
+    title: &'static str,
+    routine: Routine,
+    walk: Vec<u16>,
+    goal: f64,
+}
+
+// One walk through loops three deep, one that visits a header at every step but the last, one through loops 16 deep.
+fn recordings() -> [Recording; 3] {
+    let of = |title, routine: Routine, goal| Recording { title, walk: routine.walk(1 << 20), routine, goal };
+    [
+        of("loops three deep", Routine::largest(), 1.5),
+        of("headers alone", Routine::headers(), 1.0),
+        of("loops 16 deep", Routine::nested_sixteen(), 1.0),
+    ]
+}
+
+impl Recording {
+    // The steps that end at a header.
+    fn visits(&self) -> usize {
+        let Routine { blocks, loops } = &self.routine;
+        self.walk[1..].iter().filter(|&&v| loops.header[blocks.loops[v as usize] as usize] == v).count()
+    }
+
+    fn line(&self, what: &str, result: String) -> String {
+        let loops = self.routine.loops.parent.len();
+        format!("{what} {} blocks through {}, {loops} loops, {} steps to a header ({result})", self.walk.len(), self.title, self.visits())
+    }
+}
+
+// Our walk beside the straight one, and beside that of an older library.
+fn walking() {
+    for recording in recordings() {
+        let Recording { routine, walk, goal, .. } = &recording;
+        let ours = Library::walk(routine, walk);
+        assert_eq!((ours.number, ours.place), (0, 0));
+        assert_eq!(straight::walk(routine, walk), Ok((ours.value as u64, ours.more)));
+        #[cfg(before)]
+        assert_eq!(ours, Library::walk_before(routine, walk));
+        #[rustfmt::skip]
+        let measures = &mut [
+            Measure::new("rolkeyda_walk", || keep(Library::walk(routine, black_box(walk)))),
+            Measure::new("straight Rust", || keep(straight::walk(routine, black_box(walk)))),
+            #[cfg(before)]
+            Measure::new("before", || keep(Library::walk_before(routine, black_box(walk)))),
+        ];
+        let title = recording.line("walking", format!("cost {}", ours.value));
+        compare(&title, (walk.len() as f64, "blocks"), (60, 1), &[*goal, 0.95], measures);
+    }
+}
+
+// Our tally beside the straight one, on the same walks.
+fn tallying() {
+    for recording in recordings() {
+        let Recording { routine, walk, .. } = &recording;
+        let room = || [vec![u32::MAX; routine.loops.parent.len()], vec![u32::MAX; routine.loops.parent.len()]];
+        let ([mut stays, mut greatest], [mut their_stays, mut their_greatest]) = (room(), room());
+        let ours = Library::tally(routine, walk, &mut stays, &mut greatest);
+        assert_eq!((ours.number, ours.place, ours.more), (0, 0, 0));
+        assert_eq!(straight::tally(routine, walk, &mut their_stays, &mut their_greatest), Ok(ours.value as u64));
+        assert!(stays == their_stays && greatest == their_greatest);
+        let entered = stays.iter().filter(|&&stays| stays > 0).count();
+        let title = recording.line("tallying", format!("{entered} loops entered, {} stays", stays.iter().sum::<u32>()));
+        compare(
+            &title,
+            (walk.len() as f64, "blocks"),
+            (60, 1),
+            &[1.0],
+            &mut [
+                Measure::new("rolkeyda_tally", || keep(Library::tally(routine, black_box(walk), &mut stays, &mut greatest))),
+                Measure::new("straight Rust", || keep(straight::tally(routine, black_box(walk), &mut their_stays, &mut their_greatest))),
+            ],
+        );
+    }
 }
 
 // The program as MPS beside straight C, on a routine of 1,024 blocks and on a smaller one. Both ask 201 to 207 and 209 first.
@@ -380,7 +440,10 @@ fn main() {
         writing_mps();
     }
     if wanted("walk") {
-        walking(&routine);
+        walking();
+    }
+    if wanted("tally") {
+        tallying();
     }
     if wanted("program") {
         program(&routine, "target/bench");

@@ -1,5 +1,5 @@
-// Routines with loops three deep and with figures and multipliers that are accepted; the largest has 1,024 blocks and 64 loops. A walk through one.
-// Routines with loops of any nesting and without figures, for the solver.
+// Routines with loops three deep and with figures and multipliers that are accepted; the largest has 1,024 blocks and 64 loops. Routines with
+// loops of any nesting and without figures, for the solver, and one of headers alone. Walks through these.
 use std::fmt::Write;
 
 pub const MISSING: u16 = 65535;
@@ -199,6 +199,48 @@ impl Routine {
         Routine::nested(&[&[2], &half[..], &half[..]].concat().repeat(3))
     }
 
+    // 64 loops, 16 deep: a nest of three and four of fifteen. The limits are such that a walk of 1,048,576 blocks goes through all of them and
+    // ends after the last nest.
+    pub fn nested_sixteen() -> Routine {
+        let nest: Vec<usize> = (2..=16).collect();
+        let depths = [&[2, 3, 4], &nest.repeat(4)[..]].concat();
+        let mut t = Routine::nested(&depths);
+        for (limit, depth) in t.loops.limit[1..].iter_mut().zip(depths) {
+            *limit = if depth < 4 { 2 } else { 3 };
+        }
+        t.loops.limit[64 - nest.len()] = 3;
+        t
+    }
+
+    // 64 loops and nothing but headers between the entry and the exit. Loop 1 is around 20 nests of three loops, one after another: in a nest each
+    // header leads to the next one inwards, the innermost to itself, and then back to the one around it. Two more loops come after loop 1, and
+    // their headers name themselves.
+    pub fn headers() -> Routine {
+        let mut t = Routine::empty();
+        t.block(0);
+        for l in 1..64u16 {
+            t.block(l);
+            let (outermost, after) = (l % 3 == 2, l > 61);
+            t.loops.parent.push(if l == 1 || after { 0 } else if outermost { 1 } else { l - 1 });
+            t.loops.header.push(l);
+            t.loops.limit.push(if l == 1 || after { 65535 } else { [3, 5, 2, 4][usize::from(l) % 4] });
+            t.loops.multiplier.push(0);
+        }
+        t.block(0);
+        t.leads(0, 1);
+        t.leads(1, 2);
+        t.leads(1, 62);
+        for u in 2..62 {
+            t.leads(u, if u % 3 == 1 { u } else { u + 1 });
+            t.leads(u, if u % 3 != 2 { u - 1 } else if u == 59 { 1 } else { u + 3 });
+        }
+        for u in 62..64 {
+            t.leads(u, u);
+            t.leads(u, u + 1);
+        }
+        t
+    }
+
     pub fn deepest(&self) -> usize {
         let parent = &self.loops.parent;
         let depth = |l: usize| 1 + std::iter::successors(Some(l), |&k| (k > 0).then(|| parent[k] as usize)).skip(1).count();
@@ -267,12 +309,14 @@ impl Routine {
         let exit = b.cost.len() - 1;
         let mut ahead = vec![usize::MAX / 2; b.cost.len()];
         ahead[exit] = 0;
-        for _ in 0..4 {
+        let mut changed = true;
+        while changed {
+            changed = false;
             for u in (0..exit).rev() {
-                for v in [b.first[u], b.second[u]] {
-                    if v != MISSING {
-                        ahead[u] = ahead[u].min(ahead[v as usize] + 1);
-                    }
+                for v in [b.first[u], b.second[u]].into_iter().filter(|&v| v != MISSING) {
+                    let through = ahead[v as usize] + 1;
+                    changed |= through < ahead[u];
+                    ahead[u] = ahead[u].min(through);
                 }
             }
         }

@@ -1,5 +1,5 @@
-// The table check, the solver and the walk in plain Rust, with nothing proved: safe code with slices, loop sets as words, one pass per rule, one
-// for 208 and the counts of 209 together.
+// The table check, the solver, the walk and the tally in plain Rust, with nothing proved: safe code with slices, loop sets as words, one pass per
+// rule, one for 208 and the counts of 209 together.
 use crate::routine::{Blocks, Loops, Routine, MISSING};
 
 type Refusal = (u32, usize);
@@ -341,6 +341,21 @@ fn begins(walk: &[u16], n: usize) -> Result<(), Refusal> {
     Ok(())
 }
 
+// Whether a walk that stands at a block may go to v, limits apart; i is where v stands in the walk.
+fn follows(b: &Blocks, at: usize, v: u16, i: usize) -> Result<(), Refusal> {
+    let n = b.cost.len();
+    if v as usize >= n {
+        return Err((302, i));
+    }
+    if at == n - 1 {
+        return Err((311, i));
+    }
+    if b.first[at] != v && b.second[at] != v {
+        return Err((312, i));
+    }
+    Ok(())
+}
+
 pub fn walk(t: &Routine, walk: &[u16]) -> Result<(u64, u64), Refusal> {
     let around = structure(t)?;
     let b = &t.blocks;
@@ -350,16 +365,8 @@ pub fn walk(t: &Routine, walk: &[u16]) -> Result<(u64, u64), Refusal> {
     counts[0] = 1;
     let (mut at, mut cost) = (0usize, u64::from(b.cost[0]));
     for (i, &v) in walk.iter().enumerate().skip(1) {
+        follows(b, at, v, i)?;
         let to = v as usize;
-        if to >= n {
-            return Err((302, i));
-        }
-        if at == n - 1 {
-            return Err((311, i));
-        }
-        if b.first[at] != v && b.second[at] != v {
-            return Err((312, i));
-        }
         let (from, l) = (around[b.loops[at] as usize], b.loops[to] as usize);
         if t.loops.header[l] == v {
             counts[l] = if from >> l & 1 == 1 { counts[l] + 1 } else { 1 };
@@ -379,4 +386,37 @@ pub fn walk(t: &Routine, walk: &[u16]) -> Result<(u64, u64), Refusal> {
         return Err((314, walk.len()));
     }
     Ok((cost, walk.len() as u64 - 1))
+}
+
+// For each loop its stays and the most header visits in one. No count is cleared where a loop is left: a visit from outside sets it to 1.
+pub fn tally(t: &Routine, walk: &[u16], stays: &mut [u32], greatest: &mut [u32]) -> Result<u64, Refusal> {
+    let around = structure(t)?;
+    let (b, m) = (&t.blocks, t.loops.parent.len());
+    if stays.len() != m || greatest.len() != m {
+        return Err((421, 0));
+    }
+    begins(walk, b.cost.len())?;
+    let (mut counts, mut entered, mut most) = ([0u32; 64], [0u32; 64], [0u32; 64]);
+    (counts[0], entered[0], most[0]) = (1, 1, 1);
+    let mut at = 0;
+    for (i, &v) in walk.iter().enumerate().skip(1) {
+        follows(b, at, v, i)?;
+        let l = b.loops[v as usize] as usize;
+        if t.loops.header[l] == v {
+            if around[b.loops[at] as usize] >> l & 1 == 1 {
+                counts[l] += 1;
+            } else {
+                counts[l] = 1;
+                entered[l] += 1;
+            }
+            most[l] = most[l].max(counts[l]);
+        }
+        at = v as usize;
+    }
+    if at != b.cost.len() - 1 {
+        return Err((314, walk.len()));
+    }
+    stays.copy_from_slice(&entered[..m]);
+    greatest.copy_from_slice(&most[..m]);
+    Ok(walk.len() as u64 - 1)
 }
