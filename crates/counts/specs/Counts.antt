@@ -9,9 +9,13 @@ use Rattle.lists.specs.Search.{if_then_else_}
 abbrev pub countAt : List ℕ → ℕ → ℕ
 countAt counts d = getD counts (d - 1) 0
 
--- the visits to the header of the loop that the step ends in, where its count was this, and 0 where it ends at another block
+-- the visits to a header in this stay after a step to it, where its count was this: one more, or 1 where the step comes from outside
+abbrev pub visitsAfter : ℕ → Bool → ℕ
+visitsAfter count inside = if inside then count + 1 else 1
+
+-- the same of the loop that a step ends in, and 0 where the step ends at another block than its header
 abbrev pub headerVisits : ℕ → Bool → Bool → ℕ
-headerVisits count heading inside = if not heading then 0 else if inside then count + 1 else 1
+headerVisits count heading inside = if not heading then 0 else visitsAfter count inside
 
 -- the counts after a step into a loop of depth d, where its header, if that is the block, has these visits
 abbrev pub countsAfter : List ℕ → ℕ → Bool → ℕ → List ℕ

@@ -314,6 +314,9 @@ module _ {a : TallyReply} (F : PlaceFits (ofCount (tallyMeaning a))) where
   pub tally-no-edge : (i : ℕ) → a ≡ tally.NoEdge i → i < 2 ^ 32
   tally-no-edge i e = rw e at (F .place)
 
+  pub tally-over-limit : (i : ℕ) → a ≡ tally.OverLimit i → i < 2 ^ 32
+  tally-over-limit i e = rw e at (F .place)
+
   pub tally-unfinished : (n : ℕ) → a ≡ tally.Unfinished n → n < 2 ^ 32
   tally-unfinished n e = rw e at (F .place)
 
@@ -356,6 +359,7 @@ module _ (t : Routine) (w stayed visited : List ℕ) (a : TallyReply) (ss gs : L
       accepting tally.NotEntry z = absurd (omega arith)
       accepting (tally.AfterExit i) z = absurd (omega arith)
       accepting (tally.NoEdge i) z = absurd (omega arith)
+      accepting (tally.OverLimit i) z = absurd (omega arith)
       accepting (tally.Unfinished n) z = absurd (omega arith)
 
 -- ---- readings

@@ -1,3 +1,1 @@
-pub mod Notes
-pub mod Tallying
 pub mod Replies

@@ -1,24 +1,21 @@
--- The reply to the whole recording from what is looked at in turn: the tables, the lent columns, the length, the first block, the others; and
--- what the lent columns hold then. Assumes nothing.
+-- The reply to the whole recording from what is looked at in turn: the tables, the lent columns, the walk; and what the lent columns hold
+-- then. Assumes nothing.
 use mathlib.Core.Path.{_≡_, refl, sym, _∙_, ap}
-use mathlib.Core.Bool.{Bool, true, false, not, _&&_, and-false}
+use mathlib.Core.Bool.{true, not, _&&_, and-false}
 use mathlib.Core.List.{List, [], _∷_}
 use mathlib.Core.Logic.{_⊎_, inl, inr}
-use Prim.Native.Nat.{ℕ, _-_, _≤_, _<_}
+use Prim.Native.Nat.{ℕ, _-_}
 use native.Mathlib.Omega.{arith}
-use lib.Dec.{eqb, ltb}
+use lib.Dec.{eqb}
 use borrow.Author.Tests.{eq-eqb, ne-eqb}
-use lib.ListN.{length, getD, drop}
-use lib.Seq.{drop-cons}
+use lib.ListN.{length, getD}
 use denote.Enum.Declared.{tagOf}
-use Rattle.limits.specs.Limits.{longestWalk}
-use Rattle.lists.specs.Search.{if_then_else_}
 use Rattle.lists.proofs.Search.{tabulated, tabulate-at}
-use Rattle.wcet.specs.Table.{Routine, blockCount, loopCount}
-use Rattle.wcet.specs.Rules.{Reply, accepted, refused, check, outOfRange, structureRules}
-use Rattle.wcet.specs.Walk.{lengthRule}
+use Rattle.wcet.specs.Table.{Routine, loopCount}
+use Rattle.wcet.specs.Rules.{Reply, accepted, refused, check, structureRules}
+use Rattle.wcet.specs.Walk.{walked, lengthRule, walkBlocks}
 use Rattle.wcet.specs.Claim.{AllHold}
-use Rattle.wcet.specs.Tally.{stays, greatest, columnsRule, recordingFrom, recordingBlocks, tallyReply, staysAfter, greatestAfter, Tallied}
+use Rattle.wcet.specs.Tally.{stays, greatest, columnsRule, recordingBlocks, tallyReply, staysAfter, greatestAfter, Tallied, stepsOf}
 use Rattle.wcet.proofs.Replies.{decides, hands-on, past-all}
 use Rattle.wcet.proofs.Recordings.{limits-seen, numbers-seen}
 use Rattle.nesting.specs.Answers.{refusal, StructureChecked}
@@ -29,20 +26,21 @@ use Rattle.nesting.specs.declared.Structured.{Structured}
 use Rattle.nesting.proofs.Chain.{refusal-stands, sound-holds, sound-sets}
 use Rattle.levels.specs.declared.Depths.{Depths}
 use Rattle.levels.specs.Levels.{DepthsOf}
-use Rattle.stepping.specs.declared.Entry.{Entry}
-use Rattle.stepping.specs.declared.Entry.the-variants as entry
-use Rattle.stepping.specs.Step.{entryAnswer, Walkable}
-use Rattle.stepping.proofs.Along.{walkable, opens, in-length}
+use Rattle.stepping.specs.Step.{Walkable}
+use Rattle.stepping.proofs.Along.{walkable}
+use Rattle.following.specs.declared.Followed.{Followed}
+use Rattle.following.specs.declared.Followed.the-variants as end
+use Rattle.following.specs.Follow.{meaning as endMeaning, SeenIn, Ends}
 use Rattle.tally.specs.declared.TallyReply.{TallyReply}
-use Rattle.tally.specs.declared.TallyReply.the-variants.{Accepted, Structure, Columns, Length, NoBlock, NotEntry, AfterExit, NoEdge, Unfinished}
+use Rattle.tally.specs.declared.TallyReply.the-variants.{Accepted, Structure, Columns, Length, NoBlock, NotEntry, AfterExit, NoEdge, OverLimit, Unfinished}
 use Rattle.tally.proofs.TallyReply.{the-type}
-use Rattle.tally.specs.Tally.{meaning, SeenIn, Filled, Written}
+use Rattle.tally.specs.Tally.{meaning, Filled, Written}
 
 -- ---- replies that are refusals
 
 -- the reply's variant, as the code numbers it, is not `Accepted`
 abbrev pub Refuses : ℕ → Type 0
-Refuses n = (n ≡ 1) ⊎ ((n ≡ 2) ⊎ ((n ≡ 3) ⊎ ((n ≡ 4) ⊎ ((n ≡ 5) ⊎ ((n ≡ 6) ⊎ ((n ≡ 7) ⊎ (n ≡ 8)))))))
+Refuses n = (n ≡ 1) ⊎ ((n ≡ 2) ⊎ ((n ≡ 3) ⊎ ((n ≡ 4) ⊎ ((n ≡ 5) ⊎ ((n ≡ 6) ⊎ ((n ≡ 7) ⊎ ((n ≡ 8) ⊎ (n ≡ 9))))))))
 
 not-accepted : (n : ℕ) → Refuses n → n ≡ 0 → ⊥
 not-accepted n (inl e) z = omega arith
@@ -52,7 +50,8 @@ not-accepted n (inr (inr (inr (inl e)))) z = omega arith
 not-accepted n (inr (inr (inr (inr (inl e))))) z = omega arith
 not-accepted n (inr (inr (inr (inr (inr (inl e)))))) z = omega arith
 not-accepted n (inr (inr (inr (inr (inr (inr (inl e))))))) z = omega arith
-not-accepted n (inr (inr (inr (inr (inr (inr (inr e))))))) z = omega arith
+not-accepted n (inr (inr (inr (inr (inr (inr (inr (inl e)))))))) z = omega arith
+not-accepted n (inr (inr (inr (inr (inr (inr (inr (inr e)))))))) z = omega arith
 
 -- a refusal has a number and a place
 record IsRefusal (r : Reply ℕ) : Type 0 where
@@ -81,62 +80,51 @@ refuses (NoBlock i) h = by 302 i
 refuses NotEntry h = by 303 0
 refuses (AfterExit i) h = by 311 i
 refuses (NoEdge i) h = by 312 i
+refuses (OverLimit i) h = by 313 i
 refuses (Unfinished n) h = by 314 n
 
 -- ---- after 421
+
+-- the end of a walk, by its kind
+pub ended : {a : Followed} {m : Reply ℕ} (g : Followed) → a ≡ g → m ≡ stepsOf (endMeaning g) → m ≡ stepsOf (endMeaning a)
+ended g e q = q ∙ ap (λ (x : Followed). stepsOf (endMeaning x)) (sym e)
+
+-- an accepted recording is a walk that is finished
+finished : (f : Followed) (k : ℕ) → stepsOf (endMeaning f) ≡ accepted k → (c : ℕ) × (f ≡ end.Finished c k)
+finished (end.Finished c j) k e = let same : j ≡ k = cc e in (c, ap (end.Finished c) same)
+finished end.Length k e = absurd (let z : _≡_ {A = ℕ} 0 1 = cc in omega arith)
+finished (end.NoBlock i) k e = absurd (let z : _≡_ {A = ℕ} 0 1 = cc in omega arith)
+finished end.NotEntry k e = absurd (let z : _≡_ {A = ℕ} 0 1 = cc in omega arith)
+finished (end.AfterExit i) k e = absurd (let z : _≡_ {A = ℕ} 0 1 = cc in omega arith)
+finished (end.NoEdge i) k e = absurd (let z : _≡_ {A = ℕ} 0 1 = cc in omega arith)
+finished (end.OverLimit i) k e = absurd (let z : _≡_ {A = ℕ} 0 1 = cc in omega arith)
+finished (end.Unfinished n) k e = absurd (let z : _≡_ {A = ℕ} 0 1 = cc in omega arith)
 
 module _ (t : Routine) (w stayed visited : List ℕ) where
   abbrev blocks : Reply ℕ
   blocks = recordingBlocks t w (accepted (length w - 1))
 
-  abbrev rest : Reply ℕ
-  rest = recordingFrom t 0 1 (drop 1 w) (accepted (length w - 1))
+  abbrev blocks-checked : Reply ℕ
+  blocks-checked = check (lengthRule w ∷ []) (recordingBlocks t w (accepted (length w - 1)))
 
   -- a refusal writes nothing
   unwritten : (r : Reply ℕ) → IsRefusal r → r ≡ check (lengthRule w ∷ []) blocks → Written t w stayed visited r stayed visited
   unwritten r k e = record { replied = e; stays-column = rw (k .same); greatest-column = rw (k .same) }
 
-  opened : check (lengthRule w ∷ []) (recordingBlocks t w (accepted (length w - 1))) ≡ opens (entryAnswer (blockCount t) w) rest
-  unfolding entryAnswer recordingBlocks check
-  opened = go (outOfRange 1 longestWalk (length w)) refl
-    where
-      entering : (b d : Bool) → (if not b then refused 302 0 else if not d then refused 303 0 else rest) ≡ opens (if not b then entry.NoBlock else if not d then entry.NotEntry else entry.Entered) rest
-      entering true true = refl
-      entering true false = refl
-      entering false d = refl
+  module _ (f : Followed) (stayed₁ visited₁ : List ℕ) (E : Ends t w true f stayed₁ visited₁ (check (lengthRule w ∷ []) (walkBlocks t w (accepted (walked t w)))) blocks-checked) (r : TallyReply) (q : meaning r ≡ stepsOf (endMeaning f)) where
+    pub reply-refused : Refuses (tagOf the-type r) → Written t w stayed visited (meaning r) stayed visited
+    reply-refused h = unwritten (meaning r) (refuses r h) (q ∙ E .tallied refl)
 
-      go : (a : Bool) → outOfRange 1 longestWalk (length w) ≡ a → check (lengthRule w ∷ []) blocks
-          ≡ opens (if a then entry.Length else if not (ltb (getD w 0 0) (blockCount t)) then entry.NoBlock else if not (eqb (getD w 0 0) 0) then entry.NotEntry else entry.Entered) rest
-      go true e = decides (lengthRule w) [] blocks 0 (record { below = omega arith; passes = e; lower = λ j h. absurd (omega arith) })
-      go false e =
-          hands-on (lengthRule w) [] blocks (λ p h. e)
-          ∙ ap (λ (x : List ℕ). recordingBlocks t x (accepted (length w - 1))) (drop-cons w 0 0 (in-length w e .0))
-          ∙ entering (ltb (getD w 0 0) (blockCount t)) (eqb (getD w 0 0) 0)
-
-  module _ (a : Entry) (found : a ≡ entryAnswer (blockCount t) w) where
-    replies : (b : Entry) → a ≡ b → opens b rest ≡ check (lengthRule w ∷ []) blocks
-    replies b e = sym (opened ∙ ap (λ (x : Entry). opens x rest) (sym found ∙ e))
-
-    pub reply-length : a ≡ entry.Length → Written t w stayed visited (meaning Length) stayed visited
-    reply-length e = unwritten (meaning Length) (by 301 0) (replies entry.Length e)
-
-    pub reply-no-block : a ≡ entry.NoBlock → Written t w stayed visited (meaning (NoBlock 0)) stayed visited
-    reply-no-block e = unwritten (meaning (NoBlock 0)) (by 302 0) (replies entry.NoBlock e)
-
-    pub reply-not-entry : a ≡ entry.NotEntry → Written t w stayed visited (meaning NotEntry) stayed visited
-    reply-not-entry e = unwritten (meaning NotEntry) (by 303 0) (replies entry.NotEntry e)
-
-    module _ (on : a ≡ entry.Entered) (r : TallyReply) (q : meaning r ≡ rest) where
-      pub reply-refused : Refuses (tagOf the-type r) → Written t w stayed visited (meaning r) stayed visited
-      reply-refused h = unwritten (meaning r) (refuses r h) (q ∙ replies entry.Entered on)
-
-      pub reply-accepted : length stayed ≡ loopCount t → length visited ≡ loopCount t → (k : ℕ) → r ≡ Accepted k → (ss gs ss′ gs′ : List ℕ) → SeenIn t w ss gs
-          → Filled (length stayed) ss ss′ → Filled (length visited) gs gs′ → Written t w stayed visited (meaning (Accepted k)) ss′ gs′
-      reply-accepted wide wide′ k e ss gs ss′ gs′ T F G = record {
-        replied = sym (ap meaning e) ∙ q ∙ replies entry.Entered on;
-        stays-column = tabulated ss′ (loopCount t) (λ l. stays t l w) 0 (F .size ∙ wide) (λ l b. F .each l (omega arith) ∙ T .stays-are l b);
-        greatest-column = tabulated gs′ (loopCount t) (λ l. greatest t l w) 0 (G .size ∙ wide′) (λ l b. G .each l (omega arith) ∙ T .greatest-are l b);
-      }
+    pub reply-accepted : length stayed ≡ loopCount t → length visited ≡ loopCount t → (k : ℕ) → r ≡ Accepted k → (ss gs : List ℕ)
+        → Filled (length stayed) stayed₁ ss → Filled (length visited) visited₁ gs → Written t w stayed visited (meaning (Accepted k)) ss gs
+    reply-accepted wide wide′ k e ss gs F G = record {
+      replied = sym (ap meaning e) ∙ q ∙ E .tallied refl;
+      stays-column = tabulated ss (loopCount t) (λ l. stays t l w) 0 (F .size ∙ wide) (λ l b. F .each l (omega arith) ∙ T .stays-are l b);
+      greatest-column = tabulated gs (loopCount t) (λ l. greatest t l w) 0 (G .size ∙ wide′) (λ l b. G .each l (omega arith) ∙ T .greatest-are l b);
+    }
+      where
+        T : SeenIn t w stayed₁ visited₁
+        T = let c = finished f k (sym q ∙ ap meaning e) in E .seen refl (c .0) k (c .1)
 
 -- ---- the whole
 

@@ -1,20 +1,14 @@
 // A walk (a trace of blocks) through a routine: accepted exactly where it is a finished counted run, with its cost. A step is a few word
 // operations, and stores one count at most.
 ghost use mathlib.Core.Path.{_≡_};
-ghost use Prim.Native.Nat.{_<_};
-ghost use lib.Dec.{ltb};
-ghost use lib.ListN.{length, getD};
 ghost use Rattle.wcet.specs.Claim.{WalkChecked};
 ghost use Rattle.nesting.specs.Columns.{routine};
-ghost use Rattle.walk.specs.Reply.{meaning, endOf, walkColumns, Enters, Follows};
+ghost use Rattle.following.specs.Follow.{meaning as endMeaning};
+ghost use Rattle.walk.specs.Reply.{meaning};
+use following::Followed;
 use limits::MOST_LOOPS;
-use loopsets::Sets;
 use nesting::Structure;
 use nesting::StructureFault;
-use stepping::Answer;
-use stepping::Entry;
-use stepping::Run;
-use stepping::Stepped;
 
 // The reply to a walk; a refusal with its index.
 pub enum WalkReply {
@@ -29,74 +23,23 @@ pub enum WalkReply {
     Unfinished(usize),
 }
 
-// 313: whether these visits to the header of block v's loop pass its limit.
-fn over_limit(loops: &[u16], limit: &[u32], v: u16, visits: u32) -> bool
-    requires { ⌜ (v < length (now loops)) × (getD (now loops) v 0 < length (now limit)) ⌝ }
-    ensures { λ r. ⌜ r ≡ ltb (getD (now (limit .entry)) (getD (now (loops .entry)) v 0) 0) visits ⌝ }
+// The reply to a walk that ends so.
+fn reply_of(followed: Followed) -> WalkReply
+    ensures { λ r. ⌜ meaning r ≡ endMeaning followed ⌝ }
 {
-    let l = loops[v as usize] as usize;
-    limit[l] < visits
-}
-
-// The reply where a walk of this length ends in this state, in a routine of n blocks.
-fn finish(run: Run, n: usize, length: usize) -> WalkReply
-    requires { ⌜ (0 < n) × (0 < length) ⌝ }
-    ensures { λ r. ⌜ r ≡ endOf run n length ⌝ }
-{
-    let at = run.at as usize;
-    if at != n - 1 {
-        return WalkReply::Unfinished(length);
+    match followed {
+        Followed::Finished { cost, steps } => WalkReply::Accepted { cost, steps },
+        Followed::Length => WalkReply::Length,
+        Followed::NoBlock(i) => WalkReply::NoBlock(i),
+        Followed::NotEntry => WalkReply::NotEntry,
+        Followed::AfterExit(i) => WalkReply::AfterExit(i),
+        Followed::NoEdge(i) => WalkReply::NoEdge(i),
+        Followed::OverLimit(i) => WalkReply::OverLimit(i),
+        Followed::Unfinished(length) => WalkReply::Unfinished(length),
     }
-    let cost = run.cost;
-    let steps = length - 1;
-    WalkReply::Accepted { cost, steps }
 }
 
-// The reply to a walk that starts at block 0, over tables that keep 201 to 207.
-fn follow(
-    cost: &[u32],
-    loops: &[u16],
-    first: &[u16],
-    second: &[u16],
-    header: &[u16],
-    limit: &[u32],
-    around: &Sets,
-    depths: &[u16; MOST_LOOPS],
-    blocks: &[u16],
-) -> WalkReply
-    requires { ⌜ Enters (walkColumns (now cost) (now loops) (now first) (now second) (now header) (now limit)) (now around) (now depths) (now blocks) ⌝ }
-    ensures { λ r. ⌜ Follows (walkColumns (now (cost .entry)) (now (loops .entry)) (now (first .entry)) (now (second .entry)) (now (header .entry)) (now (limit .entry))) (now (around .entry)) (now (depths .entry)) (now (blocks .entry)) (meaning r) ⌝ }
-{
-    let run = Run::start(cost[0]);
-    let answer = Answer::Moved;
-    let mut last = Stepped {
-        run,
-        visits: 1,
-        answer,
-    };
-    let mut i = 1;
-    while i < blocks.len() {
-        let v = blocks[i];
-        let run = last.run;
-        last = run.step(cost, loops, first, second, header, around, depths, v);
-        let answer = last.answer;
-        match answer {
-            Answer::Moved => {}
-            Answer::NoBlock => return WalkReply::NoBlock(i),
-            Answer::AfterExit => return WalkReply::AfterExit(i),
-            Answer::NoEdge => return WalkReply::NoEdge(i),
-        }
-        let visits = last.visits;
-        if over_limit(loops, limit, v, visits) {
-            return WalkReply::OverLimit(i);
-        }
-        i += 1;
-    }
-    let run = last.run;
-    finish(run, cost.len(), i)
-}
-
-// The reply to a walk: 201 to 207 first, then 301, then the first block, then the others.
+// The reply to a walk: 201 to 207 first, then 301 and the blocks.
 pub fn walk(
     cost: &[u32],
     loops: &[u16],
@@ -126,16 +69,11 @@ pub fn walk(
     if let Structure::Broken(fault) = answer {
         return WalkReply::Structure(fault);
     }
-    let entry = stepping::first_block(cost.len(), blocks);
-    match entry {
-        Entry::Entered => {}
-        Entry::Length => return WalkReply::Length,
-        Entry::NoBlock => return WalkReply::NoBlock(0),
-        Entry::NotEntry => return WalkReply::NotEntry,
-    }
     let around = checked.around;
     let depths = levels::depths_of(parent).each;
-    follow(
+    let mut stayed = [0u32; MOST_LOOPS];
+    let mut visited = [0u32; MOST_LOOPS];
+    let followed = following::walk_through(
         cost,
         loops,
         first,
@@ -145,5 +83,9 @@ pub fn walk(
         &around,
         &depths,
         blocks,
-    )
+        false,
+        &mut stayed,
+        &mut visited,
+    );
+    reply_of(followed)
 }

@@ -1,4 +1,4 @@
-use Rattle.rolkeyda.proofs.Answers.{tally-structure, tally-no-block, tally-after-exit, tally-no-edge, tally-unfinished, tally-fault, tally-told, steps-fit, tally-accepted}
+use Rattle.rolkeyda.proofs.Answers.{tally-structure, tally-no-block, tally-after-exit, tally-no-edge, tally-over-limit, tally-unfinished, tally-fault, tally-told, steps-fit, tally-accepted}
 use borrow.Author.Needs.{needs}
 use Rattle.rolkeyda.proofs.tally_reply.Statement.{statement}
 use Rattle.rolkeyda.proofs.tally_reply.Tie as tie
@@ -63,7 +63,13 @@ enum-known-answer-6 : tie.Need-enum-known-answer-6
 enum-known-answer-6 c = search needs
 
 refused-requires-7 : tie.Need-refused-requires-7
-refused-requires-7 c κs = search tally-unfinished
+refused-requires-7 c κs = search tally-over-limit
+
+enum-known-answer-7 : tie.Need-enum-known-answer-7
+enum-known-answer-7 c = search needs
+
+refused-requires-8 : tie.Need-refused-requires-8
+refused-requires-8 c κs = search tally-unfinished
 
 returns : tie.Need-returns
 returns c = search (tally-accepted, needs)
@@ -92,6 +98,9 @@ returns-8 c = search tally-told
 returns-9 : tie.Need-returns-9
 returns-9 c = search tally-told
 
+returns-10 : tie.Need-returns-10
+returns-10 c = search tally-told
+
 pub tally-reply-spec : {M : Type 1} → statement M
 tally-reply-spec =
     tie.close
@@ -115,6 +124,8 @@ tally-reply-spec =
     refused-requires-6
     enum-known-answer-6
     refused-requires-7
+    enum-known-answer-7
+    refused-requires-8
     returns
     returns-2
     returns-3
@@ -123,4 +134,5 @@ tally-reply-spec =
     returns-6
     returns-7
     returns-8
-    returns-9)
+    returns-9
+    returns-10)

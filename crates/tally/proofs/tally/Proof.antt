@@ -1,7 +1,8 @@
 use mathlib.Core.Path.{_≡_}
 use Rattle.wcet.specs.Table.{Routine}
 use Rattle.nesting.specs.declared.Structure.the-variants.{Sound}
-use Rattle.stepping.specs.Step.{Walkable, Unread, stepColumns}
+use Rattle.stepping.specs.Step.{Walkable}
+use Rattle.following.specs.Follow.{Unread, walkColumns}
 use Rattle.stepping.proofs.Along.{parents-ready}
 use Rattle.tally.proofs.Replies.{rules, keeps, reply-structure, reply-stays, reply-greatest, reply-written}
 use borrow.Author.Needs.{needs}
@@ -13,12 +14,12 @@ use Rattle.levels.proofs.depths_of.Reads as depths-of-reads
 use Rattle.nesting.proofs.check_structure.Reads as check-structure-reads
 use Rattle.tally.proofs.write.Reads as write-reads
 
--- the columns that a step does not read
+-- the columns that a walk does not read
 abbrev unread : tie.Start → Unread
-unread s = record { figures = s .args .figure .now; parents = s .args .parent .now; limits = s .args .limit .now; multipliers = s .args .multiplier .now }
+unread s = record { figures = s .args .figure .now; parents = s .args .parent .now; multipliers = s .args .multiplier .now }
 
 abbrev table : tie.Start → Routine
-table s = let a = s .args in stepColumns (a .cost .now) (a .loops .now) (a .first .now) (a .second .now) (a .header .now) (unread s)
+table s = let a = s .args in walkColumns (a .cost .now) (a .loops .now) (a .first .now) (a .second .now) (a .header .now) (a .limit .now) (unread s)
 
 -- where the structure is checked, and where it is found sound
 abbrev entry : tie.After-check-structure → tie.Start
@@ -89,7 +90,7 @@ returns-4 c =
     let k = found d .before .before in
     let s = entry k in
     reply-written (table s) (s .args .blocks .now) (s .args .stays .now) (s .args .greatest .now) (k .check-structure .result) (k .check-structure .ensures) (sound (found d)) (e .before .if1 .left) (e .if2 .left)
-    _ (w .write .last .1 .1 .1 .1 .1 .1 .1 .1 .0) (w .write .last .1 .1 .1 .1 .1 .1 .1 .1 .1 .0) (w .write .ensures (unread s) (walkable d) (e .before .if1 .left) (e .if2 .left))
+    _ (w .write .last .1 .1 .1 .1 .1 .1 .1 .1 .1 .0) (w .write .last .1 .1 .1 .1 .1 .1 .1 .1 .1 .1 .0) (w .write .ensures (unread s) (walkable d) (e .before .if1 .left) (e .if2 .left))
 
 pub tally-spec : {M : Type 1} → statement M
 tally-spec =

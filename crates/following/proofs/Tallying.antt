@@ -1,4 +1,4 @@
--- What one step makes of the tallies, and the loop over the blocks: before each index the tallies are those of the blocks so far, and the
+-- What one step makes of the tallies, and the loop over the blocks where they count: before each index the tallies are those of the blocks so far, and the
 -- blocks that are left give the whole recording's reply. Assumes nothing.
 use mathlib.Core.Path.{_≡_, refl, sym, _∙_, ap, ap₂}
 use mathlib.Core.Bool.{Bool, true, false, not, _&&_}
@@ -17,7 +17,7 @@ use Rattle.wcet.specs.Table.{Routine, blockCount, loopCount, exit, cost, loopOf
 use Rattle.wcet.specs.Rules.{Reply, accepted, refused}
 use Rattle.wcet.specs.Run.{State, start, leaves, nextCount, next, after}
 use Rattle.wcet.specs.Stays.{stayVisits}
-use Rattle.wcet.specs.Tally.{stays, greatest, recordingFrom}
+use Rattle.wcet.specs.Tally.{stays, greatest, recordingFrom, stepsOf}
 use Rattle.wcet.proofs.Potential.{inside-own}
 use Rattle.wcet.proofs.Entry.{inside-0}
 use Rattle.wcet.proofs.Around.{header-of, enters-one}
@@ -31,9 +31,9 @@ use Rattle.counts.specs.Counts.{headerVisits}
 use Rattle.stepping.specs.Step.{stateOf, visitsTo, Outcome, outcome, stepped, Walkable}
 use Rattle.stepping.proofs.Depths.{nesting}
 use Rattle.stepping.proofs.Along.{Along, Moves, along-first, along-next, moved, next-state, next-visits, decided, step-decides}
-use Rattle.tally.specs.declared.TallyReply.{TallyReply}
-use Rattle.tally.specs.declared.TallyReply.the-variants.{Accepted, Unfinished}
-use Rattle.tally.specs.Tally.{meaning, endOf, SeenIn, firstNumbers}
+use Rattle.following.specs.declared.Followed.{Followed}
+use Rattle.following.specs.declared.Followed.the-variants.{Finished, Unfinished}
+use Rattle.following.specs.Follow.{meaning, endOf, SeenIn, firstNumbers}
 
 -- ---- one step
 
@@ -160,14 +160,14 @@ module _ (t : Routine) (sets depths : List ℕ) (S : Walkable t sets depths) (w 
     pub few-stays : i ≤ longestWalk → (l : ℕ) → l < loopCount t → getD stayed l 0 ≤ longestWalk
     few-stays h l b = omega (arith, T .tallied .stays-are l b, stays-most t l (take i w), length-take-le i w (T .along .in-walk))
 
-    pub end-reply : length w ≤ i → (x : TallyReply) → x ≡ endOf r (blockCount t) i → meaning x ≡ recordingFrom t 0 1 (drop 1 w) (accepted (length w - 1))
+    pub end-reply : length w ≤ i → (x : Followed) → x ≡ endOf r (blockCount t) i → stepsOf (meaning x) ≡ recordingFrom t 0 1 (drop 1 w) (accepted (length w - 1))
     unfolding recordingFrom endOf
     end-reply h x e = rw (e, T .same, drop-of-length-le w h) (go (eqb (r .at) (exit t)))
       where
         all : i ≡ length w
         all = omega (arith, T .along .in-walk)
 
-        go : (b : Bool) → meaning (if not b then Unfinished i else Accepted (i - 1)) ≡ (if b then accepted (length w - 1) else refused 314 i)
+        go : (b : Bool) → stepsOf (meaning (if not b then Unfinished i else Finished (r .cost) (i - 1))) ≡ (if b then accepted (length w - 1) else refused 314 i)
         go true = rw all
         go false = refl
 
@@ -187,7 +187,7 @@ module _ (t : Routine) (sets depths : List ℕ) (S : Walkable t sets depths) (w 
           ∙ ap (λ (x : Answer). decided x i rest) (ap (λ (x : Outcome). x .answer) (sym step) ∙ e)
 
       -- the reply where the step stops the recording
-      pub stop-at : (a : Answer) (x : TallyReply) → ((y : Reply ℕ) → meaning x ≡ decided a i y) → s .answer ≡ a → meaning x ≡ recordingFrom t 0 1 (drop 1 w) (accepted (length w - 1))
+      pub stop-at : (a : Answer) (x : Followed) → ((y : Reply ℕ) → stepsOf (meaning x) ≡ decided a i y) → s .answer ≡ a → stepsOf (meaning x) ≡ recordingFrom t 0 1 (drop 1 w) (accepted (length w - 1))
       stop-at a x d e = d rest ∙ sym (stops a e)
 
       module _ (on : s .answer ≡ Moved) (l : ℕ) (into : l ≡ loopOf t (getD w i 0)) (wide : length stayed ≡ mostLoops) (wide′ : length visited ≡ mostLoops) where

@@ -1,4 +1,4 @@
--- The loop over the blocks: from each index on, the blocks that are left give the whole walk's reply. Assumes nothing.
+-- The loop over the blocks where limits count: from each index on, the blocks that are left give the whole walk's reply. Assumes nothing.
 use mathlib.Core.Path.{_≡_, refl, sym, _∙_, ap}
 use mathlib.Core.Bool.{Bool, true, false, not, _&&_, and-false}
 use mathlib.Core.List.{List}
@@ -26,9 +26,9 @@ use Rattle.counts.specs.Counts.{headerVisits}
 use Rattle.stepping.specs.Step.{stateOf, visitsTo, Outcome, outcome, stepped, Walkable}
 use Rattle.stepping.proofs.Depths.{nesting}
 use Rattle.stepping.proofs.Along.{Along, along-first, along-next, moved, next-state, next-visits, decided, step-decides}
-use Rattle.walk.specs.declared.WalkReply.{WalkReply}
-use Rattle.walk.specs.declared.WalkReply.the-variants.{Accepted, Unfinished, OverLimit}
-use Rattle.walk.specs.Reply.{meaning, endOf}
+use Rattle.following.specs.declared.Followed.{Followed}
+use Rattle.following.specs.declared.Followed.the-variants.{Finished, Unfinished, OverLimit}
+use Rattle.following.specs.Follow.{meaning, endOf}
 
 -- 313 is asked of the loop that the step ends in alone, and only where its header is visited
 limit-next : (t : Routine) (sets depths : List ℕ) → Walkable t sets depths → (s : State) (v : ℕ) → s .block < blockCount t → edge t (s .block) v ≡ true → passesLimit t s ≡ false
@@ -59,7 +59,7 @@ module _ (t : Routine) (sets depths : List ℕ) (S : Walkable t sets depths) (w 
   underway-first r some first e c = record { along = along-first t sets depths S w r some first e c; within = rw e (start-kept t (nesting t sets depths S)); same = rw e }
 
   module _ (r : Run) (i : ℕ) (U : Underway t w r i) where
-    pub end-reply : length w ≤ i → (x : WalkReply) → x ≡ endOf r (blockCount t) i → meaning x ≡ walkFrom t start 1 (drop 1 w) (accepted (walked t w))
+    pub end-reply : length w ≤ i → (x : Followed) → x ≡ endOf r (blockCount t) i → meaning x ≡ walkFrom t start 1 (drop 1 w) (accepted (walked t w))
     unfolding walkFrom runCost endOf
     end-reply h x e = rw (e, U .same, drop-of-length-le w h) (go (eqb (r .at) (exit t)))
       where
@@ -69,7 +69,7 @@ module _ (t : Routine) (sets depths : List ℕ) (S : Walkable t sets depths) (w 
         total : r .cost ≡ runCost t w
         total = omega (arith, U .along .spent, ap (runCost t) (drop-of-length-le w h))
 
-        go : (b : Bool) → meaning (if not b then Unfinished i else Accepted (r .cost) (i - 1)) ≡ (if b then accepted (walked t w) else refused 314 i)
+        go : (b : Bool) → meaning (if not b then Unfinished i else Finished (r .cost) (i - 1)) ≡ (if b then accepted (walked t w) else refused 314 i)
         go true = rw (total, all)
         go false = refl
 
@@ -87,7 +87,7 @@ module _ (t : Routine) (sets depths : List ℕ) (S : Walkable t sets depths) (w 
           ∙ ap (λ (x : Answer). decided x i rest) (ap (λ (x : Outcome). x .answer) (sym step) ∙ e)
 
       -- the reply where the step stops the walk
-      pub stop-at : (a : Answer) (x : WalkReply) → ((y : Reply Walked) → meaning x ≡ decided a i y) → s .answer ≡ a → meaning x ≡ walkFrom t start 1 (drop 1 w) (accepted (walked t w))
+      pub stop-at : (a : Answer) (x : Followed) → ((y : Reply Walked) → meaning x ≡ decided a i y) → s .answer ≡ a → meaning x ≡ walkFrom t start 1 (drop 1 w) (accepted (walked t w))
       stop-at a x d e = d rest ∙ sym (stops a e)
 
       module _ (on : s .answer ≡ Moved) (over : Bool) (tested : over ≡ ltb (limit t (loopOf t (getD w i 0))) (s .visits)) where

@@ -1,0 +1,4 @@
+pub mod Notes
+pub mod Walks
+pub mod Tallying
+pub mod Openings
