@@ -1,0 +1,51 @@
+use borrow.Author.Needs.{needs}
+use mathlib.Core.Path.{_≡_}
+use lib.ListN.{length}
+use Prim.Native.Nat.{_-_}
+use Rattle.cases.proofs.making.push_letters.Statement.{statement}
+use Rattle.cases.proofs.making.push_letters.Tie as tie
+
+abbrev Inv-loop : tie.InvT-loop
+Inv-loop text₀ from a rows at₀ i₀ i-end text at i = length text ≡ length text₀
+
+abbrev μ-loop : tie.MeasureT-loop
+μ-loop text₀ from a rows at₀ i₀ i-end text at i = i-end - i
+
+loop-holds : tie.Need-loop-holds Inv-loop μ-loop
+loop-holds c = search needs
+
+shared-slice-read-push-lettered : tie.Need-shared-slice-read-push-lettered Inv-loop μ-loop
+shared-slice-read-push-lettered c = search needs
+
+push-lettered-requires : tie.Need-push-lettered-requires Inv-loop μ-loop
+push-lettered-requires c κs = search needs
+
+add-i : tie.Need-add-i Inv-loop μ-loop
+add-i c = search needs
+
+loop-less : tie.Need-loop-less Inv-loop μ-loop
+loop-less c = search needs
+
+loop-again : tie.Need-loop-again Inv-loop μ-loop
+loop-again c = search needs
+
+same-length : tie.Need-same-length Inv-loop μ-loop
+same-length c = search needs
+
+returns : tie.Need-returns Inv-loop μ-loop
+returns c = search needs
+
+pub push-letters-spec : {M : Type 1} → statement M
+push-letters-spec =
+    tie.close
+    (tie.spec
+    Inv-loop
+    μ-loop
+    loop-holds
+    shared-slice-read-push-lettered
+    push-lettered-requires
+    add-i
+    loop-less
+    loop-again
+    same-length
+    returns)
