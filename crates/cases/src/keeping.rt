@@ -5,7 +5,9 @@ use crate::lines::rest;
 use crate::lines::room_in;
 use crate::making::make_text;
 use crate::making::push_columns;
+use crate::making::push_tallies;
 use crate::parts::NONE;
+use crate::parts::first_u32;
 use crate::parts::part;
 use crate::parts::room_of;
 use crate::tally::Answers;
@@ -24,6 +26,9 @@ use pieces::signed;
 
 // What stands in the columns before a text is read, and in a buffer before one is written.
 pub const OLD_U8: u8 = 170;
+
+// The room of a column that a recording fills.
+pub type Counts = [u32; 66];
 
 pub const OLD_U16: u16 = 43690;
 
@@ -173,6 +178,34 @@ pub fn confirmed(made: Answers, after: Answers) -> Answers {
         return of_columns(got, after.got, made.kept);
     }
     of_columns(got, checked, made.kept)
+}
+
+// Whether the places from an index on are as they were.
+fn untouched(column: &Counts, from: usize) -> bool {
+    let mut kept = true;
+    for i in 0..66 {
+        kept = kept & ((i < from) | (column[i] == OLD_U32));
+    }
+    kept
+}
+
+fn counts_are(wanted: &[u8], m: usize, stays: &Counts, greatest: &Counts) -> bool {
+    let mut text = [0u8; 4096];
+    let k = push_tallies(
+        &mut text,
+        first_u32(stays, m, NONE, 0),
+        first_u32(greatest, m, NONE, 0),
+    );
+    check::same(part(&text, 0, k), wanted)
+}
+
+// Whether both columns of a recording over m loops are those that a line wants; where it wants none, as they were.
+pub fn counts_kept(line: &[u8], m: usize, stays: &Counts, greatest: &Counts) -> bool {
+    let wanted = rest(line, 8);
+    if wanted.len() == 0 {
+        return untouched(stays, 0) & untouched(greatest, 0);
+    }
+    untouched(stays, m) & untouched(greatest, m) & counts_are(wanted, m, stays, greatest)
 }
 
 // The byte that must stand at an index of the buffer: the text's, or the old one behind it.

@@ -5,6 +5,7 @@ use crate::lines::kind_of;
 use crate::lines::number;
 use pieces::Digits;
 use pieces::MISSING;
+use pieces::from_u32;
 use pieces::from_u64;
 use pieces::plus;
 use pieces::push;
@@ -40,6 +41,22 @@ fn push_multipliers(text: &mut [u8], from: usize, multiplier: &[u64]) -> usize {
         at = push_number(text, start, from_u64(multiplier[k]));
     }
     at
+}
+
+fn push_counts(text: &mut [u8], from: usize, counts: &[u32]) -> usize {
+    let mut at = from;
+    for k in 0..counts.len() {
+        let start = push_comma(text, at, k);
+        at = push_number(text, start, from_u32(counts[k]));
+    }
+    at
+}
+
+// The two columns that a recording fills, as a case has them, and the length of that.
+pub fn push_tallies(text: &mut [u8], stays: &[u32], greatest: &[u32]) -> usize {
+    let end = push_counts(text, 0, stays);
+    let bar = push(text, end, b"|");
+    push_counts(text, bar, greatest)
 }
 
 // The two columns that the solver remakes, as a case has them, and the length of that.
@@ -305,10 +322,32 @@ fn make_steps(written: &[u8], steps: &mut [u16]) -> usize {
 
 // The walk of a line, if it has one, and its length.
 pub fn make_walk(line: &[u8], steps: &mut [u16]) -> usize {
-    if kind_of(line) != b'w' {
+    let kind = kind_of(line);
+    if (kind != b'w') & (kind != b'v') {
         return 0;
     }
     make_steps(field(line, 5), steps)
+}
+
+// Block i of a long walk: of a `run` 0 1 1 .. 1 2, of a `circle` 0 1 2 1 2 .. 3.
+fn long_step(circle: bool, length: usize, i: usize) -> u16 {
+    if i == 0 {
+        return 0;
+    }
+    if plus(i, 1) == length {
+        return if circle { 3 } else { 2 };
+    }
+    if circle & (i % 2 == 0) { 2 } else { 1 }
+}
+
+// A long walk and its length.
+pub fn make_long(line: &[u8], steps: &mut [u16]) -> usize {
+    let circle = kind_of(line) == b'c';
+    let length = number(field(line, 5));
+    for i in 0..steps.len() {
+        put_u16(steps, i, long_step(circle, length, i));
+    }
+    length
 }
 
 // A pair of tables by its size: n blocks in m loops, of which block k is the header of loop k. Of a program all costs and limits are the greatest

@@ -129,6 +129,13 @@ pub fn to_u16(k: usize) -> u16 {
     k as u16
 }
 
+pub fn to_u32(k: usize) -> u32 {
+    if k > 4294967295 {
+        return 4294967295;
+    }
+    k as u32
+}
+
 // A sum that stays at 2^63 - 1 where a part passes that. What the rules admit is far below.
 pub fn plus(a: usize, b: usize) -> usize {
     if a > 9223372036854775807 {

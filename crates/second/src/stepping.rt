@@ -55,16 +55,8 @@ fn edge(b: &BlockCells, u: usize, v: usize) -> bool {
     (v == of_block(b, u, 2)) | (v == of_block(b, u, 3))
 }
 
-// The first number that the block at an index of the walk is refused with, 0 where there is none.
-fn block_fault(
-    b: &BlockCells,
-    l: &LoopCells,
-    n: usize,
-    m: usize,
-    blocks: &[u16],
-    i: usize,
-    counts: &mut [usize; 64],
-) -> u32 {
+// The first number that the block at an index of the walk is refused with, whatever the limits are; 0 where there is none.
+pub fn place_fault(b: &BlockCells, n: usize, blocks: &[u16], i: usize) -> u32 {
     let v = u16_at(blocks, i);
     if v >= n {
         return 302;
@@ -76,13 +68,33 @@ fn block_fault(
     if is_exit(n, u) {
         return 311;
     }
-    if !edge(b, u, v) {
-        return 312;
+    if edge(b, u, v) { 0 } else { 312 }
+}
+
+// The same with the limits.
+fn block_fault(
+    b: &BlockCells,
+    l: &LoopCells,
+    n: usize,
+    m: usize,
+    blocks: &[u16],
+    i: usize,
+    counts: &mut [usize; 64],
+) -> u32 {
+    let fault = place_fault(b, n, blocks, i);
+    if fault != 0 {
+        return fault;
     }
+    if i == 0 {
+        return 0;
+    }
+    let u = u16_at(blocks, i - 1);
+    let v = u16_at(blocks, i);
     if passes_limit(b, l, m, u, v, counts) {
-        return 313;
+        313
+    } else {
+        0
     }
-    0
 }
 
 // The reply to a walk of n blocks whose cost is the sum.

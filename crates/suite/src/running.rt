@@ -9,16 +9,19 @@ use cases::keeping::bytes_lent;
 use cases::keeping::columns_kept;
 use cases::keeping::compared;
 use cases::keeping::confirmed;
+use cases::keeping::counts_kept;
 use cases::keeping::loops_kept;
 use cases::keeping::places;
 use cases::lines::field;
 use cases::lines::has_texts;
 use cases::lines::kind_of;
+use cases::lines::number_or;
 use cases::lines::shorter_in;
 use cases::making::make_blocks;
 use cases::making::make_loops;
 use cases::making::make_text;
 use cases::making::push_columns;
+use cases::parts::NONE;
 use cases::parts::first_i64;
 use cases::parts::first_u16;
 use cases::parts::first_u32;
@@ -35,6 +38,7 @@ use pieces::Verdict;
 use pieces::count_of;
 use rolkeyda::Reply;
 use second::reading;
+use second::recording;
 use second::stepping;
 use second::writing;
 
@@ -362,6 +366,117 @@ fn mps_replies(
     compared(line, got, written, bytes, &buffer, &made)
 }
 
+// The second checker's reply to a recording over a pair of tables, and whether the columns are then those that the line wants.
+fn tally_checked(
+    line: &[u8],
+    steps: &[u16],
+    cost: &[u32],
+    inner: &[u16],
+    first: &[u16],
+    second: &[u16],
+    figure: &[i64],
+    parent: &[u16],
+    header: &[u16],
+    limit: &[u32],
+    multiplier: &[u64],
+) -> Answers {
+    let mut stays = [OLD_U32; 66];
+    let mut greatest = [OLD_U32; 66];
+    let m = parent.len();
+    let checked = recording::reply(
+        cost,
+        inner,
+        first,
+        second,
+        figure,
+        parent,
+        header,
+        limit,
+        multiplier,
+        steps,
+        lent_u32(&mut stays, number_or(line, 6, m), NONE, 0),
+        lent_u32(&mut greatest, number_or(line, 7, m), NONE, 0),
+    );
+    of_columns(checked, checked, counts_kept(line, m, &stays, &greatest))
+}
+
+// The library's, likewise.
+fn tally_got(
+    line: &[u8],
+    steps: &[u16],
+    cost: &[u32],
+    inner: &[u16],
+    first: &[u16],
+    second: &[u16],
+    figure: &[i64],
+    parent: &[u16],
+    header: &[u16],
+    limit: &[u32],
+    multiplier: &[u64],
+) -> Answers {
+    let mut stays = [OLD_U32; 66];
+    let mut greatest = [OLD_U32; 66];
+    let m = parent.len();
+    let got = verdict_of(rolkeyda::rolkeyda_tally(
+        cost,
+        inner,
+        first,
+        second,
+        figure,
+        parent,
+        header,
+        limit,
+        multiplier,
+        steps,
+        lent_u32(&mut stays, number_or(line, 6, m), NONE, 0),
+        lent_u32(&mut greatest, number_or(line, 7, m), NONE, 0),
+    ));
+    of_columns(got, got, counts_kept(line, m, &stays, &greatest))
+}
+
+// A recording over a pair of tables.
+fn tally_replies(
+    line: &[u8],
+    steps: &[u16],
+    cost: &[u32],
+    inner: &[u16],
+    first: &[u16],
+    second: &[u16],
+    figure: &[i64],
+    parent: &[u16],
+    header: &[u16],
+    limit: &[u32],
+    multiplier: &[u64],
+) -> Answers {
+    let checked = tally_checked(
+        line,
+        steps,
+        cost,
+        inner,
+        first,
+        second,
+        figure,
+        parent,
+        header,
+        limit,
+        multiplier,
+    );
+    let got = tally_got(
+        line,
+        steps,
+        cost,
+        inner,
+        first,
+        second,
+        figure,
+        parent,
+        header,
+        limit,
+        multiplier,
+    );
+    of_columns(got.got, checked.checked, got.kept & checked.kept)
+}
+
 // What the kind of the line says is run on a pair of tables.
 fn replies(
     line: &[u8],
@@ -379,6 +494,21 @@ fn replies(
     let kind = kind_of(line);
     if (kind == b'w') | (kind == b'r') {
         return walk_replies(
+            steps,
+            cost,
+            inner,
+            first,
+            second,
+            figure,
+            parent,
+            header,
+            limit,
+            multiplier,
+        );
+    }
+    if (kind == b'v') | (kind == b'c') {
+        return tally_replies(
+            line,
             steps,
             cost,
             inner,
@@ -441,7 +571,7 @@ fn blocks_of(
     second: &mut [u16],
     figure: &mut [i64],
 ) -> usize {
-    let mut text = [0u8; 1024];
+    let mut text = [0u8; 2048];
     if !has_texts(line) {
         return make_blocks(line, cost, inner, first, second);
     }
@@ -457,7 +587,7 @@ fn loops_of(
     limit: &mut [u32],
     multiplier: &mut [u64],
 ) -> usize {
-    let mut text = [0u8; 1024];
+    let mut text = [0u8; 2048];
     if !has_texts(line) {
         return make_loops(line, parent, header, limit);
     }

@@ -5,8 +5,8 @@ use crate::running::tables;
 use cases::lines::field;
 use cases::lines::first_byte;
 use cases::lines::kind_of;
-use cases::lines::number;
 use cases::lines::number_or;
+use cases::making::make_long;
 use cases::making::make_text;
 use cases::making::make_walk;
 use cases::parts::NONE;
@@ -45,28 +45,20 @@ fn table_case(line: &[u8], of_blocks: bool, n: usize, text: &Text) -> Answers {
 
 // A pair of tables, and a walk over it where the line has one.
 fn tables_case(line: &[u8]) -> Answers {
-    let mut steps = [0u16; 64];
+    let mut steps = [0u16; 512];
     let length = make_walk(line, &mut steps);
     tables(line, first_u16(&steps, length, NONE, 0))
 }
 
-// block text | loop text | length: the walk 0 1 1 .. 1 2
+// block text | loop text | length of a long walk
 fn long_case(line: &[u8]) -> Answers {
-    let mut steps = [1u16; 1048577];
-    let length = number(field(line, 5));
-    set_ends(&mut steps, length);
+    let mut steps = [0u16; 1048577];
+    let length = make_steps(line, &mut steps);
     long_steps(line, length, &steps)
 }
 
-fn set_ends(steps: &mut Steps, length: usize) {
-    steps[0] = 0;
-    if length < 2 {
-        return;
-    }
-    if length > 1048577 {
-        return;
-    }
-    steps[length - 1] = 2;
+fn make_steps(line: &[u8], steps: &mut Steps) -> usize {
+    make_long(line, steps)
 }
 
 fn long_steps(line: &[u8], length: usize, steps: &Steps) -> Answers {
@@ -78,7 +70,7 @@ fn replies_to(line: &[u8]) -> Answers {
     if (kind == b'b') | (kind == b'l') {
         return read_case(line, kind == b'b');
     }
-    if kind == b'r' {
+    if (kind == b'r') | (kind == b'c') {
         return long_case(line);
     }
     tables_case(line)
