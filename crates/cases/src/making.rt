@@ -421,25 +421,33 @@ fn header_in(s: Made, k: usize) -> usize {
     k
 }
 
-fn put_block(
-    s: Made,
-    u: usize,
-    cost: &mut [u32],
-    inner: &mut [u16],
-    first: &mut [u16],
-    second: &mut [u16],
-) {
-    let next = to_u16(successor_in(s, u));
-    put_u32(cost, u, if s.of_program { 1000000 } else { 0 });
-    put_u16(inner, u, to_u16(loop_in(s, u)));
-    put_u16(first, u, next);
-    put_u16(second, u, if s.of_program { next } else { 65535 });
+// Element i of a column of 16 bits: 1 the loops, 2 and 3 the successors, 5 the parents, 6 the headers.
+fn cell_in(s: Made, c: usize, i: usize) -> usize {
+    if c == 1 {
+        return loop_in(s, i);
+    }
+    if c == 5 {
+        return if s.nested { less(i) } else { 0 };
+    }
+    if c == 6 {
+        return header_in(s, i);
+    }
+    if (c == 3) & !s.of_program {
+        return MISSING;
+    }
+    successor_in(s, i)
 }
 
-fn put_loop(s: Made, k: usize, parent: &mut [u16], header: &mut [u16], limit: &mut [u32]) {
-    put_u16(parent, k, to_u16(if s.nested { less(k) } else { 0 }));
-    put_u16(header, k, to_u16(header_in(s, k)));
-    put_u32(limit, k, if s.of_program & (k != 0) { 65535 } else { 1 });
+fn make_column(s: Made, c: usize, column: &mut [u16]) {
+    for i in 0..column.len() {
+        put_u16(column, i, to_u16(cell_in(s, c, i)));
+    }
+}
+
+fn make_alike(column: &mut [u32], value: u32) {
+    for i in 0..column.len() {
+        put_u32(column, i, value);
+    }
 }
 
 // Makes the blocks of a line that gives their number, without figures, and says that number.
@@ -451,17 +459,19 @@ pub fn make_blocks(
     second: &mut [u16],
 ) -> usize {
     let s = made_by(line);
-    for u in 0..cost.len() {
-        put_block(s, u, cost, inner, first, second);
-    }
+    make_alike(cost, if s.of_program { 1000000 } else { 0 });
+    make_column(s, 1, inner);
+    make_column(s, 2, first);
+    make_column(s, 3, second);
     s.n
 }
 
 // The loops, likewise, without multipliers.
 pub fn make_loops(line: &[u8], parent: &mut [u16], header: &mut [u16], limit: &mut [u32]) -> usize {
     let s = made_by(line);
-    for k in 0..parent.len() {
-        put_loop(s, k, parent, header, limit);
-    }
+    make_column(s, 5, parent);
+    make_column(s, 6, header);
+    make_alike(limit, if s.of_program { 65535 } else { 1 });
+    put_u32(limit, 0, 1);
     s.m
 }
