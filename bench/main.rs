@@ -350,16 +350,18 @@ fn walking() {
     }
 }
 
-// Our tally beside the straight one, on the same walks.
+// Our tally beside the straight walker with the same tally, and beside one that does less, on the same walks.
 fn tallying() {
     for recording in recordings() {
         let Recording { routine, walk, .. } = &recording;
         let room = || [vec![u32::MAX; routine.loops.parent.len()], vec![u32::MAX; routine.loops.parent.len()]];
         let ([mut stays, mut greatest], [mut their_stays, mut their_greatest]) = (room(), room());
+        let [mut lean_stays, mut lean_greatest] = room();
         let ours = Library::tally(routine, walk, &mut stays, &mut greatest);
         assert_eq!((ours.number, ours.place, ours.more), (0, 0, 0));
-        assert_eq!(straight::tally(routine, walk, &mut their_stays, &mut their_greatest), Ok(ours.value as u64));
-        assert!(stays == their_stays && greatest == their_greatest);
+        assert_eq!(straight::tally(routine, walk, &mut their_stays, &mut their_greatest).map(|(_, steps)| steps), Ok(ours.value as u64));
+        assert_eq!(straight::lean_tally(routine, walk, &mut lean_stays, &mut lean_greatest), Ok(ours.value as u64));
+        assert!(stays == their_stays && greatest == their_greatest && stays == lean_stays && greatest == lean_greatest);
         let entered = stays.iter().filter(|&&stays| stays > 0).count();
         let title = recording.line("tallying", format!("{entered} loops entered, {} stays", stays.iter().sum::<u32>()));
         compare(
@@ -370,6 +372,7 @@ fn tallying() {
             &mut [
                 Measure::new("rolkeyda_tally", || keep(Library::tally(routine, black_box(walk), &mut stays, &mut greatest))),
                 Measure::new("straight Rust", || keep(straight::tally(routine, black_box(walk), &mut their_stays, &mut their_greatest))),
+                Measure::new("straight Rust, lean", || keep(straight::lean_tally(routine, black_box(walk), &mut lean_stays, &mut lean_greatest))),
             ],
         );
     }

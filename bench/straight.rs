@@ -388,8 +388,45 @@ pub fn walk(t: &Routine, walk: &[u16]) -> Result<(u64, u64), Refusal> {
     Ok((cost, walk.len() as u64 - 1))
 }
 
-// For each loop its stays and the most header visits in one. No count is cleared where a loop is left: a visit from outside sets it to 1.
-pub fn tally(t: &Routine, walk: &[u16], stays: &mut [u32], greatest: &mut [u32]) -> Result<u64, Refusal> {
+// For each loop its stays and the most header visits in one, by the walker above with the limits left out.
+pub fn tally(t: &Routine, walk: &[u16], stays: &mut [u32], greatest: &mut [u32]) -> Result<(u64, u64), Refusal> {
+    let around = structure(t)?;
+    let (b, m) = (&t.blocks, t.loops.parent.len());
+    if stays.len() != m || greatest.len() != m {
+        return Err((421, 0));
+    }
+    begins(walk, b.cost.len())?;
+    let (mut counts, mut entered, mut most) = ([0u32; 64], [0u32; 64], [0u32; 64]);
+    (counts[0], entered[0], most[0]) = (1, 1, 1);
+    let (mut at, mut cost) = (0usize, u64::from(b.cost[0]));
+    for (i, &v) in walk.iter().enumerate().skip(1) {
+        follows(b, at, v, i)?;
+        let to = v as usize;
+        let (from, l) = (around[b.loops[at] as usize], b.loops[to] as usize);
+        if t.loops.header[l] == v {
+            let inside = from >> l & 1 == 1;
+            counts[l] = if inside { counts[l] + 1 } else { 1 };
+            entered[l] += u32::from(!inside);
+            most[l] = most[l].max(counts[l]);
+        }
+        let mut left = from & !around[l];
+        while left != 0 {
+            counts[left.trailing_zeros() as usize] = 0;
+            left &= left - 1;
+        }
+        at = to;
+        cost += u64::from(b.cost[to]);
+    }
+    if at != b.cost.len() - 1 {
+        return Err((314, walk.len()));
+    }
+    stays.copy_from_slice(&entered[..m]);
+    greatest.copy_from_slice(&most[..m]);
+    Ok((cost, walk.len() as u64 - 1))
+}
+
+// The same with less work: no count is cleared where a loop is left, since a visit from outside sets it to 1, and no cost is added up.
+pub fn lean_tally(t: &Routine, walk: &[u16], stays: &mut [u32], greatest: &mut [u32]) -> Result<u64, Refusal> {
     let around = structure(t)?;
     let (b, m) = (&t.blocks, t.loops.parent.len());
     if stays.len() != m || greatest.len() != m {

@@ -53,9 +53,9 @@ extern "C" {
 #define ROLKEYDA_STACK_READ_LOOPS 12288u
 #define ROLKEYDA_STACK_CHECK 16384u
 #define ROLKEYDA_STACK_WALK 8192u
+#define ROLKEYDA_STACK_TALLY 8192u
 #define ROLKEYDA_STACK_SOLVE 81920u
 #define ROLKEYDA_STACK_MPS 16384u
-#define ROLKEYDA_STACK_TALLY 8192u
 
 /*
  * The reply of every function (`Reply` in the crate).
@@ -144,6 +144,28 @@ rolkeyda_reply rolkeyda_walk(
     const uint16_t *blocks, size_t blocks_length);
 
 /*
+ * Tells which limits a recording shows: a walk from block 0 to the last block, over tables that keep rules 201 to 207 (208 and 209 are not checked).
+ * The limits in the table count only for their range, so there is no 313. Accepted: `value` is the walk's steps. For each loop `stays` has the
+ * number of stretches of the walk inside the loop, each as long as can be, and `greatest` the greatest number of visits to the header in one of them;
+ * a loop that is never entered has 0 and 0, and loop 0 has 1 and 1. If all of `greatest` are at most 65,535 and are put in as limits, with 1 in place
+ * of 0, rolkeyda_walk accepts the walk; with any that is 2 or more lowered, not below 1, it says 313. Refused: neither column is changed. 421 where
+ * a column has a length other than the number of loops, after 207 and before 301. Stack: ROLKEYDA_STACK_TALLY.
+ */
+rolkeyda_reply rolkeyda_tally(
+    const uint32_t *cost, size_t cost_length,
+    const uint16_t *loops, size_t loops_length,
+    const uint16_t *first, size_t first_length,
+    const uint16_t *second, size_t second_length,
+    const int64_t *figure, size_t figure_length,
+    const uint16_t *parent, size_t parent_length,
+    const uint16_t *header, size_t header_length,
+    const uint32_t *limit, size_t limit_length,
+    const uint64_t *multiplier, size_t multiplier_length,
+    const uint16_t *blocks, size_t blocks_length,
+    uint32_t *stays, size_t stays_length,
+    uint32_t *greatest, size_t greatest_length);
+
+/*
  * Remakes the figures and the multipliers of a pair of tables that keep rules 201 to 207 and 209. The given ones must be in the ranges of 202 and
  * 203 (0 for loop 0's multiplier); apart from that they are not read, and 208 is not checked. Accepted: both columns hold the remade certificate, rolkeyda_check accepts it
  * with the bound `value`, some counted run from block 0 to the last block costs exactly that, and so no certificate gives less. Refused: neither
@@ -178,28 +200,6 @@ rolkeyda_reply rolkeyda_mps(
     const uint32_t *limit, size_t limit_length,
     const uint64_t *multiplier, size_t multiplier_length,
     uint8_t *text, size_t text_length);
-
-/*
- * Tells which limits a recording shows: a walk from block 0 to the last block, over tables that keep rules 201 to 207 (208 and 209 are not checked).
- * The limits in the table count only for their range, so there is no 313. Accepted: `value` is the walk's steps. For each loop `stays` has the
- * number of stretches of the walk inside the loop, each as long as can be, and `greatest` the greatest number of visits to the header in one of them;
- * a loop that is never entered has 0 and 0, and loop 0 has 1 and 1. If all of `greatest` are at most 65,535 and are put in as limits, with 1 in place
- * of 0, rolkeyda_walk accepts the walk; with any that is 2 or more lowered, not below 1, it says 313. Refused: neither column is changed. 421 where
- * a column has a length other than the number of loops, after 207 and before 301. Stack: ROLKEYDA_STACK_TALLY.
- */
-rolkeyda_reply rolkeyda_tally(
-    const uint32_t *cost, size_t cost_length,
-    const uint16_t *loops, size_t loops_length,
-    const uint16_t *first, size_t first_length,
-    const uint16_t *second, size_t second_length,
-    const int64_t *figure, size_t figure_length,
-    const uint16_t *parent, size_t parent_length,
-    const uint16_t *header, size_t header_length,
-    const uint32_t *limit, size_t limit_length,
-    const uint64_t *multiplier, size_t multiplier_length,
-    const uint16_t *blocks, size_t blocks_length,
-    uint32_t *stays, size_t stays_length,
-    uint32_t *greatest, size_t greatest_length);
 
 #ifdef __cplusplus
 }
