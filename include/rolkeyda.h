@@ -58,7 +58,7 @@ extern "C" {
 #define ROLKEYDA_STACK_MPS 16384u
 
 /*
- * The reply of every function (`Reply` in the crate).
+ * The reply of every function (`Reply` in the crate `replies`).
  *
  * number   0: accepted. Else the number of the first rule that is broken:
  *          101 to 106 and 108 for a text, 201 to 209 for a pair of tables, 301 to 303 and 311 to 314 for a walk, 401 to 403 for the solver,

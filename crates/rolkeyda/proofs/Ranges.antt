@@ -34,8 +34,8 @@ use Rattle.tables.specs.Table.{End, all, Reading}
 use Rattle.tables.specs.Columns.{replyBy, replyOf}
 use Rattle.tables.specs.declared.ReadReply.{ReadReply}
 use Rattle.tables.proofs.Sizes.{Short}
-use Rattle.rolkeyda.specs.declared.Reply.{Reply}
-use Rattle.rolkeyda.specs.Replies.{ofReading, PlaceFits, ValueFits}
+use Rattle.replies.specs.declared.Reply.{Reply}
+use Rattle.replies.specs.Fields.{ofReading, PlaceFits, ValueFits}
 
 -- ---- a list of rules
 

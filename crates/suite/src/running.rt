@@ -36,7 +36,7 @@ use cases::tally::Answers;
 use cases::tally::of_columns;
 use pieces::Verdict;
 use pieces::count_of;
-use rolkeyda::Reply;
+use replies::Reply;
 use second::reading;
 use second::recording;
 use second::stepping;

@@ -5,7 +5,7 @@ use Rattle.rolkeyda.proofs.rolkeyda_check.Tie as tie
 use Rattle.rolkeyda.proofs.rolkeyda_check.Reads as reads
 use Rattle.rolkeyda.proofs.rolkeyda_check.Lts as lts
 use Rattle.certificate.proofs.check.Reads as check-reads
-use Rattle.rolkeyda.proofs.table_reply.Reads as table-reply-reads
+use Rattle.replies.proofs.table_reply.Reads as table-reply-reads
 
 check-requires : tie.Need-check-requires
 check-requires c κs = search needs

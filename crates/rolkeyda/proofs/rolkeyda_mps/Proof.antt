@@ -4,7 +4,7 @@ use Rattle.rolkeyda.proofs.rolkeyda_mps.Statement.{statement}
 use Rattle.rolkeyda.proofs.rolkeyda_mps.Tie as tie
 use Rattle.rolkeyda.proofs.rolkeyda_mps.Reads as reads
 use Rattle.rolkeyda.proofs.rolkeyda_mps.Lts as lts
-use Rattle.rolkeyda.proofs.mps_reply.Reads as mps-reply-reads
+use Rattle.replies.proofs.mps_reply.Reads as mps-reply-reads
 use Rattle.writer.proofs.mps.Reads as mps-reads
 
 -- src/lib.rt:284:9

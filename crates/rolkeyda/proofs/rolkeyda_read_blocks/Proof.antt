@@ -4,7 +4,7 @@ use Rattle.rolkeyda.proofs.rolkeyda_read_blocks.Statement.{statement}
 use Rattle.rolkeyda.proofs.rolkeyda_read_blocks.Tie as tie
 use Rattle.rolkeyda.proofs.rolkeyda_read_blocks.Reads as reads
 use Rattle.rolkeyda.proofs.rolkeyda_read_blocks.Lts as lts
-use Rattle.rolkeyda.proofs.read_reply.Reads as read-reply-reads
+use Rattle.replies.proofs.read_reply.Reads as read-reply-reads
 use Rattle.tables.proofs.read_blocks.Reads as read-blocks-reads
 
 read-blocks-requires : tie.Need-read-blocks-requires

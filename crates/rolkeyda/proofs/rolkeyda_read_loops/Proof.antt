@@ -4,7 +4,7 @@ use Rattle.rolkeyda.proofs.rolkeyda_read_loops.Statement.{statement}
 use Rattle.rolkeyda.proofs.rolkeyda_read_loops.Tie as tie
 use Rattle.rolkeyda.proofs.rolkeyda_read_loops.Reads as reads
 use Rattle.rolkeyda.proofs.rolkeyda_read_loops.Lts as lts
-use Rattle.rolkeyda.proofs.read_reply.Reads as read-reply-reads
+use Rattle.replies.proofs.read_reply.Reads as read-reply-reads
 use Rattle.tables.proofs.read_loops.Reads as read-loops-reads
 
 read-loops-requires : tie.Need-read-loops-requires

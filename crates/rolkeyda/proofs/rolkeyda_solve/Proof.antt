@@ -5,7 +5,7 @@ use Rattle.rolkeyda.proofs.rolkeyda_solve.Tie as tie
 use Rattle.rolkeyda.proofs.rolkeyda_solve.Reads as reads
 use Rattle.rolkeyda.proofs.rolkeyda_solve.Lts as lts
 use Rattle.solver.proofs.solve.Reads as solve-reads
-use Rattle.rolkeyda.proofs.solve_reply.Reads as solve-reply-reads
+use Rattle.replies.proofs.solve_reply.Reads as solve-reply-reads
 
 solve-requires : tie.Need-solve-requires
 solve-requires c κs = search needs

@@ -4,7 +4,7 @@ use Rattle.rolkeyda.proofs.rolkeyda_tally.Statement.{statement}
 use Rattle.rolkeyda.proofs.rolkeyda_tally.Tie as tie
 use Rattle.rolkeyda.proofs.rolkeyda_tally.Reads as reads
 use Rattle.rolkeyda.proofs.rolkeyda_tally.Lts as lts
-use Rattle.rolkeyda.proofs.tally_reply.Reads as tally-reply-reads
+use Rattle.replies.proofs.tally_reply.Reads as tally-reply-reads
 use Rattle.tally.proofs.tally.Reads as tally-reads
 
 tally-requires : tie.Need-tally-requires

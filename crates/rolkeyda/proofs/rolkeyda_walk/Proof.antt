@@ -4,7 +4,7 @@ use Rattle.rolkeyda.proofs.rolkeyda_walk.Statement.{statement}
 use Rattle.rolkeyda.proofs.rolkeyda_walk.Tie as tie
 use Rattle.rolkeyda.proofs.rolkeyda_walk.Reads as reads
 use Rattle.rolkeyda.proofs.rolkeyda_walk.Lts as lts
-use Rattle.rolkeyda.proofs.walk_reply.Reads as walk-reply-reads
+use Rattle.replies.proofs.walk_reply.Reads as walk-reply-reads
 use Rattle.walk.proofs.walk.Reads as walk-reads
 
 walk-requires : tie.Need-walk-requires

@@ -1,12 +1,12 @@
-use Rattle.rolkeyda.proofs.Answers.{cost-fits, walk-structure, at-no-block, at-after-exit, at-no-edge, at-over-limit, at-unfinished, walk-accepted, walk-fault, walk-told}
+use Rattle.replies.proofs.Answers.{cost-fits, walk-structure, at-no-block, at-after-exit, at-no-edge, at-over-limit, at-unfinished, walk-accepted, walk-fault, walk-told}
 use borrow.Author.Needs.{needs}
-use Rattle.rolkeyda.proofs.walk_reply.Statement.{statement}
-use Rattle.rolkeyda.proofs.walk_reply.Tie as tie
-use Rattle.rolkeyda.proofs.walk_reply.Reads as reads
-use Rattle.rolkeyda.proofs.walk_reply.Lts as lts
-use Rattle.rolkeyda.proofs.accepted.Reads as accepted-reads
-use Rattle.rolkeyda.proofs.refused.Reads as refused-reads
-use Rattle.rolkeyda.proofs.structure.Reads as structure-reads
+use Rattle.replies.proofs.walk_reply.Statement.{statement}
+use Rattle.replies.proofs.walk_reply.Tie as tie
+use Rattle.replies.proofs.walk_reply.Reads as reads
+use Rattle.replies.proofs.walk_reply.Lts as lts
+use Rattle.replies.proofs.accepted.Reads as accepted-reads
+use Rattle.replies.proofs.refused.Reads as refused-reads
+use Rattle.replies.proofs.structure.Reads as structure-reads
 
 enum-known-answer : tie.Need-enum-known-answer
 enum-known-answer c = search needs

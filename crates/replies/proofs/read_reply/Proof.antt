@@ -1,12 +1,12 @@
-use Rattle.rolkeyda.proofs.Answers.{count-fits, rows-told, record-fits, refused-told}
+use Rattle.replies.proofs.Answers.{count-fits, rows-told, record-fits, refused-told}
 use borrow.Author.Needs.{needs}
-use Rattle.rolkeyda.proofs.read_reply.Statement.{statement}
-use Rattle.rolkeyda.proofs.read_reply.Tie as tie
-use Rattle.rolkeyda.proofs.read_reply.Reads as reads
-use Rattle.rolkeyda.proofs.read_reply.Lts as lts
-use Rattle.rolkeyda.proofs.ending_number.Reads as ending-number-reads
-use Rattle.rolkeyda.proofs.accepted.Reads as accepted-reads
-use Rattle.rolkeyda.proofs.refused.Reads as refused-reads
+use Rattle.replies.proofs.read_reply.Statement.{statement}
+use Rattle.replies.proofs.read_reply.Tie as tie
+use Rattle.replies.proofs.read_reply.Reads as reads
+use Rattle.replies.proofs.read_reply.Lts as lts
+use Rattle.replies.proofs.ending_number.Reads as ending-number-reads
+use Rattle.replies.proofs.accepted.Reads as accepted-reads
+use Rattle.replies.proofs.refused.Reads as refused-reads
 
 enum-known-answer : tie.Need-enum-known-answer
 enum-known-answer c = search needs

@@ -1,12 +1,12 @@
-use Rattle.rolkeyda.proofs.Answers.{text-structure, length-fits, text-accepted, text-fault, text-told}
+use Rattle.replies.proofs.Answers.{text-structure, length-fits, text-accepted, text-fault, text-told}
 use borrow.Author.Needs.{needs}
-use Rattle.rolkeyda.proofs.mps_reply.Statement.{statement}
-use Rattle.rolkeyda.proofs.mps_reply.Tie as tie
-use Rattle.rolkeyda.proofs.mps_reply.Reads as reads
-use Rattle.rolkeyda.proofs.mps_reply.Lts as lts
-use Rattle.rolkeyda.proofs.accepted.Reads as accepted-reads
-use Rattle.rolkeyda.proofs.refused.Reads as refused-reads
-use Rattle.rolkeyda.proofs.structure.Reads as structure-reads
+use Rattle.replies.proofs.mps_reply.Statement.{statement}
+use Rattle.replies.proofs.mps_reply.Tie as tie
+use Rattle.replies.proofs.mps_reply.Reads as reads
+use Rattle.replies.proofs.mps_reply.Lts as lts
+use Rattle.replies.proofs.accepted.Reads as accepted-reads
+use Rattle.replies.proofs.refused.Reads as refused-reads
+use Rattle.replies.proofs.structure.Reads as structure-reads
 
 -- src/lib.rt:101:26
 enum-known-answer : tie.Need-enum-known-answer

@@ -1,10 +1,10 @@
-use Rattle.rolkeyda.proofs.Answers.{at-loop, at-block, at-header, at-depth, at-entry-or-exit, at-past-header, fault-reply}
+use Rattle.replies.proofs.Answers.{at-loop, at-block, at-header, at-depth, at-entry-or-exit, at-past-header, fault-reply}
 use borrow.Author.Needs.{needs}
-use Rattle.rolkeyda.proofs.structure.Statement.{statement}
-use Rattle.rolkeyda.proofs.structure.Tie as tie
-use Rattle.rolkeyda.proofs.structure.Reads as reads
-use Rattle.rolkeyda.proofs.structure.Lts as lts
-use Rattle.rolkeyda.proofs.refused.Reads as refused-reads
+use Rattle.replies.proofs.structure.Statement.{statement}
+use Rattle.replies.proofs.structure.Tie as tie
+use Rattle.replies.proofs.structure.Reads as reads
+use Rattle.replies.proofs.structure.Lts as lts
+use Rattle.replies.proofs.refused.Reads as refused-reads
 
 enum-told : tie.Need-enum-told
 enum-told c = search needs
