@@ -67,7 +67,7 @@ extern "C" {
  *          walk. 0 when accepted.
  * value    when accepted: the count of rows, the bound, the cost, the length of the MPS text, or the steps of a walk that is tallied. Else 0.
  * more     when a text is accepted: the line end of record 1, a header included (ROLKEYDA_CR_LF, ROLKEYDA_LF or ROLKEYDA_END_OF_TEXT).
- *          When a walk is accepted: its steps, the length less one. Else 0.
+ *          When rolkeyda_walk accepts: the walk's steps, the length less one. Else 0.
  */
 typedef struct rolkeyda_reply {
     uint32_t number;

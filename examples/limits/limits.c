@@ -33,7 +33,7 @@ static uint32_t stays[ROLKEYDA_MOST_LOOPS], greatest[ROLKEYDA_MOST_LOOPS];
 /* The greatest limit that a table may have. */
 #define MOST_LIMIT 65535u
 
-/* What each number means. There is no 421 here: both columns are as long as the loop table. */
+/* What each number means. 421 does not come up here: both columns are as long as the loop table. */
 static const struct {
     uint32_t number;
     const char *text;
@@ -58,6 +58,7 @@ static const struct {
     {311, "a block follows the last block"},
     {312, "no edge leads from the block before to this one"},
     {314, "the walk ends before the last block"},
+    {421, "a lent column has another length than the loop table"},
 };
 
 /* Ends the program where there is no reply. */

@@ -2,9 +2,8 @@
 // place to put the step in and keeps the state in registers.
 ghost use mathlib.Core.Path.{_≡_};
 ghost use mathlib.Core.Bool.{true};
-ghost use Prim.Native.Nat.{_≤_, _<_};
+ghost use Prim.Native.Nat.{_<_};
 ghost use lib.ListN.{length, getD};
-ghost use Rattle.limits.specs.Limits.{mostLoops, longestWalk};
 ghost use Rattle.following.specs.Follow.{Noted, TallyFits, Visited, endOf, walkColumns, Enters, Follows, Ready, Through};
 use limits::MOST_LOOPS;
 use loopsets::Sets;
@@ -130,7 +129,8 @@ fn follow(
     finish(run, cost.len(), i)
 }
 
-// How a walk ends over tables that keep 201 to 207: 301, then the first block, then the others.
+// How a walk ends over tables that keep 201 to 207: 301, then the first block, then the others. The numbers are free where the walk is refused or
+// not tallied: both callers then drop them.
 pub fn walk_through(
     cost: &[u32],
     loops: &[u16],

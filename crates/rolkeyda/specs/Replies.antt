@@ -53,8 +53,8 @@ pub record WalkReplied (t : Routine) (w : List ℕ) (r : Reply) : Type 0 where
   pub accepts : AllHold (structureRules t) → length w ≤ longestWalk → (r .number ≡ 0) ↔ FinishedRun t w
   pub cost : r .number ≡ 0 → (r .value ≡ pos (runCost t w)) × (r .more ≡ length w - 1)
 
--- Document 02, §7: the reply to a recording and both lent columns after the call. Where the number is 0, the numbers are good for limits: with them
--- the same walk is accepted, and with a lower one it is refused with 313.
+-- Document 02, §7: the reply to a recording and both lent columns after the call. Where the number is 0 and the greatest numbers are at most
+-- 65,535, they are good for limits, with 1 in place of 0: the same walk is accepted, and with one of 2 or more lowered, not below 1, it is 313.
 pub record RecordingReplied (t : Routine) (w stayed visited : List ℕ) (r : Reply) (ss gs : List ℕ) : Type 0 where
   pub replied : r ≡ ofCount (tallyReply t w stayed visited)
   pub stays-column : ss ≡ staysAfter t w stayed (tallyReply t w stayed visited)

@@ -1,5 +1,5 @@
--- Document 02, §7: with the greatest numbers of a recording as limits the same walk is accepted, and with any lower one it is refused with 313
--- (`limits-seen`); loop 0 gets 1 and 1, a loop never entered 0 and 0 (`numbers-seen`); and but for 313 a recording is refused as a walk is
+-- Document 02, §7: with the greatest numbers of a recording as limits, 1 in place of 0, the same walk is accepted, and with one of 2 or more
+-- lowered, not below 1, it is refused with 313 (`limits-seen`); loop 0 gets 1 and 1, a loop never entered 0 and 0 (`numbers-seen`); and but for 313 a recording is refused as a walk is
 -- (`refused-as-walks`). Assumes nothing.
 use mathlib.Core.Path.{_≡_, refl, sym, _∙_, ap, ap₂}
 use mathlib.Core.Bool.{Bool, true, false, not, _&&_, _||_, or-true}

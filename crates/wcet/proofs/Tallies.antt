@@ -1,6 +1,6 @@
 -- How the number of stays and the greatest number of visits change at one block more (`stays-snoc`, `greatest-snoc`), and that a loop that is
 -- never entered has neither (`never-seen`). Assumes nothing.
-use mathlib.Core.Path.{_≡_, refl, sym, _∙_, ap}
+use mathlib.Core.Path.{_≡_, refl, _∙_, ap}
 use mathlib.Core.Bool.{Bool, true, false, not, _&&_}
 use mathlib.Core.List.{List, [], _∷_, _++_}
 use Prim.Native.Nat.{ℕ, zero, suc, _+_, _≤_, _<_, max}
@@ -9,7 +9,7 @@ use lib.ListN.{length, getD, take, length-append}
 use lib.Seq.{take-all, take-append-le}
 use Rattle.lists.specs.Search.{if_then_else_, greatestBelow}
 use Rattle.lists.proofs.Search.{greatest-ext, below-greatest, greatest-below}
-use Rattle.wcet.specs.Table.{Routine, header, inside}
+use Rattle.wcet.specs.Table.{Routine, inside}
 use Rattle.wcet.specs.Stays.{allInside, currentStay, visits, stayVisits}
 use Rattle.wcet.specs.Tally.{beginsInside, stays, greatest}
 

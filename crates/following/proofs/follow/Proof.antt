@@ -5,7 +5,7 @@ use Rattle.wcet.specs.Run.{start}
 use Rattle.wcet.specs.Walk.{Walked, walked, walkFrom}
 use Rattle.wcet.specs.Tally.{recordingFrom, stepsOf}
 use lib.ListN.{length, getD, drop, length-set}
-use Prim.Native.Nat.{ℕ, _-_, _≤_, _<_}
+use Prim.Native.Nat.{ℕ, _-_, _<_}
 use mathlib.Core.Bool.{true, false, true≢false}
 use mathlib.Core.List.{List}
 use mathlib.Core.Path.{_≡_, refl, sym, _∙_, ap}
