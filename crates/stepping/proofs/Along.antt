@@ -17,7 +17,11 @@ use Rattle.wcet.specs.Run.{State, start, leaves, nextCount, next, runCost}
 use Rattle.limits.specs.Limits.{mostLoops, longestWalk}
 use Rattle.wcet.specs.Claim.{AllHold}
 use Rattle.wcet.proofs.Nesting.{nested}
+use Rattle.nesting.specs.Answers.{StructureChecked}
+use Rattle.nesting.specs.declared.Structure.the-variants.{Sound}
+use Rattle.nesting.specs.declared.Structured.{Structured}
 use Rattle.nesting.proofs.Stages.{headed}
+use Rattle.nesting.proofs.Chain.{sound-holds, sound-sets}
 use Rattle.loopsets.specs.Sets.{Parents, setsAround}
 use Rattle.levels.specs.Levels.{DepthsOf}
 use Rattle.levels.specs.declared.Depths.{Depths}
@@ -33,6 +37,10 @@ use Rattle.stepping.specs.Step.{stateOf, visitsTo, Outcome, outcome, unm
 -- what the tables that keep 201 to 207 give a walk
 pub walkable : (t : Routine) (sets : List ℕ) (d : Depths) → AllHold (structureRules t) → sets ≡ setsAround (t .parents) → DepthsOf (t .parents) d → Walkable t sets (d .each)
 walkable t sets d rules around deep = record { rules = rules; ranged = headed t rules .ranged; sets-around = around; deep = deep .same }
+
+-- the same of what the structure check hands on
+pub sound-walkable : (t : Routine) (s : Structured) → StructureChecked t s → s .answer ≡ Sound → (d : Depths) → DepthsOf (t .parents) d → Walkable t (s .around) (d .each)
+sound-walkable t s checked sound d deep = walkable t (s .around) d (sound-holds t s checked sound) (sound-sets t s checked sound) deep
 
 -- what the depths are made from
 pub parents-ready : (t : Routine) → AllHold (structureRules t) → (0 < loopCount t) × (loopCount t ≤ mostLoops) × Parents (t .parents)

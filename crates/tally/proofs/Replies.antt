@@ -14,7 +14,6 @@ use Rattle.lists.proofs.Search.{tabulated, tabulate-at}
 use Rattle.wcet.specs.Table.{Routine, loopCount}
 use Rattle.wcet.specs.Rules.{Reply, accepted, refused, check, structureRules}
 use Rattle.wcet.specs.Walk.{walked, lengthRule, walkBlocks}
-use Rattle.wcet.specs.Claim.{AllHold}
 use Rattle.wcet.specs.Tally.{stays, greatest, columnsRule, recordingBlocks, tallyReply, staysAfter, greatestAfter, Tallied, stepsOf}
 use Rattle.wcet.proofs.Replies.{decides, hands-on, past-all}
 use Rattle.wcet.proofs.Recordings.{limits-seen, numbers-seen}
@@ -23,11 +22,7 @@ use Rattle.nesting.specs.declared.StructureFault.{StructureFault}
 use Rattle.nesting.specs.declared.StructureFault.the-variants as fault
 use Rattle.nesting.specs.declared.Structure.the-variants.{Sound, Broken}
 use Rattle.nesting.specs.declared.Structured.{Structured}
-use Rattle.nesting.proofs.Chain.{refusal-stands, sound-holds, sound-sets}
-use Rattle.levels.specs.declared.Depths.{Depths}
-use Rattle.levels.specs.Levels.{DepthsOf}
-use Rattle.stepping.specs.Step.{Walkable}
-use Rattle.stepping.proofs.Along.{walkable}
+use Rattle.nesting.proofs.Chain.{refusal-stands, sound-holds}
 use Rattle.following.specs.declared.Followed.{Followed}
 use Rattle.following.specs.declared.Followed.the-variants as end
 use Rattle.following.specs.Follow.{meaning as endMeaning, SeenIn, Ends}
@@ -150,15 +145,9 @@ module _ (t : Routine) (w stayed visited : List ℕ) where
     reply-structure f e = unchanged (refusal f) (fault-refuses f) (refusal-stands t s checked f e (columnsRule t stayed visited ∷ lengthRule w ∷ []) (blocks t w stayed visited))
 
     module _ (sound : s .answer ≡ Sound) where
-      pub rules : AllHold (structureRules t)
-      rules = sound-holds t s checked sound
-
-      pub keeps : (d : Depths) → DepthsOf (t .parents) d → Walkable t (s .around) (d .each)
-      keeps d deep = walkable t (s .around) d rules (sound-sets t s checked sound) deep
-
       tables-pass : tallyReply t w stayed visited ≡ check (columnsRule t stayed visited ∷ lengthRule w ∷ []) (recordingBlocks t w (accepted (length w - 1)))
       unfolding tallyReply
-      tables-pass = past-all (structureRules t) (columnsRule t stayed visited ∷ lengthRule w ∷ []) (blocks t w stayed visited) rules
+      tables-pass = past-all (structureRules t) (columnsRule t stayed visited ∷ lengthRule w ∷ []) (blocks t w stayed visited) (sound-holds t s checked sound)
 
       -- 421
       wrong : not (eqb (length stayed) (loopCount t) && eqb (length visited) (loopCount t)) ≡ true → Tallied t w stayed visited (meaning Columns) stayed visited

@@ -5,18 +5,14 @@ use Prim.Native.Nat.{ℕ}
 use Rattle.wcet.specs.Table.{Routine}
 use Rattle.wcet.specs.Rules.{Reply, accepted, check, structureRules}
 use Rattle.wcet.specs.Walk.{Walked, walked, lengthRule, walkBlocks, walkReply}
-use Rattle.wcet.specs.Claim.{AllHold, WalkChecked}
+use Rattle.wcet.specs.Claim.{WalkChecked}
 use Rattle.wcet.proofs.Replies.{past-all}
 use Rattle.wcet.proofs.Walks.{walk-checked}
 use Rattle.nesting.specs.Answers.{refusal, StructureChecked}
 use Rattle.nesting.specs.declared.StructureFault.{StructureFault}
 use Rattle.nesting.specs.declared.Structure.the-variants.{Sound, Broken}
 use Rattle.nesting.specs.declared.Structured.{Structured}
-use Rattle.nesting.proofs.Chain.{refusal-stands, sound-holds, sound-sets}
-use Rattle.levels.specs.declared.Depths.{Depths}
-use Rattle.levels.specs.Levels.{DepthsOf}
-use Rattle.stepping.specs.Step.{Walkable}
-use Rattle.stepping.proofs.Along.{walkable}
+use Rattle.nesting.proofs.Chain.{refusal-stands, sound-holds}
 use Rattle.following.specs.declared.Followed.{Followed}
 use Rattle.following.specs.Follow.{meaning as endMeaning}
 use Rattle.walk.specs.declared.WalkReply.{WalkReply}
@@ -29,16 +25,10 @@ module _ (t : Routine) (w : List ℕ) (s : Structured) (checked : StructureCheck
   reply-structure f e = walk-checked t w (refusal f) (refusal-stands t s checked f e (lengthRule w ∷ []) (walkBlocks t w (accepted (walked t w))))
 
   module _ (sound : s .answer ≡ Sound) where
-    pub rules : AllHold (structureRules t)
-    rules = sound-holds t s checked sound
-
-    pub keeps : (d : Depths) → DepthsOf (t .parents) d → Walkable t (s .around) (d .each)
-    keeps d deep = walkable t (s .around) d rules (sound-sets t s checked sound) deep
-
     -- the tables pass: the reply is that to the walk
     pub reply-walked : (r : WalkReply) → meaning r ≡ check (lengthRule w ∷ []) (walkBlocks t w (accepted (walked t w))) → WalkChecked t w (meaning r)
     unfolding walkReply
-    reply-walked r e = walk-checked t w (meaning r) (e ∙ sym (past-all (structureRules t) (lengthRule w ∷ []) (walkBlocks t w (accepted (walked t w))) rules))
+    reply-walked r e = walk-checked t w (meaning r) (e ∙ sym (past-all (structureRules t) (lengthRule w ∷ []) (walkBlocks t w (accepted (walked t w))) (sound-holds t s checked sound)))
 
 -- the end of a walk, by its kind
 pub ended : {a : Followed} {m : Reply Walked} (g : Followed) → a ≡ g → m ≡ endMeaning g → m ≡ endMeaning a

@@ -1,10 +1,11 @@
 use mathlib.Core.Path.{_≡_}
 use Rattle.wcet.specs.Table.{Routine}
 use Rattle.nesting.specs.declared.Structure.the-variants.{Sound}
+use Rattle.nesting.proofs.Chain.{sound-holds}
 use Rattle.stepping.specs.Step.{Walkable}
 use Rattle.following.specs.Follow.{Unread, walkColumns}
-use Rattle.stepping.proofs.Along.{parents-ready}
-use Rattle.tally.proofs.Replies.{rules, keeps, reply-structure, reply-stays, reply-greatest, reply-written}
+use Rattle.stepping.proofs.Along.{sound-walkable, parents-ready}
+use Rattle.tally.proofs.Replies.{reply-structure, reply-stays, reply-greatest, reply-written}
 use borrow.Author.Needs.{needs}
 use Rattle.tally.proofs.tally.Statement.{statement}
 use Rattle.tally.proofs.tally.Tie as tie
@@ -35,7 +36,7 @@ walkable : (c : tie.After-depths-of) → Walkable (table (entry (found c .before
 walkable c =
     let k = found c .before .before in
     let s = entry k in
-    keeps (table s) (s .args .blocks .now) (s .args .stays .now) (s .args .greatest .now) (k .check-structure .result) (k .check-structure .ensures) (sound (found c)) (c .depths-of .result) (c .depths-of .ensures)
+    sound-walkable (table s) (k .check-structure .result) (k .check-structure .ensures) (sound (found c)) (c .depths-of .result) (c .depths-of .ensures)
 
 check-structure-requires : tie.Need-check-structure-requires
 check-structure-requires c κs = search needs
@@ -68,7 +69,7 @@ depths-of-requires c κs =
     let e = c .before .before .before in
     let k = e .before .before in
     let s = entry k in
-    parents-ready (table s) (rules (table s) (s .args .blocks .now) (s .args .stays .now) (s .args .greatest .now) (k .check-structure .result) (k .check-structure .ensures) (sound e))
+    parents-ready (table s) (sound-holds (table s) (k .check-structure .result) (k .check-structure .ensures) (sound e))
 
 write-requires : tie.Need-write-requires
 write-requires c κs =

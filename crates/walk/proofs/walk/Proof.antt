@@ -2,10 +2,11 @@ use mathlib.Core.Path.{_≡_, refl, sym, _∙_}
 use mathlib.Core.Bool.{true≢false}
 use Rattle.wcet.specs.Table.{Routine}
 use Rattle.nesting.specs.declared.Structure.the-variants.{Sound}
+use Rattle.nesting.proofs.Chain.{sound-holds}
 use Rattle.stepping.specs.Step.{Walkable}
-use Rattle.stepping.proofs.Along.{parents-ready}
+use Rattle.stepping.proofs.Along.{sound-walkable, parents-ready}
 use Rattle.following.specs.Follow.{Unread, walkColumns}
-use Rattle.walk.proofs.Replies.{rules, keeps, reply-structure, reply-walked}
+use Rattle.walk.proofs.Replies.{reply-structure, reply-walked}
 use borrow.Author.Needs.{needs}
 use Rattle.walk.proofs.walk.Statement.{statement}
 use Rattle.walk.proofs.walk.Tie as tie
@@ -37,7 +38,7 @@ walkable : (c : tie.After-depths-of) → Walkable (table (entry (found c .before
 walkable c =
     let k = found c .before .before in
     let s = entry k in
-    keeps (table s) (s .args .blocks .now) (k .check-structure .result) (k .check-structure .ensures) (sound (found c)) (c .depths-of .result) (c .depths-of .ensures)
+    sound-walkable (table s) (k .check-structure .result) (k .check-structure .ensures) (sound (found c)) (c .depths-of .result) (c .depths-of .ensures)
 
 check-structure-requires : tie.Need-check-structure-requires
 check-structure-requires c κs = search needs
@@ -56,7 +57,7 @@ depths-of-requires c κs =
     let e = c .before in
     let k = e .before .before in
     let s = entry k in
-    parents-ready (table s) (rules (table s) (s .args .blocks .now) (k .check-structure .result) (k .check-structure .ensures) (sound e))
+    parents-ready (table s) (sound-holds (table s) (k .check-structure .result) (k .check-structure .ensures) (sound e))
 
 walk-through-requires : tie.Need-walk-through-requires
 walk-through-requires c κs =
