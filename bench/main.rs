@@ -350,7 +350,7 @@ fn walking() {
     }
 }
 
-// Our tally beside the straight walker with the same tally, and beside one that does less, on the same walks.
+// Our tally beside a lean straight tally, which has the goal, and beside the straight walker with the same tally, on the same walks.
 fn tallying() {
     for recording in recordings() {
         let Recording { routine, walk, .. } = &recording;
@@ -371,8 +371,8 @@ fn tallying() {
             &[1.0],
             &mut [
                 Measure::new("rolkeyda_tally", || keep(Library::tally(routine, black_box(walk), &mut stays, &mut greatest))),
-                Measure::new("straight Rust", || keep(straight::tally(routine, black_box(walk), &mut their_stays, &mut their_greatest))),
                 Measure::new("straight Rust, lean", || keep(straight::lean_tally(routine, black_box(walk), &mut lean_stays, &mut lean_greatest))),
+                Measure::new("straight Rust, walker", || keep(straight::tally(routine, black_box(walk), &mut their_stays, &mut their_greatest))),
             ],
         );
     }
