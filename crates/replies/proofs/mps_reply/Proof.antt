@@ -1,4 +1,6 @@
-use Rattle.replies.proofs.Answers.{text-structure, length-fits, text-accepted, text-fault, text-told}
+use mathlib.Core.Path.{refl}
+use Rattle.writer.specs.declared.MpsReply.the-variants as mps
+use Rattle.replies.proofs.Answers.{fault-place, fault-told, number-fits, number-told, told, textFields, same-count-fault}
 use borrow.Author.Needs.{needs}
 use Rattle.replies.proofs.mps_reply.Statement.{statement}
 use Rattle.replies.proofs.mps_reply.Tie as tie
@@ -14,7 +16,7 @@ enum-known-answer c = search needs
 
 -- src/lib.rt:101:46
 cast-accepted : tie.Need-cast-accepted
-cast-accepted c = search (length-fits, needs)
+cast-accepted c = search (number-fits textFields mps.Length (λ n. refl), needs)
 
 -- src/lib.rt:101:37
 accepted-requires : tie.Need-accepted-requires
@@ -26,7 +28,7 @@ enum-known-answer-2 c = search needs
 
 -- src/lib.rt:102:39
 structure-requires : tie.Need-structure-requires
-structure-requires c κs = search text-structure
+structure-requires c κs = search (fault-place textFields mps.Structure same-count-fault)
 
 -- src/lib.rt:103:37
 enum-told : tie.Need-enum-told
@@ -46,19 +48,19 @@ refused-requires-2 c κs = search needs
 
 -- src/lib.rt:96:1
 returns : tie.Need-returns
-returns c = search (text-accepted, needs)
+returns c = search (number-told textFields mps.Length (λ n. refl), needs)
 
 -- src/lib.rt:96:1
 returns-2 : tie.Need-returns-2
-returns-2 c = search (text-fault, needs)
+returns-2 c = search (fault-told textFields mps.Structure same-count-fault, needs)
 
 -- src/lib.rt:96:1
 returns-3 : tie.Need-returns-3
-returns-3 c = search text-told
+returns-3 c = search (told textFields)
 
 -- src/lib.rt:96:1
 returns-4 : tie.Need-returns-4
-returns-4 c = search text-told
+returns-4 c = search (told textFields)
 
 pub mps-reply-spec : {M : Type 1} → statement M
 mps-reply-spec =

@@ -1,4 +1,6 @@
-use Rattle.replies.proofs.Answers.{solve-structure, solve-path, solve-accepted, solve-told}
+use mathlib.Core.Path.{refl}
+use Rattle.solver.specs.declared.SolveReply.the-variants as solve
+use Rattle.replies.proofs.Answers.{place-of, fault-place, bound-told, told, solveFields}
 use borrow.Author.Needs.{needs}
 use Rattle.replies.proofs.solve_reply.Statement.{statement}
 use Rattle.replies.proofs.solve_reply.Tie as tie
@@ -18,7 +20,7 @@ enum-known-answer-2 : tie.Need-enum-known-answer-2
 enum-known-answer-2 c = search needs
 
 structure-requires : tie.Need-structure-requires
-structure-requires c κs = search solve-structure
+structure-requires c κs = search (fault-place solveFields solve.Structure (λ k. refl))
 
 enum-told : tie.Need-enum-told
 enum-told c = search needs
@@ -30,7 +32,7 @@ enum-known-answer-3 : tie.Need-enum-known-answer-3
 enum-known-answer-3 c = search needs
 
 refused-requires-2 : tie.Need-refused-requires-2
-refused-requires-2 c κs = search (solve-path, needs)
+refused-requires-2 c κs = search (place-of solveFields solve.NoPath (λ i. refl), needs)
 
 enum-told-2 : tie.Need-enum-told-2
 enum-told-2 c = search needs
@@ -45,22 +47,22 @@ refused-requires-4 : tie.Need-refused-requires-4
 refused-requires-4 c κs = search needs
 
 returns : tie.Need-returns
-returns c = search (solve-accepted, needs)
+returns c = search (bound-told solveFields solve.Accepted (λ b. refl), needs)
 
 returns-2 : tie.Need-returns-2
 returns-2 c = search needs
 
 returns-3 : tie.Need-returns-3
-returns-3 c = search solve-told
+returns-3 c = search (told solveFields)
 
 returns-4 : tie.Need-returns-4
-returns-4 c = search solve-told
+returns-4 c = search (told solveFields)
 
 returns-5 : tie.Need-returns-5
-returns-5 c = search solve-told
+returns-5 c = search (told solveFields)
 
 returns-6 : tie.Need-returns-6
-returns-6 c = search solve-told
+returns-6 c = search (told solveFields)
 
 pub solve-reply-spec : {M : Type 1} → statement M
 solve-reply-spec =

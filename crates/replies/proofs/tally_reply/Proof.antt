@@ -1,4 +1,6 @@
-use Rattle.replies.proofs.Answers.{tally-structure, tally-no-block, tally-after-exit, tally-no-edge, tally-over-limit, tally-unfinished, tally-fault, tally-told, steps-fit, tally-accepted}
+use mathlib.Core.Path.{refl}
+use Rattle.tally.specs.declared.TallyReply.the-variants as tally
+use Rattle.replies.proofs.Answers.{place-of, fault-place, fault-told, number-fits, number-told, told, tallyFields, same-count-fault}
 use borrow.Author.Needs.{needs}
 use Rattle.replies.proofs.tally_reply.Statement.{statement}
 use Rattle.replies.proofs.tally_reply.Tie as tie
@@ -12,7 +14,7 @@ enum-known-answer : tie.Need-enum-known-answer
 enum-known-answer c = search needs
 
 cast-accepted : tie.Need-cast-accepted
-cast-accepted c = search (steps-fit, needs)
+cast-accepted c = search (number-fits tallyFields tally.Accepted (λ n. refl), needs)
 
 accepted-requires : tie.Need-accepted-requires
 accepted-requires c κs = search needs
@@ -21,7 +23,7 @@ enum-known-answer-2 : tie.Need-enum-known-answer-2
 enum-known-answer-2 c = search needs
 
 structure-requires : tie.Need-structure-requires
-structure-requires c κs = search tally-structure
+structure-requires c κs = search (fault-place tallyFields tally.Structure same-count-fault)
 
 enum-told : tie.Need-enum-told
 enum-told c = search needs
@@ -39,7 +41,7 @@ enum-known-answer-3 : tie.Need-enum-known-answer-3
 enum-known-answer-3 c = search needs
 
 refused-requires-3 : tie.Need-refused-requires-3
-refused-requires-3 c κs = search tally-no-block
+refused-requires-3 c κs = search (place-of tallyFields tally.NoBlock (λ i. refl))
 
 enum-told-3 : tie.Need-enum-told-3
 enum-told-3 c = search needs
@@ -51,55 +53,55 @@ enum-known-answer-4 : tie.Need-enum-known-answer-4
 enum-known-answer-4 c = search needs
 
 refused-requires-5 : tie.Need-refused-requires-5
-refused-requires-5 c κs = search tally-after-exit
+refused-requires-5 c κs = search (place-of tallyFields tally.AfterExit (λ i. refl))
 
 enum-known-answer-5 : tie.Need-enum-known-answer-5
 enum-known-answer-5 c = search needs
 
 refused-requires-6 : tie.Need-refused-requires-6
-refused-requires-6 c κs = search tally-no-edge
+refused-requires-6 c κs = search (place-of tallyFields tally.NoEdge (λ i. refl))
 
 enum-known-answer-6 : tie.Need-enum-known-answer-6
 enum-known-answer-6 c = search needs
 
 refused-requires-7 : tie.Need-refused-requires-7
-refused-requires-7 c κs = search tally-over-limit
+refused-requires-7 c κs = search (place-of tallyFields tally.OverLimit (λ i. refl))
 
 enum-known-answer-7 : tie.Need-enum-known-answer-7
 enum-known-answer-7 c = search needs
 
 refused-requires-8 : tie.Need-refused-requires-8
-refused-requires-8 c κs = search tally-unfinished
+refused-requires-8 c κs = search (place-of tallyFields tally.Unfinished (λ i. refl))
 
 returns : tie.Need-returns
-returns c = search (tally-accepted, needs)
+returns c = search (number-told tallyFields tally.Accepted (λ n. refl), needs)
 
 returns-2 : tie.Need-returns-2
-returns-2 c = search (tally-fault, needs)
+returns-2 c = search (fault-told tallyFields tally.Structure same-count-fault, needs)
 
 returns-3 : tie.Need-returns-3
-returns-3 c = search tally-told
+returns-3 c = search (told tallyFields)
 
 returns-4 : tie.Need-returns-4
-returns-4 c = search tally-told
+returns-4 c = search (told tallyFields)
 
 returns-5 : tie.Need-returns-5
-returns-5 c = search tally-told
+returns-5 c = search (told tallyFields)
 
 returns-6 : tie.Need-returns-6
-returns-6 c = search tally-told
+returns-6 c = search (told tallyFields)
 
 returns-7 : tie.Need-returns-7
-returns-7 c = search tally-told
+returns-7 c = search (told tallyFields)
 
 returns-8 : tie.Need-returns-8
-returns-8 c = search tally-told
+returns-8 c = search (told tallyFields)
 
 returns-9 : tie.Need-returns-9
-returns-9 c = search tally-told
+returns-9 c = search (told tallyFields)
 
 returns-10 : tie.Need-returns-10
-returns-10 c = search tally-told
+returns-10 c = search (told tallyFields)
 
 pub tally-reply-spec : {M : Type 1} → statement M
 tally-reply-spec =

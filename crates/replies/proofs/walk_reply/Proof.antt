@@ -1,4 +1,6 @@
-use Rattle.replies.proofs.Answers.{cost-fits, walk-structure, at-no-block, at-after-exit, at-no-edge, at-over-limit, at-unfinished, walk-accepted, walk-fault, walk-told}
+use mathlib.Core.Path.{refl}
+use Rattle.walk.specs.declared.WalkReply.the-variants as walk
+use Rattle.replies.proofs.Answers.{place-of, fault-place, fault-told, cost-fits, walk-accepted, told, walkFields, same-fault}
 use borrow.Author.Needs.{needs}
 use Rattle.replies.proofs.walk_reply.Statement.{statement}
 use Rattle.replies.proofs.walk_reply.Tie as tie
@@ -21,7 +23,7 @@ enum-known-answer-2 : tie.Need-enum-known-answer-2
 enum-known-answer-2 c = search needs
 
 structure-requires : tie.Need-structure-requires
-structure-requires c κs = search walk-structure
+structure-requires c κs = search (fault-place walkFields walk.Structure same-fault)
 
 enum-told : tie.Need-enum-told
 enum-told c = search needs
@@ -33,7 +35,7 @@ enum-known-answer-3 : tie.Need-enum-known-answer-3
 enum-known-answer-3 c = search needs
 
 refused-requires-2 : tie.Need-refused-requires-2
-refused-requires-2 c κs = search at-no-block
+refused-requires-2 c κs = search (place-of walkFields walk.NoBlock (λ i. refl))
 
 enum-told-2 : tie.Need-enum-told-2
 enum-told-2 c = search needs
@@ -45,52 +47,52 @@ enum-known-answer-4 : tie.Need-enum-known-answer-4
 enum-known-answer-4 c = search needs
 
 refused-requires-4 : tie.Need-refused-requires-4
-refused-requires-4 c κs = search at-after-exit
+refused-requires-4 c κs = search (place-of walkFields walk.AfterExit (λ i. refl))
 
 enum-known-answer-5 : tie.Need-enum-known-answer-5
 enum-known-answer-5 c = search needs
 
 refused-requires-5 : tie.Need-refused-requires-5
-refused-requires-5 c κs = search at-no-edge
+refused-requires-5 c κs = search (place-of walkFields walk.NoEdge (λ i. refl))
 
 enum-known-answer-6 : tie.Need-enum-known-answer-6
 enum-known-answer-6 c = search needs
 
 refused-requires-6 : tie.Need-refused-requires-6
-refused-requires-6 c κs = search at-over-limit
+refused-requires-6 c κs = search (place-of walkFields walk.OverLimit (λ i. refl))
 
 enum-known-answer-7 : tie.Need-enum-known-answer-7
 enum-known-answer-7 c = search needs
 
 refused-requires-7 : tie.Need-refused-requires-7
-refused-requires-7 c κs = search at-unfinished
+refused-requires-7 c κs = search (place-of walkFields walk.Unfinished (λ i. refl))
 
 returns : tie.Need-returns
 returns c = search walk-accepted
 
 returns-2 : tie.Need-returns-2
-returns-2 c = search walk-fault
+returns-2 c = search (fault-told walkFields walk.Structure same-fault)
 
 returns-3 : tie.Need-returns-3
-returns-3 c = search walk-told
+returns-3 c = search (told walkFields)
 
 returns-4 : tie.Need-returns-4
-returns-4 c = search walk-told
+returns-4 c = search (told walkFields)
 
 returns-5 : tie.Need-returns-5
-returns-5 c = search walk-told
+returns-5 c = search (told walkFields)
 
 returns-6 : tie.Need-returns-6
-returns-6 c = search walk-told
+returns-6 c = search (told walkFields)
 
 returns-7 : tie.Need-returns-7
-returns-7 c = search walk-told
+returns-7 c = search (told walkFields)
 
 returns-8 : tie.Need-returns-8
-returns-8 c = search walk-told
+returns-8 c = search (told walkFields)
 
 returns-9 : tie.Need-returns-9
-returns-9 c = search walk-told
+returns-9 c = search (told walkFields)
 
 pub walk-reply-spec : {M : Type 1} → statement M
 walk-reply-spec =
