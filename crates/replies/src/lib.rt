@@ -134,7 +134,6 @@ pub fn tally_reply(answer: TallyReply) -> Reply
         TallyReply::NotEntry => refused(303, 0),
         TallyReply::AfterExit(i) => refused(311, i),
         TallyReply::NoEdge(i) => refused(312, i),
-        TallyReply::OverLimit(i) => refused(313, i),
         TallyReply::Unfinished(length) => refused(314, length),
     }
 }

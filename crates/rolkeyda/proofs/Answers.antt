@@ -215,7 +215,6 @@ module _ (t : Routine) (w stayed visited : List ℕ) (a : TallyReply) (ss gs : L
       accepting tally.NotEntry z = absurd (omega arith)
       accepting (tally.AfterExit i) z = absurd (omega arith)
       accepting (tally.NoEdge i) z = absurd (omega arith)
-      accepting (tally.OverLimit i) z = absurd (omega arith)
       accepting (tally.Unfinished n) z = absurd (omega arith)
 
 -- ---- readings

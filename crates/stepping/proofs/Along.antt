@@ -11,21 +11,15 @@ use lib.ListN.{length, getD, drop}
 use lib.Seq.{drop-cons}
 use Rattle.lists.specs.Search.{if_then_else_}
 use Rattle.lists.proofs.Tests.{or-false}
-use Rattle.wcet.specs.Table.{Routine, blockCount, loopCount, exit, cost, header, edge, inside}
-use Rattle.wcet.specs.Rules.{Reply, refused, outOfRange, structureRules}
+use Rattle.wcet.specs.Table.{Routine, blockCount, exit, cost, header, edge, inside}
+use Rattle.wcet.specs.Rules.{Reply, refused, outOfRange}
 use Rattle.wcet.specs.Run.{State, start, leaves, nextCount, next, runCost}
 use Rattle.limits.specs.Limits.{mostLoops, longestWalk}
-use Rattle.wcet.specs.Claim.{AllHold}
-use Rattle.wcet.proofs.Nesting.{nested}
 use Rattle.nesting.specs.Answers.{StructureChecked}
 use Rattle.nesting.specs.declared.Structure.the-variants.{Sound}
 use Rattle.nesting.specs.declared.Structured.{Structured}
 use Rattle.nesting.proofs.Stages.{headed}
 use Rattle.nesting.proofs.Chain.{sound-holds, sound-sets}
-use Rattle.loopsets.specs.Sets.{Parents, setsAround}
-use Rattle.levels.specs.Levels.{DepthsOf}
-use Rattle.levels.specs.declared.Depths.{Depths}
-use Rattle.levels.proofs.Laws.{nested-parents}
 use Rattle.stepping.specs.declared.Run.{Run}
 use Rattle.stepping.specs.declared.Answer.{Answer}
 use Rattle.stepping.specs.declared.Answer.the-variants.{Moved, NoBlock, AfterExit, NoEdge}
@@ -34,17 +28,9 @@ use Rattle.stepping.specs.declared.Entry.{Entry}
 use Rattle.stepping.specs.declared.Entry.the-variants as entry
 use Rattle.stepping.specs.Step.{stateOf, visitsTo, Outcome, outcome, unmoved, stepped, entryAnswer, Walkable, Standing}
 
--- what the tables that keep 201 to 207 give a walk
-pub walkable : (t : Routine) (sets : List ℕ) (d : Depths) → AllHold (structureRules t) → sets ≡ setsAround (t .parents) → DepthsOf (t .parents) d → Walkable t sets (d .each)
-walkable t sets d rules around deep = record { rules = rules; ranged = headed t rules .ranged; sets-around = around; deep = deep .same }
-
--- the same of what the structure check hands on
-pub sound-walkable : (t : Routine) (s : Structured) → StructureChecked t s → s .answer ≡ Sound → (d : Depths) → DepthsOf (t .parents) d → Walkable t (s .around) (d .each)
-sound-walkable t s checked sound d deep = walkable t (s .around) d (sound-holds t s checked sound) (sound-sets t s checked sound) deep
-
--- what the depths are made from
-pub parents-ready : (t : Routine) → AllHold (structureRules t) → (0 < loopCount t) × (loopCount t ≤ mostLoops) × Parents (t .parents)
-parents-ready t rules = let sized = headed t rules .ranged .sized in (sized .some-loop, sized .few-loops, nested-parents t (nested t rules))
+-- what a walk is given by the structure check
+pub sound-walkable : (t : Routine) (s : Structured) → StructureChecked t s → s .answer ≡ Sound → Walkable t (s .around)
+sound-walkable t s checked sound = let rules = sound-holds t s checked sound in record { rules = rules; ranged = headed t rules .ranged; sets-around = sound-sets t s checked sound }
 
 -- ---- the first block
 
@@ -139,21 +125,23 @@ unfolding runCost
 spent-next t w i h = ap (runCost t) (drop-cons w i 0 h)
 
 -- The run r stands before index i of the walk w.
-pub record Along (t : Routine) (w : List ℕ) (r : Run) (i : ℕ) : Type 0 where
+pub record Along (t : Routine) (w counts : List ℕ) (r : Run) (i : ℕ) : Type 0 where
+  pub sized : length counts ≡ mostLoops
   pub some : 0 < i
   pub in-walk : i ≤ length w
   pub at-block : r .at < blockCount t
-  pub few : (l : ℕ) → stateOf t r .count l ≤ i
+  pub few : (l : ℕ) → stateOf t counts r .count l ≤ i
   pub room : r .cost ≤ i * 1000000
   pub spent : r .cost + runCost t (drop i w) ≡ runCost t w
 
-pub standing : {t : Routine} {w : List ℕ} {r : Run} {i : ℕ} → Along t w r i → i ≤ longestWalk → Standing t r
-standing A h = record { at-block = A .at-block; few = λ l. omega (arith, A .few l); room = omega (arith, A .room) }
+pub standing : {t : Routine} {w counts : List ℕ} {r : Run} {i : ℕ} → Along t w counts r i → i ≤ longestWalk → Standing t counts r
+standing A h = record { sized = A .sized; at-block = A .at-block; few = λ l. omega (arith, A .few l); room = omega (arith, A .room) }
 
-module _ (t : Routine) (sets depths : List ℕ) (S : Walkable t sets depths) (w : List ℕ) where
-  pub along-first : (r : Run) → 0 < length w → getD w 0 0 ≡ 0 → stateOf t r ≡ start → r .cost ≡ cost t 0 → Along t w r 1
+module _ (t : Routine) (sets : List ℕ) (S : Walkable t sets) (w : List ℕ) where
+  pub along-first : (counts : List ℕ) (r : Run) → 0 < length w → getD w 0 0 ≡ 0 → length counts ≡ mostLoops → stateOf t counts r ≡ start → r .cost ≡ cost t 0 → Along t w counts r 1
   unfolding start
-  along-first r some first e c = record {
+  along-first counts r some first size e c = record {
+    sized = size;
     some = omega arith;
     in-walk = some;
     at-block = omega (arith, S .ranged .sized .some-block, ap (λ (s : State). s .block) e);
@@ -166,23 +154,24 @@ module _ (t : Routine) (sets depths : List ℕ) (S : Walkable t sets depths) (w 
       one true = omega arith
       one false = omega arith
 
-  module _ (r : Run) (i : ℕ) (A : Along t w r i) (h : i < length w) (s : Stepped) (step : outcome t s ≡ stepped t (stateOf t r) (r .cost) (getD w i 0)) (on : s .answer ≡ Moved) where
-    pub moved : Moves t (stateOf t r) (r .cost) (getD w i 0)
-    moved = moves t (stateOf t r) (r .cost) (getD w i 0) (ap (λ (x : Outcome). x .answer) (sym step) ∙ on)
+  module _ (counts : List ℕ) (r : Run) (i : ℕ) (A : Along t w counts r i) (h : i < length w) (counts′ : List ℕ) (s : Stepped) (size : length counts′ ≡ mostLoops) (step : outcome t counts′ s ≡ stepped t (stateOf t counts r) (r .cost) (getD w i 0)) (on : s .answer ≡ Moved) where
+    pub moved : Moves t (stateOf t counts r) (r .cost) (getD w i 0)
+    moved = moves t (stateOf t counts r) (r .cost) (getD w i 0) (ap (λ (x : Outcome). x .answer) (sym step) ∙ on)
 
-    pub next-state : stateOf t (s .run) ≡ next t (stateOf t r) (getD w i 0)
+    pub next-state : stateOf t counts′ (s .run) ≡ next t (stateOf t counts r) (getD w i 0)
     next-state = ap (λ (x : Outcome). x .state) (step ∙ moved .on)
 
-    pub next-visits : s .visits ≡ visitsTo t (stateOf t r) (getD w i 0)
+    pub next-visits : s .visits ≡ visitsTo t (stateOf t counts r) (getD w i 0)
     next-visits = ap (λ (x : Outcome). x .visits) (step ∙ moved .on)
 
-    pub along-next : Along t w (s .run) (i + 1)
+    pub along-next : Along t w counts′ (s .run) (i + 1)
     unfolding next
     along-next = record {
+      sized = size;
       some = omega arith;
       in-walk = omega arith;
       at-block = omega (arith, moved .block, ap (λ (x : State). x .block) next-state);
-      few = λ l. omega (arith, ap (λ (x : State). x .count l) next-state, next-most t (r .at) (getD w i 0) l (stateOf t r .count l), A .few l);
+      few = λ l. omega (arith, ap (λ (x : State). x .count l) next-state, next-most t (r .at) (getD w i 0) l (stateOf t counts r .count l), A .few l);
       room = omega (arith, A .room, spent, S .ranged .cost-most (getD w i 0) (moved .block));
       spent = rw add-one (omega (arith, A .spent, spent, spent-next t w i h));
     }

@@ -8,22 +8,20 @@ use native.Mathlib.Decide.{ℕ-discrete}
 use native.Mathlib.Omega.{arith}
 use lib.Dec.{eqb, ltb}
 use borrow.Author.Tests.{lt-ltb, ne-eqb, eqb-false, ltb-true}
-use lib.ListN.{length, getD}
+use lib.ListN.{length, getD, length-set}
 use denote.Enum.Declared.{tagOf}
-use Rattle.limits.specs.Limits.{mostBlocks, mostLoops, mostDepth, longestWalk}
+use Rattle.limits.specs.Limits.{mostBlocks, mostLoops, longestWalk}
 use Rattle.lists.specs.Search.{if_then_else_}
 use Rattle.wcet.specs.Table.{Routine, blockCount, loopCount, exit, missing, cost, loopOf, first, second, someEdge, edge, inside, isHeader}
 use Rattle.wcet.specs.Run.{State, nextCount, next}
 use Rattle.loopsets.specs.Sets.{member, setAt}
 use Rattle.loopsets.specs.declared.LoopSet.{LoopSet}
-use Rattle.levels.specs.Levels.{depth}
-use Rattle.counts.specs.Counts.{countAt, headerVisits, countsAfter}
 use Rattle.stepping.specs.declared.Run.{Run}
 use Rattle.stepping.specs.declared.Answer.{Answer}
 use Rattle.stepping.specs.declared.Answer.the-variants.{Moved, NoBlock, AfterExit, NoEdge}
-use Rattle.stepping.specs.Step.{countIn, stateOf, visitsTo, Outcome, unmoved, stepped, edgeAnswer, Walkable, Standing}
+use Rattle.stepping.specs.Step.{headerVisits, countsAfter, countIn, stateOf, visitsTo, Outcome, unmoved, stepped, edgeAnswer, Walkable, Standing}
 use Rattle.stepping.proofs.Answer.{the-type}
-use Rattle.stepping.proofs.Depths.{nesting, member-inside, depth-range, counts-next}
+use Rattle.stepping.proofs.Counts.{nesting, member-inside, counts-next}
 
 -- ---- the edge
 
@@ -88,7 +86,7 @@ module _ (t : Routine) (few : blockCount t ≤ mostBlocks) (s : State) (c v : �
       go true p false true r e = absurd (not-moved (tagOf the-type a) f (ap (λ (x : Answer). tagOf the-type x) e))
 
 -- what is known once the edge is found
-pub record InStep (t : Routine) (depths : List ℕ) (r : Run) (v : ℕ) : Type 0 where
+pub record InStep (t : Routine) (r : Run) (v : ℕ) : Type 0 where
   pub block : v < blockCount t
   pub loops : length (t .loops) ≡ blockCount t
   pub headers : length (t .headers) ≡ loopCount t
@@ -96,65 +94,66 @@ pub record InStep (t : Routine) (depths : List ℕ) (r : Run) (v : ℕ) : Type 0
   pub few-loops : loopCount t ≤ mostLoops
   pub into : loopOf t v < loopCount t
   pub from : loopOf t (r .at) < loopCount t
-  pub deep : 1 ≤ getD depths (loopOf t v) 0
-  pub not-deeper : getD depths (loopOf t v) 0 ≤ mostDepth
   pub price : cost t v ≤ 1000000
   pub room : r .cost ≤ 1000000 * longestWalk
 
-pub in-step : (t : Routine) (sets depths : List ℕ) → Walkable t sets depths → (r : Run) (v : ℕ) → Standing t r → OnEdge t (r .at) v → InStep t depths r v
-in-step t sets depths S r v stands E = record {
+pub in-step : (t : Routine) (sets counts : List ℕ) → Walkable t sets → (r : Run) (v : ℕ) → Standing t counts r → OnEdge t (r .at) v → InStep t r v
+in-step t sets counts S r v stands E = record {
   block = E .block;
   loops = S .ranged .sized .loops;
   headers = S .ranged .sized .headers;
   few-blocks = S .ranged .sized .few-blocks;
   few-loops = S .ranged .sized .few-loops;
-  into = into;
-  from = nesting t sets depths S .innermost (r .at) (stands .at-block);
-  deep = omega (arith, S .deep (loopOf t v) into, depth-range t sets depths S (loopOf t v) into .0);
-  not-deeper = omega (arith, S .deep (loopOf t v) into, depth-range t sets depths S (loopOf t v) into .1);
+  into = nesting t sets S .innermost v (E .block);
+  from = nesting t sets S .innermost (r .at) (stands .at-block);
   price = S .ranged .cost-most v (E .block);
   room = stands .room;
 }
-  where
-    into : loopOf t v < loopCount t
-    into = nesting t sets depths S .innermost v (E .block)
 
 -- ---- the counts
 
-module _ (t : Routine) (sets depths : List ℕ) (S : Walkable t sets depths) (r : Run) (v : ℕ) (stands : Standing t r) (E : OnEdge t (r .at) v)
+module _ (t : Routine) (sets counts : List ℕ) (S : Walkable t sets) (r : Run) (v : ℕ) (stands : Standing t counts r) (E : OnEdge t (r .at) v)
     (here : LoopSet) (b : Bool) (set-is : here ≡ setAt sets (loopOf t (r .at))) (tested : b ≡ member here (loopOf t v)) where
   into : loopOf t v < loopCount t
-  into = nesting t sets depths S .innermost v (E .block)
+  into = nesting t sets S .innermost v (E .block)
 
   is-inside : b ≡ inside t (r .at) (loopOf t v)
-  is-inside = tested ∙ rw set-is (member-inside t sets depths S (r .at) (loopOf t v) (stands .at-block) (omega (arith, into, S .ranged .sized .few-loops)))
+  is-inside = tested ∙ rw set-is (member-inside t sets S (r .at) (loopOf t v) (stands .at-block) (omega (arith, into, S .ranged .sized .few-loops)))
 
-  pub few-visits : b ≡ true → countAt (r .counts) (getD depths (loopOf t v) 0) ≤ longestWalk
+  pub few-visits : b ≡ true → getD counts (loopOf t v) 0 ≤ longestWalk
   few-visits i =
       let inner : inside t (r .at) (loopOf t v) ≡ true = sym is-inside ∙ i in
-      rw (S .deep (loopOf t v) into) (rw inner at (stands .few (loopOf t v)))
+      rw inner at (stands .few (loopOf t v))
 
-  module _ (k : ℕ) (found : k ≡ headerVisits (countAt (r .counts) (getD depths (loopOf t v) 0)) (isHeader t v) b) where
-    at-depth : k ≡ headerVisits (countAt (r .counts) (depth (t .parents) (loopOf t v))) (isHeader t v) (inside t (r .at) (loopOf t v))
-    at-depth = found ∙ rw (S .deep (loopOf t v) into, is-inside)
+  module _ (k : ℕ) (found : k ≡ headerVisits (getD counts (loopOf t v) 0) (isHeader t v) b) where
+    visits-found : k ≡ headerVisits (getD counts (loopOf t v) 0) (isHeader t v) (inside t (r .at) (loopOf t v))
+    visits-found = found ∙ rw is-inside
 
-    visits-are : k ≡ visitsTo t (stateOf t r) v
-    visits-are = at-depth ∙ go (isHeader t v) (inside t (r .at) (loopOf t v))
+    visits-are : k ≡ visitsTo t (stateOf t counts r) v
+    visits-are = visits-found ∙ go (isHeader t v) (inside t (r .at) (loopOf t v))
       where
         c : ℕ
-        c = countAt (r .counts) (depth (t .parents) (loopOf t v))
+        c = getD counts (loopOf t v) 0
 
         go : (h i : Bool) → headerVisits c h i ≡ headerVisits (if i then c else 0) h i
         go true true = refl
         go true false = refl
         go false i = refl
 
-    pub step-moved : length (r .counts) ≡ mostDepth → (a : Answer) → a ≡ Moved → (after : List ℕ) → after ≡ countsAfter (r .counts) (getD depths (loopOf t v) 0) (isHeader t v) k
-        → record { state = record { block = v; count = countIn t after v }; spent = r .cost + cost t v; visits = k; answer = a } ≡ stepped t (stateOf t r) (r .cost) v
+    -- as many counts as before
+    pub still-sized : (after : List ℕ) → after ≡ countsAfter counts (loopOf t v) (isHeader t v) k → length after ≡ mostLoops
+    still-sized after e = ap (λ (xs : List ℕ). length xs) e ∙ go (isHeader t v)
+      where
+        go : (b : Bool) → length (countsAfter counts (loopOf t v) b k) ≡ mostLoops
+        go true = length-set counts (loopOf t v) k ∙ stands .sized
+        go false = stands .sized
+
+    pub step-moved : (a : Answer) → a ≡ Moved → (after : List ℕ) → after ≡ countsAfter counts (loopOf t v) (isHeader t v) k
+        → record { state = record { block = v; count = countIn t after v }; spent = r .cost + cost t v; visits = k; answer = a } ≡ stepped t (stateOf t counts r) (r .cost) v
     unfolding stepped next
-    step-moved size a m after e =
+    step-moved a m after e =
         rw (lt-ltb v (blockCount t) (E .block), ne-eqb (r .at) (exit t) (E .on), E .there, m)
         (ap₂ (λ (f : ℕ → ℕ) (n : ℕ). record { state = record { block = v; count = f }; spent = r .cost + cost t v; visits = n; answer = Moved }) (fun-ext each) visits-are)
       where
-        each : (j : ℕ) → countIn t after v j ≡ nextCount t (r .at) v j (stateOf t r .count j)
-        each j = rw (e, S .deep (loopOf t v) into) (counts-next t sets depths S (r .at) v (stands .at-block) (E .there) (r .counts) k size at-depth j)
+        each : (j : ℕ) → countIn t after v j ≡ nextCount t (r .at) v j (stateOf t counts r .count j)
+        each j = rw e (counts-next t sets S (r .at) v (stands .at-block) (E .there) counts k (stands .sized) visits-found j)

@@ -1,12 +1,12 @@
 -- The state of a run as the code has it, and what one block more makes of it. No limit plays a part.
 use Prim.Native.Nat.{ℕ, _+_, _-_, _*_, _≤_, _<_}
 use mathlib.Core.Path.{_≡_}
-use mathlib.Core.Bool.{not, _||_}
-use mathlib.Core.List.{List}
+use mathlib.Core.Bool.{Bool, not, _||_}
+use mathlib.Core.List.{List, _∷_}
 use lib.Dec.{eqb, ltb}
 use lib.IntN.{ℤ}
-use lib.ListN.{length, getD}
-use Rattle.limits.specs.Limits.{longestWalk}
+use lib.ListN.{length, getD, set, replicate}
+use Rattle.limits.specs.Limits.{mostLoops, longestWalk}
 use Rattle.lists.specs.Search.{if_then_else_}
 use Rattle.wcet.specs.Table.{Routine, blockCount, loopCount, exit, cost, loopOf, edge, inside, isHeader}
 use Rattle.wcet.specs.Rules.{outOfRange, structureRules}
@@ -14,8 +14,6 @@ use Rattle.wcet.specs.Run.{State, start, next}
 use Rattle.wcet.specs.Claim.{AllHold}
 use Rattle.nesting.specs.Columns.{routine, Ranged}
 use Rattle.loopsets.specs.Sets.{setsAround}
-use Rattle.levels.specs.Levels.{depth}
-use Rattle.counts.specs.Counts.{countAt, headerVisits}
 use Rattle.stepping.specs.declared.Run.{Run}
 use Rattle.stepping.specs.declared.Answer.{Answer}
 use Rattle.stepping.specs.declared.Answer.the-variants.{Moved, NoBlock, AfterExit, NoEdge}
@@ -23,13 +21,33 @@ use Rattle.stepping.specs.declared.Stepped.{Stepped}
 use Rattle.stepping.specs.declared.Entry.{Entry}
 use Rattle.stepping.specs.declared.Entry.the-variants as entry
 
--- the count of loop l where the run stands at block u, from the counts by depth: a loop that is not around u stands at 0
+-- ---- the counts
+
+-- the numbers at the first block: 1 for loop 0
+abbrev pub firstNumbers : List ℕ
+firstNumbers = 1 ∷ replicate (mostLoops - 1) 0
+
+-- the visits to a header in this stay after a step to it, where its count was this: one more, or 1 where the step comes from outside
+abbrev pub visitsAfter : ℕ → Bool → ℕ
+visitsAfter count inside = if inside then count + 1 else 1
+
+-- the same of the loop that a step ends in, and 0 where the step ends at another block than its header
+abbrev pub headerVisits : ℕ → Bool → Bool → ℕ
+headerVisits count heading inside = if not heading then 0 else visitsAfter count inside
+
+-- the counts after a step into loop l, where its header, if that is the block, has these visits
+abbrev pub countsAfter : List ℕ → ℕ → Bool → ℕ → List ℕ
+countsAfter counts l heading visits = if heading then set counts l visits else counts
+
+-- ---- the state and the step
+
+-- the count of loop l where the run stands at block u: a loop that is not around u stands at 0
 abbrev pub countIn : Routine → List ℕ → ℕ → ℕ → ℕ
-countIn t counts u l = if inside t u l then countAt counts (depth (t .parents) l) else 0
+countIn t counts u l = if inside t u l then getD counts l 0 else 0
 
 -- where the run stands, in the terms of document 01's definition: its block, and the count of every loop
-abbrev pub stateOf : Routine → Run → State
-stateOf t r = record { block = r .at; count = countIn t (r .counts) (r .at) }
+abbrev pub stateOf : Routine → List ℕ → Run → State
+stateOf t counts r = record { block = r .at; count = countIn t counts (r .at) }
 
 -- the visits to the header at which a step from s to v ends, in this stay; 0 where v is no header
 abbrev pub visitsTo : Routine → State → ℕ → ℕ
@@ -42,8 +60,8 @@ pub record Outcome : Type 0 where
   pub visits : ℕ
   pub answer : Answer
 
-abbrev pub outcome : Routine → Stepped → Outcome
-outcome t s = record { state = stateOf t (s .run); spent = s .run .cost; visits = s .visits; answer = s .answer }
+abbrev pub outcome : Routine → List ℕ → Stepped → Outcome
+outcome t counts s = record { state = stateOf t counts (s .run); spent = s .run .cost; visits = s .visits; answer = s .answer }
 
 -- a refused step leaves the state as it was
 abbrev pub unmoved : State → ℕ → Answer → Outcome
@@ -78,18 +96,17 @@ entryAnswer n w =
 
 -- ---- what a step may rely on
 
--- the tables keep 201 to 207, with the lengths and ranges of 201 to 203 by name, `sets` has the loops around each loop, and `depths` how many
--- they are
-pub record Walkable (t : Routine) (sets depths : List ℕ) : Type 0 where
+-- the tables keep 201 to 207, with the lengths and ranges of 201 to 203 by name, and `sets` has the loops around each loop
+pub record Walkable (t : Routine) (sets : List ℕ) : Type 0 where
   pub rules : AllHold (structureRules t)
   pub ranged : Ranged t
   pub sets-around : sets ≡ setsAround (t .parents)
-  pub deep : (l : ℕ) → l < loopCount t → getD depths l 0 ≡ depth (t .parents) l
 
--- the run stands at a block, and has room for the visits and the cost of the longest walk
-pub record Standing (t : Routine) (r : Run) : Type 0 where
+-- the run stands at a block, has a count for each loop, and has room for the visits and the cost of the longest walk
+pub record Standing (t : Routine) (counts : List ℕ) (r : Run) : Type 0 where
+  pub sized : length counts ≡ mostLoops
   pub at-block : r .at < blockCount t
-  pub few : (l : ℕ) → stateOf t r .count l ≤ longestWalk
+  pub few : (l : ℕ) → stateOf t counts r .count l ≤ longestWalk
   pub room : r .cost ≤ 1000000 * longestWalk
 
 -- ---- the columns that a step does not read
@@ -105,15 +122,26 @@ abbrev pub stepColumns : (costs loops firsts seconds headers : List ℕ) → Unr
 stepColumns costs loops firsts seconds headers x = routine costs loops firsts seconds (x .figures) (x .parents) headers (x .limits) (x .multipliers)
 
 -- what a step requires: there are such columns
-pub record Stands (t : Unread → Routine) (sets depths : List ℕ) (r : Run) : Type 0 where
+pub record Stands (t : Unread → Routine) (sets counts : List ℕ) (r : Run) : Type 0 where
   pub unread : Unread
-  pub walkable : Walkable (t unread) sets depths
-  pub standing : Standing (t unread) r
+  pub walkable : Walkable (t unread) sets
+  pub standing : Standing (t unread) counts r
 
--- what a step ensures: with any such columns, it is the step of the definition
-abbrev pub Steps : (Unread → Routine) → (sets depths : List ℕ) → Run → ℕ → Stepped → Type 0
-Steps t sets depths r v s = (x : Unread) → Walkable (t x) sets depths → Standing (t x) r → outcome (t x) s ≡ stepped (t x) (stateOf (t x) r) (r .cost) v
+-- what a step ensures of its answer s and of the counts after it: with any such columns, it is the step of the definition
+pub record Steps (t : Unread → Routine) (sets counts : List ℕ) (r : Run) (v : ℕ) (s : Stepped) (counts′ : List ℕ) : Type 0 where
+  pub sized : length counts′ ≡ mostLoops
+  pub is-step : (x : Unread) → Walkable (t x) sets → Standing (t x) counts r → outcome (t x) counts′ s ≡ stepped (t x) (stateOf (t x) counts r) (r .cost) v
 
--- what the first state is, over any tables that keep 201 to 207
-abbrev pub Starts : Run → ℕ → Type 0
-Starts r c = ((t : Routine) → AllHold (structureRules t) → stateOf t r ≡ start) × (r .cost ≡ c)
+-- ---- the blocks of a walk, for a function that reads some of the columns
+
+-- what a function requires that follows a walk: the tables of its columns, and of some others, keep 201 to 207
+pub record Ready {Others : Type 0} (t : Others → Routine) (sets : List ℕ) : Type 0 where
+  pub others : Others
+  pub walkable : Walkable (t others) sets
+
+-- and where it goes over the blocks after the first: the walk w is no longer than a walk may be and starts at block 0
+pub record Enters {Others : Type 0} (t : Others → Routine) (sets w : List ℕ) : Type 0 where
+  pub ready : Ready t sets
+  pub some : 0 < length w
+  pub short : length w ≤ longestWalk
+  pub entry : getD w 0 0 ≡ 0

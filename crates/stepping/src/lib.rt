@@ -1,23 +1,25 @@
 // A run, block by block: its state, and what one block more makes of it. No limit plays a part here: the checker of a walk asks for the limit
 // after a step, and the tally of a recording counts after it.
 ghost use mathlib.Core.Path.{_≡_};
-ghost use mathlib.Core.Bool.{_||_};
-ghost use Prim.Native.Nat.{_<_};
+ghost use mathlib.Core.Bool.{true, _||_};
+ghost use Prim.Native.Nat.{_≤_, _<_};
 ghost use lib.Dec.{eqb};
 ghost use lib.ListN.{length, getD};
-ghost use Rattle.stepping.specs.Step.{edgeAnswer, entryAnswer, stepColumns, Starts, Stands, Steps};
-use counts::Counts;
-use counts::DEPTHS;
+ghost use Rattle.limits.specs.Limits.{mostLoops, longestWalk};
+ghost use Rattle.stepping.specs.Step.{firstNumbers, visitsAfter, headerVisits, countsAfter, edgeAnswer, entryAnswer, stepColumns, Stands, Steps};
 use limits::LONGEST_WALK;
 use limits::MOST_LOOPS;
 use loopsets::Sets;
 
-// The state of a run: the block it stands at, the cost of its blocks, and for each loop around that block, by its depth, the visits to its
-// header in the present stay.
+// A number for each loop.
+pub type Numbers = [u32; MOST_LOOPS];
+
+// Where a run stands: its block, and the cost of its blocks. The visits to each loop's header in the present stay are lent beside it, a number
+// for each loop. A loop that is not around the block stands at 0, whatever its number is: nothing is cleared when a loop is left, and the number
+// is not read until the header is visited from outside, which sets it to 1.
 pub struct Run {
     pub at: u16,
     pub cost: u64,
-    pub counts: Counts,
 }
 
 // What the first block answers.
@@ -41,6 +43,37 @@ pub struct Stepped {
     pub run: Run,
     pub visits: u32,
     pub answer: Answer,
+}
+
+// The numbers at the first block, block 0: 1 for loop 0, and 0 for every other loop.
+pub fn first_numbers() -> Numbers
+    ensures { λ r. ⌜ r ≡ firstNumbers ⌝ }
+{
+    let mut numbers = [0u32; MOST_LOOPS];
+    numbers[0] = 1;
+    numbers
+}
+
+// Counts a visit to a header: one more, or the first of a stay where the step comes from outside.
+fn count_on(count: &mut u32, inside: bool) -> u32
+    requires { ⌜ (inside ≡ true → now count ≤ longestWalk) ⌝ }
+    ensures { λ r. ⌜ (r ≡ visitsAfter (now (count .entry)) inside) × (now (count .exit) ≡ r) ⌝ }
+{
+    let visits = if inside { *count + 1 } else { 1 };
+    *count = visits;
+    visits
+}
+
+// Counts a step to a block whose innermost loop is l. The answer is the visits to the loop's header in this stay, where the block is the header,
+// and 0 where it is no header.
+fn visit(counts: &mut Numbers, l: usize, heading: bool, inside: bool) -> u32
+    requires { ⌜ (l < mostLoops) × (inside ≡ true → getD (now counts) l 0 ≤ longestWalk) ⌝ }
+    ensures { λ r. ⌜ (r ≡ headerVisits (getD (now (counts .entry)) l 0) heading inside) × (now (counts .exit) ≡ countsAfter (now (counts .entry)) l heading r) ⌝ }
+{
+    if !heading {
+        return 0;
+    }
+    count_on(&mut counts[l], inside)
 }
 
 // Whether one of the two successors of block u is v.
@@ -72,33 +105,30 @@ fn edge_answer(n: usize, first: &[u16], second: &[u16], from: usize, v: u16) -> 
 }
 
 impl Run {
-    // At the first block, block 0: loop 0 stands at 1 and every other loop at 0.
+    // At the first block, block 0.
     pub fn start(cost: u32) -> Run
-        ensures { λ r. ⌜ Starts r cost ⌝ }
+        ensures { λ r. ⌜ (r .at ≡ 0) × (r .cost ≡ cost) ⌝ }
     {
-        let mut counts = [0u32; DEPTHS];
-        counts[0] = 1;
         Run {
             at: 0,
             cost: cost as u64,
-            counts,
         }
     }
 
     // One block more. The contract holds for any columns that it does not take.
     pub fn step(
         mut self,
+        counts: &mut Numbers,
         cost: &[u32],
         loops: &[u16],
         first: &[u16],
         second: &[u16],
         header: &[u16],
         around: &Sets,
-        depths: &[u16; MOST_LOOPS],
         v: u16,
     ) -> Stepped
-        requires { ⌜ Stands (stepColumns (now cost) (now loops) (now first) (now second) (now header)) (now around) (now depths) self ⌝ }
-        ensures { λ r. ⌜ Steps (stepColumns (now (cost .entry)) (now (loops .entry)) (now (first .entry)) (now (second .entry)) (now (header .entry))) (now (around .entry)) (now (depths .entry)) self v r ⌝ }
+        requires { ⌜ Stands (stepColumns (now cost) (now loops) (now first) (now second) (now header)) (now around) (now counts) self ⌝ }
+        ensures { λ r. ⌜ Steps (stepColumns (now (cost .entry)) (now (loops .entry)) (now (first .entry)) (now (second .entry)) (now (header .entry))) (now (around .entry)) (now (counts .entry)) self v r (now (counts .exit)) ⌝ }
     {
         let from = self.at as usize;
         let to = v as usize;
@@ -113,7 +143,7 @@ impl Run {
         let l = loops[to] as usize;
         let here = loopsets::set_at(around, loops[from] as usize);
         let heading = header[l] == v;
-        let visits = counts::visit(&mut self.counts, depths[l], heading, here.contains(l));
+        let visits = visit(counts, l, heading, here.contains(l));
         self.at = v;
         self.cost += cost[to] as u64;
         Stepped {
@@ -126,6 +156,7 @@ impl Run {
 
 // What 301, 302 and 303 say of the first block of a walk, in a routine of n blocks.
 pub fn first_block(n: usize, blocks: &[u16]) -> Entry
+    requires { ⌜ 0 < n ⌝ }
     ensures { λ r. ⌜ r ≡ entryAnswer n (now (blocks .entry)) ⌝ }
 {
     if blocks.len() < 1 {
@@ -135,11 +166,11 @@ pub fn first_block(n: usize, blocks: &[u16]) -> Entry
         return Entry::Length;
     }
     let entry = blocks[0] as usize;
+    if entry == 0 {
+        return Entry::Entered;
+    }
     if n <= entry {
         return Entry::NoBlock;
     }
-    if entry != 0 {
-        return Entry::NotEntry;
-    }
-    Entry::Entered
+    Entry::NotEntry
 }

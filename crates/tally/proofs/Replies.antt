@@ -8,13 +8,13 @@ use Prim.Native.Nat.{ℕ, _-_}
 use native.Mathlib.Omega.{arith}
 use lib.Dec.{eqb}
 use borrow.Author.Tests.{eq-eqb, ne-eqb}
-use lib.ListN.{length, getD}
+use lib.ListN.{length, getD, drop}
 use denote.Enum.Declared.{tagOf}
 use Rattle.lists.proofs.Search.{tabulated, tabulate-at}
-use Rattle.wcet.specs.Table.{Routine, loopCount}
+use Rattle.wcet.specs.Table.{Routine, blockCount, loopCount}
 use Rattle.wcet.specs.Rules.{Reply, accepted, refused, check, structureRules}
-use Rattle.wcet.specs.Walk.{walked, lengthRule, walkBlocks}
-use Rattle.wcet.specs.Tally.{stays, greatest, columnsRule, recordingBlocks, tallyReply, staysAfter, greatestAfter, Tallied, stepsOf}
+use Rattle.wcet.specs.Walk.{lengthRule}
+use Rattle.wcet.specs.Tally.{stays, greatest, columnsRule, recordingFrom, recordingBlocks, tallyReply, staysAfter, greatestAfter, Tallied}
 use Rattle.wcet.proofs.Replies.{decides, hands-on, past-all}
 use Rattle.wcet.proofs.Recordings.{limits-seen, numbers-seen}
 use Rattle.nesting.specs.Answers.{refusal, StructureChecked}
@@ -23,19 +23,22 @@ use Rattle.nesting.specs.declared.StructureFault.the-variants as fault
 use Rattle.nesting.specs.declared.Structure.the-variants.{Sound, Broken}
 use Rattle.nesting.specs.declared.Structured.{Structured}
 use Rattle.nesting.proofs.Chain.{refusal-stands, sound-holds}
-use Rattle.following.specs.declared.Followed.{Followed}
-use Rattle.following.specs.declared.Followed.the-variants as end
-use Rattle.following.specs.Follow.{meaning as endMeaning, SeenIn, Ends}
+use Rattle.stepping.specs.declared.Entry.{Entry}
+use Rattle.stepping.specs.declared.Entry.the-variants as entry
+use Rattle.stepping.specs.Step.{entryAnswer}
+use Rattle.stepping.proofs.Along.{opens}
+use Rattle.stepping.proofs.Openings.{by-entry}
 use Rattle.tally.specs.declared.TallyReply.{TallyReply}
-use Rattle.tally.specs.declared.TallyReply.the-variants.{Accepted, Structure, Columns, Length, NoBlock, NotEntry, AfterExit, NoEdge, OverLimit, Unfinished}
+use Rattle.tally.specs.declared.TallyReply.the-variants.{Accepted, Structure, Columns, Length, NoBlock, NotEntry, AfterExit, NoEdge, Unfinished}
 use Rattle.tally.proofs.TallyReply.{the-type}
 use Rattle.tally.specs.Tally.{meaning, Filled, Written}
+use Rattle.tally.specs.Follow.{Ends}
 
 -- ---- replies that are refusals
 
 -- the reply's variant, as the code numbers it, is not `Accepted`
 abbrev pub Refuses : ℕ → Type 0
-Refuses n = (n ≡ 1) ⊎ ((n ≡ 2) ⊎ ((n ≡ 3) ⊎ ((n ≡ 4) ⊎ ((n ≡ 5) ⊎ ((n ≡ 6) ⊎ ((n ≡ 7) ⊎ ((n ≡ 8) ⊎ (n ≡ 9))))))))
+Refuses n = (n ≡ 1) ⊎ ((n ≡ 2) ⊎ ((n ≡ 3) ⊎ ((n ≡ 4) ⊎ ((n ≡ 5) ⊎ ((n ≡ 6) ⊎ ((n ≡ 7) ⊎ (n ≡ 8)))))))
 
 not-accepted : (n : ℕ) → Refuses n → n ≡ 0 → ⊥
 not-accepted n (inl e) z = omega arith
@@ -45,8 +48,7 @@ not-accepted n (inr (inr (inr (inl e)))) z = omega arith
 not-accepted n (inr (inr (inr (inr (inl e))))) z = omega arith
 not-accepted n (inr (inr (inr (inr (inr (inl e)))))) z = omega arith
 not-accepted n (inr (inr (inr (inr (inr (inr (inl e))))))) z = omega arith
-not-accepted n (inr (inr (inr (inr (inr (inr (inr (inl e)))))))) z = omega arith
-not-accepted n (inr (inr (inr (inr (inr (inr (inr (inr e)))))))) z = omega arith
+not-accepted n (inr (inr (inr (inr (inr (inr (inr e))))))) z = omega arith
 
 -- a refusal has a number and a place
 record IsRefusal (r : Reply ℕ) : Type 0 where
@@ -75,25 +77,26 @@ refuses (NoBlock i) h = by 302 i
 refuses NotEntry h = by 303 0
 refuses (AfterExit i) h = by 311 i
 refuses (NoEdge i) h = by 312 i
-refuses (OverLimit i) h = by 313 i
 refuses (Unfinished n) h = by 314 n
 
 -- ---- after 421
 
--- the end of a walk, by its kind
-pub ended : {a : Followed} {m : Reply ℕ} (g : Followed) → a ≡ g → m ≡ stepsOf (endMeaning g) → m ≡ stepsOf (endMeaning a)
-ended g e q = q ∙ ap (λ (x : Followed). stepsOf (endMeaning x)) (sym e)
+-- the reply to a recording's blocks, by the answer to the first
+module _ (t : Routine) (w : List ℕ) (a : Entry) (found : a ≡ entryAnswer (blockCount t) w) where
+  reply-entry : (b : Entry) → a ≡ b → (r : TallyReply) → meaning r ≡ opens b (recordingFrom t 0 1 (drop 1 w) (accepted (length w - 1))) → meaning r ≡ check (lengthRule w ∷ []) (recordingBlocks t w (accepted (length w - 1)))
+  unfolding recordingBlocks
+  reply-entry b e r q = by-entry (blockCount t) w (λ x. recordingBlocks t x (accepted (length w - 1))) (recordingFrom t 0 1 (drop 1 w) (accepted (length w - 1))) refl a found b e (meaning r) q
 
--- an accepted recording is a walk that is finished
-finished : (f : Followed) (k : ℕ) → stepsOf (endMeaning f) ≡ accepted k → (c : ℕ) × (f ≡ end.Finished c k)
-finished (end.Finished c j) k e = let same : j ≡ k = cc e in (c, ap (end.Finished c) same)
-finished end.Length k e = absurd (let z : _≡_ {A = ℕ} 0 1 = cc in omega arith)
-finished (end.NoBlock i) k e = absurd (let z : _≡_ {A = ℕ} 0 1 = cc in omega arith)
-finished end.NotEntry k e = absurd (let z : _≡_ {A = ℕ} 0 1 = cc in omega arith)
-finished (end.AfterExit i) k e = absurd (let z : _≡_ {A = ℕ} 0 1 = cc in omega arith)
-finished (end.NoEdge i) k e = absurd (let z : _≡_ {A = ℕ} 0 1 = cc in omega arith)
-finished (end.OverLimit i) k e = absurd (let z : _≡_ {A = ℕ} 0 1 = cc in omega arith)
-finished (end.Unfinished n) k e = absurd (let z : _≡_ {A = ℕ} 0 1 = cc in omega arith)
+  module _ (stayed visited : List ℕ) where
+    -- a recording that is refused for its length or its first block
+    pub ends-refused : (b : Entry) → a ≡ b → (r : TallyReply) → meaning r ≡ opens b (recordingFrom t 0 1 (drop 1 w) (accepted (length w - 1))) → ((k : ℕ) → r ≡ Accepted k → ⊥)
+        → Ends t w r stayed visited (check (lengthRule w ∷ []) (recordingBlocks t w (accepted (length w - 1))))
+    ends-refused b e r q never = record { replied = reply-entry b e r q; seen = λ k z. absurd (never k z) }
+
+    -- one that is followed
+    pub ends-followed : a ≡ entry.Entered → (r : TallyReply) → Ends t w r stayed visited (recordingFrom t 0 1 (drop 1 w) (accepted (length w - 1)))
+        → Ends t w r stayed visited (check (lengthRule w ∷ []) (recordingBlocks t w (accepted (length w - 1))))
+    ends-followed e r E = record { replied = reply-entry entry.Entered e r (E .replied); seen = E .seen }
 
 module _ (t : Routine) (w stayed visited : List ℕ) where
   abbrev blocks : Reply ℕ
@@ -106,20 +109,17 @@ module _ (t : Routine) (w stayed visited : List ℕ) where
   unwritten : (r : Reply ℕ) → IsRefusal r → r ≡ check (lengthRule w ∷ []) blocks → Written t w stayed visited r stayed visited
   unwritten r k e = record { replied = e; stays-column = rw (k .same); greatest-column = rw (k .same) }
 
-  module _ (f : Followed) (stayed₁ visited₁ : List ℕ) (E : Ends t w true f stayed₁ visited₁ (check (lengthRule w ∷ []) (walkBlocks t w (accepted (walked t w)))) blocks-checked) (r : TallyReply) (q : meaning r ≡ stepsOf (endMeaning f)) where
+  module _ (r : TallyReply) (stayed₁ visited₁ : List ℕ) (E : Ends t w r stayed₁ visited₁ blocks-checked) where
     pub reply-refused : Refuses (tagOf the-type r) → Written t w stayed visited (meaning r) stayed visited
-    reply-refused h = unwritten (meaning r) (refuses r h) (q ∙ E .tallied refl)
+    reply-refused h = unwritten (meaning r) (refuses r h) (E .replied)
 
     pub reply-accepted : length stayed ≡ loopCount t → length visited ≡ loopCount t → (k : ℕ) → r ≡ Accepted k → (ss gs : List ℕ)
         → Filled (length stayed) stayed₁ ss → Filled (length visited) visited₁ gs → Written t w stayed visited (meaning (Accepted k)) ss gs
     reply-accepted wide wide′ k e ss gs F G = record {
-      replied = sym (ap meaning e) ∙ q ∙ E .tallied refl;
-      stays-column = tabulated ss (loopCount t) (λ l. stays t l w) 0 (F .size ∙ wide) (λ l b. F .each l (omega arith) ∙ T .stays-are l b);
-      greatest-column = tabulated gs (loopCount t) (λ l. greatest t l w) 0 (G .size ∙ wide′) (λ l b. G .each l (omega arith) ∙ T .greatest-are l b);
+      replied = sym (ap meaning e) ∙ E .replied;
+      stays-column = tabulated ss (loopCount t) (λ l. stays t l w) 0 (F .size ∙ wide) (λ l b. F .each l (omega arith) ∙ E .seen k e .stays-are l b);
+      greatest-column = tabulated gs (loopCount t) (λ l. greatest t l w) 0 (G .size ∙ wide′) (λ l b. G .each l (omega arith) ∙ E .seen k e .greatest-are l b);
     }
-      where
-        T : SeenIn t w stayed₁ visited₁
-        T = let c = finished f k (sym q ∙ ap meaning e) in E .seen refl (c .0) k (c .1)
 
 -- ---- the whole
 

@@ -8,10 +8,9 @@ use Rattle.wcet.specs.Rules.{Reply, accepted, refused, check}
 use Rattle.wcet.specs.Walk.{lengthRule}
 use Rattle.wcet.specs.Tally.{recordingBlocks, staysAfter, greatestAfter}
 use Rattle.nesting.specs.Answers.{refusal}
-use Rattle.stepping.specs.Step.{Walkable}
-use Rattle.following.specs.Follow.{Unread}
+use Rattle.stepping.specs.Step.{Walkable, Unread}
 use Rattle.tally.specs.declared.TallyReply.{TallyReply}
-use Rattle.tally.specs.declared.TallyReply.the-variants.{Accepted, Structure, Columns, Length, NoBlock, NotEntry, AfterExit, NoEdge, OverLimit, Unfinished}
+use Rattle.tally.specs.declared.TallyReply.the-variants.{Accepted, Structure, Columns, Length, NoBlock, NotEntry, AfterExit, NoEdge, Unfinished}
 
 -- 201 to 207 are the refusals of the structure check
 abbrev pub meaning : TallyReply → Reply ℕ
@@ -23,7 +22,6 @@ meaning (NoBlock i) = refused 302 i
 meaning NotEntry = refused 303 0
 meaning (AfterExit i) = refused 311 i
 meaning (NoEdge i) = refused 312 i
-meaning (OverLimit i) = refused 313 i
 meaning (Unfinished n) = refused 314 n
 
 -- the column has the first m of these numbers
@@ -32,9 +30,9 @@ pub record Filled (m : ℕ) (numbers column : List ℕ) : Type 0 where
   pub each : (l : ℕ) → l < m → getD column l 0 ≡ getD numbers l 0
 
 -- what is known after 421: the tables keep 201 to 207, and each lent column has a place for each loop
-pub record Lent (t : Unread → Routine) (sets depths stayed visited : List ℕ) : Type 0 where
+pub record Lent (t : Unread → Routine) (sets stayed visited : List ℕ) : Type 0 where
   pub unread : Unread
-  pub walkable : Walkable (t unread) sets depths
+  pub walkable : Walkable (t unread) sets
   pub stays-sized : length stayed ≡ loopCount (t unread)
   pub greatest-sized : length visited ≡ loopCount (t unread)
 
@@ -44,6 +42,6 @@ pub record Written (t : Routine) (w stayed visited : List ℕ) (r : Reply ℕ) (
   pub stays-column : ss ≡ staysAfter t w stayed r
   pub greatest-column : gs ≡ greatestAfter t w visited r
 
-abbrev pub Writes : (Unread → Routine) → (sets depths w stayed visited : List ℕ) → Reply ℕ → (ss gs : List ℕ) → Type 0
-Writes t sets depths w stayed visited r ss gs = (x : Unread) → Walkable (t x) sets depths → length stayed ≡ loopCount (t x) → length visited ≡ loopCount (t x)
+abbrev pub Writes : (Unread → Routine) → (sets w stayed visited : List ℕ) → Reply ℕ → (ss gs : List ℕ) → Type 0
+Writes t sets w stayed visited r ss gs = (x : Unread) → Walkable (t x) sets → length stayed ≡ loopCount (t x) → length visited ≡ loopCount (t x)
     → Written (t x) w stayed visited r ss gs

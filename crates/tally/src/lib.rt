@@ -1,20 +1,24 @@
 // What a recorded walk shows of each loop (document 02, §7): the number of stays, and the greatest number of visits to its header in one stay.
 ghost use mathlib.Core.Path.{_≡_};
-ghost use Prim.Native.Nat.{_≤_};
-ghost use lib.ListN.{length};
+ghost use Prim.Native.Nat.{_≤_, _<_};
+ghost use lib.ListN.{length, getD};
 ghost use Rattle.limits.specs.Limits.{mostLoops};
-ghost use Rattle.wcet.specs.Tally.{stepsOf, Tallied};
+ghost use Rattle.wcet.specs.Tally.{Tallied};
 ghost use Rattle.nesting.specs.Columns.{routine};
-ghost use Rattle.following.specs.Follow.{meaning as endMeaning, walkColumns};
+ghost use Rattle.stepping.specs.Step.{stepColumns, Enters, Ready};
 ghost use Rattle.tally.specs.Tally.{meaning, Filled, Lent, Writes};
-use following::Followed;
-use following::Numbers;
-use limits::MOST_LOOPS;
+ghost use Rattle.tally.specs.Follow.{endOf, TallyFits, Noted, First, Follows, Through};
 use loopsets::Sets;
 use nesting::Structure;
 use nesting::StructureFault;
+use stepping::Answer;
+use stepping::Entry;
+use stepping::Numbers;
+use stepping::Run;
+use stepping::Stepped;
+use tallies::LoopTally;
 
-// The reply to a recording; a refusal of a block with its index. OverLimit does not occur: no limit is asked for where a walk is tallied.
+// The reply to a recording; a refusal of a block with its index.
 pub enum TallyReply {
     Accepted(usize),
     Structure(StructureFault),
@@ -24,24 +28,133 @@ pub enum TallyReply {
     NotEntry,
     AfterExit(usize),
     NoEdge(usize),
-    OverLimit(usize),
     Unfinished(usize),
 }
 
-// The reply to a recording that ends so.
-fn reply_of(followed: Followed) -> TallyReply
-    ensures { λ r. ⌜ meaning r ≡ stepsOf (endMeaning followed) ⌝ }
+// The reply to a recording of this length that stops at no index and ends in this state, in a routine of n blocks.
+fn finish(run: Run, n: usize, length: usize) -> TallyReply
+    requires { ⌜ (0 < n) × (0 < length) ⌝ }
+    ensures { λ r. ⌜ r ≡ endOf run n length ⌝ }
 {
-    match followed {
-        Followed::Finished { cost, steps } => TallyReply::Accepted(steps),
-        Followed::Length => TallyReply::Length,
-        Followed::NoBlock(i) => TallyReply::NoBlock(i),
-        Followed::NotEntry => TallyReply::NotEntry,
-        Followed::AfterExit(i) => TallyReply::AfterExit(i),
-        Followed::NoEdge(i) => TallyReply::NoEdge(i),
-        Followed::OverLimit(i) => TallyReply::OverLimit(i),
-        Followed::Unfinished(length) => TallyReply::Unfinished(length),
+    let at = run.at as usize;
+    if at != n - 1 {
+        return TallyReply::Unfinished(length);
     }
+    let steps = length - 1;
+    TallyReply::Accepted(steps)
+}
+
+// Makes a number this one. A number that is this one already is not stored: the next read of it would have to wait for the store.
+fn renew(number: &mut u32, next: u32)
+    ensures { λ _. ⌜ now (number .exit) ≡ next ⌝ }
+{
+    if *number != next {
+        *number = next;
+    }
+}
+
+// Updates the tally of loop l after a step to its header, which ends with these visits in the present stay.
+fn note(stayed: &mut Numbers, visited: &mut Numbers, l: usize, visits: u32)
+    requires { ⌜ TallyFits (now stayed) (now visited) l ⌝ }
+    ensures { λ _. ⌜ Noted (now (stayed .entry)) (now (visited .entry)) l visits (now (stayed .exit)) (now (visited .exit)) ⌝ }
+{
+    let one = LoopTally {
+        stays: stayed[l],
+        greatest: visited[l],
+    };
+    let next = tallies::tallied(one, visits);
+    renew(&mut stayed[l], next.stays);
+    renew(&mut visited[l], next.greatest);
+}
+
+// The same after a step to any block v: one that is no header has 0 visits, and nothing changes.
+fn note_step(loops: &[u16], v: u16, visits: u32, stayed: &mut Numbers, visited: &mut Numbers)
+    requires { ⌜ (v < length (now loops)) × TallyFits (now stayed) (now visited) (getD (now loops) v 0) ⌝ }
+    ensures { λ _. ⌜ Noted (now (stayed .entry)) (now (visited .entry)) (getD (now (loops .entry)) v 0) visits (now (stayed .exit)) (now (visited .exit)) ⌝ }
+{
+    if visits == 0 {
+        return;
+    }
+    note(stayed, visited, loops[v as usize] as usize, visits);
+}
+
+// The reply to a recording that starts at block 0, over tables that keep 201 to 207. The numbers are those of the first block before the call, and
+// of all blocks after it if the recording is accepted; else they are free.
+fn follow(
+    cost: &[u32],
+    loops: &[u16],
+    first: &[u16],
+    second: &[u16],
+    header: &[u16],
+    around: &Sets,
+    blocks: &[u16],
+    stayed: &mut Numbers,
+    visited: &mut Numbers,
+) -> TallyReply
+    requires { ⌜ Enters (stepColumns (now cost) (now loops) (now first) (now second) (now header)) (now around) (now blocks) × First (now stayed) (now visited) ⌝ }
+    ensures { λ r. ⌜ Follows (stepColumns (now (cost .entry)) (now (loops .entry)) (now (first .entry)) (now (second .entry)) (now (header .entry))) (now (around .entry)) (now (blocks .entry)) r (now (stayed .exit)) (now (visited .exit)) ⌝ }
+{
+    let mut counts = stepping::first_numbers();
+    let run = Run::start(cost[0]);
+    let answer = Answer::Moved;
+    let mut last = Stepped {
+        run,
+        visits: 1,
+        answer,
+    };
+    let mut i = 1;
+    while i < blocks.len() {
+        let v = blocks[i];
+        let run = last.run;
+        last = run.step(&mut counts, cost, loops, first, second, header, around, v);
+        let answer = last.answer;
+        match answer {
+            Answer::Moved => {}
+            Answer::NoBlock => return TallyReply::NoBlock(i),
+            Answer::AfterExit => return TallyReply::AfterExit(i),
+            Answer::NoEdge => return TallyReply::NoEdge(i),
+        }
+        let visits = last.visits;
+        note_step(loops, v, visits, stayed, visited);
+        i += 1;
+    }
+    let run = last.run;
+    finish(run, cost.len(), i)
+}
+
+// The reply to a recording over tables that keep 201 to 207: 301, then the first block, then the others. The numbers as above.
+fn tally_through(
+    cost: &[u32],
+    loops: &[u16],
+    first: &[u16],
+    second: &[u16],
+    header: &[u16],
+    around: &Sets,
+    blocks: &[u16],
+    stayed: &mut Numbers,
+    visited: &mut Numbers,
+) -> TallyReply
+    requires { ⌜ Ready (stepColumns (now cost) (now loops) (now first) (now second) (now header)) (now around) × First (now stayed) (now visited) ⌝ }
+    ensures { λ r. ⌜ Through (stepColumns (now (cost .entry)) (now (loops .entry)) (now (first .entry)) (now (second .entry)) (now (header .entry))) (now (around .entry)) (now (blocks .entry)) r (now (stayed .exit)) (now (visited .exit)) ⌝ }
+{
+    let entry = stepping::first_block(cost.len(), blocks);
+    match entry {
+        Entry::Entered => {}
+        Entry::Length => return TallyReply::Length,
+        Entry::NoBlock => return TallyReply::NoBlock(0),
+        Entry::NotEntry => return TallyReply::NotEntry,
+    }
+    follow(
+        cost,
+        loops,
+        first,
+        second,
+        header,
+        around,
+        blocks,
+        stayed,
+        visited,
+    )
 }
 
 // Writes the numbers of the first loops, as many as the column has places.
@@ -63,35 +176,27 @@ fn write(
     first: &[u16],
     second: &[u16],
     header: &[u16],
-    limit: &[u32],
     around: &Sets,
-    depths: &[u16; MOST_LOOPS],
     blocks: &[u16],
     stays: &mut [u32],
     greatest: &mut [u32],
 ) -> TallyReply
-    requires { ⌜ Lent (walkColumns (now cost) (now loops) (now first) (now second) (now header) (now limit)) (now around) (now depths) (now stays) (now greatest) ⌝ }
-    ensures { λ r. ⌜ Writes (walkColumns (now (cost .entry)) (now (loops .entry)) (now (first .entry)) (now (second .entry)) (now (header .entry)) (now (limit .entry))) (now (around .entry)) (now (depths .entry)) (now (blocks .entry)) (now (stays .entry)) (now (greatest .entry)) (meaning r) (now (stays .exit)) (now (greatest .exit)) ⌝ }
+    requires { ⌜ Lent (stepColumns (now cost) (now loops) (now first) (now second) (now header)) (now around) (now stays) (now greatest) ⌝ }
+    ensures { λ r. ⌜ Writes (stepColumns (now (cost .entry)) (now (loops .entry)) (now (first .entry)) (now (second .entry)) (now (header .entry))) (now (around .entry)) (now (blocks .entry)) (now (stays .entry)) (now (greatest .entry)) (meaning r) (now (stays .exit)) (now (greatest .exit)) ⌝ }
 {
-    let mut stayed = [0u32; MOST_LOOPS];
-    let mut visited = [0u32; MOST_LOOPS];
-    stayed[0] = 1;
-    visited[0] = 1;
-    let followed = following::walk_through(
+    let mut stayed = stepping::first_numbers();
+    let mut visited = stepping::first_numbers();
+    let reply = tally_through(
         cost,
         loops,
         first,
         second,
         header,
-        limit,
         around,
-        depths,
         blocks,
-        true,
         &mut stayed,
         &mut visited,
     );
-    let reply = reply_of(followed);
     let TallyReply::Accepted(steps) = reply else {
         return reply;
     };
@@ -140,16 +245,13 @@ pub fn tally(
         return TallyReply::Columns;
     }
     let around = checked.around;
-    let depths = levels::depths_of(parent).each;
     write(
         cost,
         loops,
         first,
         second,
         header,
-        limit,
         &around,
-        &depths,
         blocks,
         stays,
         greatest,

@@ -1,10 +1,12 @@
 -- The reply of the whole walk from what is looked at in turn: the tables, the walk. Assumes nothing.
-use mathlib.Core.Path.{_≡_, sym, _∙_, ap}
+use mathlib.Core.Path.{_≡_, refl, sym, _∙_}
 use mathlib.Core.List.{List, [], _∷_}
 use Prim.Native.Nat.{ℕ}
-use Rattle.wcet.specs.Table.{Routine}
-use Rattle.wcet.specs.Rules.{Reply, accepted, check, structureRules}
-use Rattle.wcet.specs.Walk.{Walked, walked, lengthRule, walkBlocks, walkReply}
+use lib.ListN.{drop}
+use Rattle.wcet.specs.Table.{Routine, blockCount}
+use Rattle.wcet.specs.Rules.{accepted, check, structureRules}
+use Rattle.wcet.specs.Run.{start}
+use Rattle.wcet.specs.Walk.{walked, lengthRule, walkFrom, walkBlocks, walkReply}
 use Rattle.wcet.specs.Claim.{WalkChecked}
 use Rattle.wcet.proofs.Replies.{past-all}
 use Rattle.wcet.proofs.Walks.{walk-checked}
@@ -13,8 +15,10 @@ use Rattle.nesting.specs.declared.StructureFault.{StructureFault}
 use Rattle.nesting.specs.declared.Structure.the-variants.{Sound, Broken}
 use Rattle.nesting.specs.declared.Structured.{Structured}
 use Rattle.nesting.proofs.Chain.{refusal-stands, sound-holds}
-use Rattle.following.specs.declared.Followed.{Followed}
-use Rattle.following.specs.Follow.{meaning as endMeaning}
+use Rattle.stepping.specs.declared.Entry.{Entry}
+use Rattle.stepping.specs.Step.{entryAnswer}
+use Rattle.stepping.proofs.Along.{opens}
+use Rattle.stepping.proofs.Openings.{by-entry}
 use Rattle.walk.specs.declared.WalkReply.{WalkReply}
 use Rattle.walk.specs.declared.WalkReply.the-variants.{Structure}
 use Rattle.walk.specs.Reply.{meaning}
@@ -30,6 +34,8 @@ module _ (t : Routine) (w : List ℕ) (s : Structured) (checked : StructureCheck
     unfolding walkReply
     reply-walked r e = walk-checked t w (meaning r) (e ∙ sym (past-all (structureRules t) (lengthRule w ∷ []) (walkBlocks t w (accepted (walked t w))) (sound-holds t s checked sound)))
 
--- the end of a walk, by its kind
-pub ended : {a : Followed} {m : Reply Walked} (g : Followed) → a ≡ g → m ≡ endMeaning g → m ≡ endMeaning a
-ended g e q = q ∙ ap (λ (x : Followed). endMeaning x) (sym e)
+-- the reply to a walk's blocks, by the answer to the first
+module _ (t : Routine) (w : List ℕ) (a : Entry) (found : a ≡ entryAnswer (blockCount t) w) where
+  pub reply-entry : (b : Entry) → a ≡ b → (r : WalkReply) → meaning r ≡ opens b (walkFrom t start 1 (drop 1 w) (accepted (walked t w))) → meaning r ≡ check (lengthRule w ∷ []) (walkBlocks t w (accepted (walked t w)))
+  unfolding walkBlocks
+  reply-entry b e r q = by-entry (blockCount t) w (λ x. walkBlocks t x (accepted (walked t w))) (walkFrom t start 1 (drop 1 w) (accepted (walked t w))) refl a found b e (meaning r) q

@@ -1,14 +1,21 @@
 // A walk (a trace of blocks) through a routine: accepted exactly where it is a finished counted run, with its cost. A step is a few word
 // operations, and stores one count at most.
 ghost use mathlib.Core.Path.{_≡_};
+ghost use Prim.Native.Nat.{_<_};
+ghost use lib.Dec.{ltb};
+ghost use lib.ListN.{length, getD};
 ghost use Rattle.wcet.specs.Claim.{WalkChecked};
 ghost use Rattle.nesting.specs.Columns.{routine};
-ghost use Rattle.following.specs.Follow.{meaning as endMeaning};
+ghost use Rattle.stepping.specs.Step.{Enters, Ready};
 ghost use Rattle.walk.specs.Reply.{meaning};
-use following::Followed;
-use limits::MOST_LOOPS;
+ghost use Rattle.walk.specs.Follow.{endOf, walkColumns, Follows, Through};
+use loopsets::Sets;
 use nesting::Structure;
 use nesting::StructureFault;
+use stepping::Answer;
+use stepping::Entry;
+use stepping::Run;
+use stepping::Stepped;
 
 // The reply to a walk; a refusal with its index.
 pub enum WalkReply {
@@ -23,20 +30,98 @@ pub enum WalkReply {
     Unfinished(usize),
 }
 
-// The reply to a walk that ends so.
-fn reply_of(followed: Followed) -> WalkReply
-    ensures { λ r. ⌜ meaning r ≡ endMeaning followed ⌝ }
+// The reply to a walk of this length that stops at no index and ends in this state, in a routine of n blocks.
+fn finish(run: Run, n: usize, length: usize) -> WalkReply
+    requires { ⌜ (0 < n) × (0 < length) ⌝ }
+    ensures { λ r. ⌜ r ≡ endOf run n length ⌝ }
 {
-    match followed {
-        Followed::Finished { cost, steps } => WalkReply::Accepted { cost, steps },
-        Followed::Length => WalkReply::Length,
-        Followed::NoBlock(i) => WalkReply::NoBlock(i),
-        Followed::NotEntry => WalkReply::NotEntry,
-        Followed::AfterExit(i) => WalkReply::AfterExit(i),
-        Followed::NoEdge(i) => WalkReply::NoEdge(i),
-        Followed::OverLimit(i) => WalkReply::OverLimit(i),
-        Followed::Unfinished(length) => WalkReply::Unfinished(length),
+    let at = run.at as usize;
+    if at != n - 1 {
+        return WalkReply::Unfinished(length);
     }
+    let cost = run.cost;
+    let steps = length - 1;
+    WalkReply::Accepted { cost, steps }
+}
+
+// Whether a step to block v, which ends with these visits to a header, passes the limit of the block's loop. A step to a block that is no header
+// has 0 visits, and no limit is looked up.
+fn passes(loops: &[u16], limit: &[u32], v: u16, visits: u32) -> bool
+    requires { ⌜ (v < length (now loops)) × (getD (now loops) v 0 < length (now limit)) ⌝ }
+    ensures { λ r. ⌜ r ≡ ltb (getD (now (limit .entry)) (getD (now (loops .entry)) v 0) 0) visits ⌝ }
+{
+    if visits == 0 {
+        return false;
+    }
+    limit[loops[v as usize] as usize] < visits
+}
+
+// The reply to a walk that starts at block 0, over tables that keep 201 to 207.
+fn follow(
+    cost: &[u32],
+    loops: &[u16],
+    first: &[u16],
+    second: &[u16],
+    header: &[u16],
+    limit: &[u32],
+    around: &Sets,
+    blocks: &[u16],
+) -> WalkReply
+    requires { ⌜ Enters (walkColumns (now cost) (now loops) (now first) (now second) (now header) (now limit)) (now around) (now blocks) ⌝ }
+    ensures { λ r. ⌜ Follows (walkColumns (now (cost .entry)) (now (loops .entry)) (now (first .entry)) (now (second .entry)) (now (header .entry)) (now (limit .entry))) (now (around .entry)) (now (blocks .entry)) r ⌝ }
+{
+    let mut counts = stepping::first_numbers();
+    let run = Run::start(cost[0]);
+    let answer = Answer::Moved;
+    let mut last = Stepped {
+        run,
+        visits: 1,
+        answer,
+    };
+    let mut i = 1;
+    while i < blocks.len() {
+        let v = blocks[i];
+        let run = last.run;
+        last = run.step(&mut counts, cost, loops, first, second, header, around, v);
+        let answer = last.answer;
+        match answer {
+            Answer::Moved => {}
+            Answer::NoBlock => return WalkReply::NoBlock(i),
+            Answer::AfterExit => return WalkReply::AfterExit(i),
+            Answer::NoEdge => return WalkReply::NoEdge(i),
+        }
+        let visits = last.visits;
+        if passes(loops, limit, v, visits) {
+            return WalkReply::OverLimit(i);
+        }
+        i += 1;
+    }
+    let run = last.run;
+    finish(run, cost.len(), i)
+}
+
+// The reply to a walk over tables that keep 201 to 207: 301, then the first block, then the others.
+fn walk_through(
+    cost: &[u32],
+    loops: &[u16],
+    first: &[u16],
+    second: &[u16],
+    header: &[u16],
+    limit: &[u32],
+    around: &Sets,
+    blocks: &[u16],
+) -> WalkReply
+    requires { ⌜ Ready (walkColumns (now cost) (now loops) (now first) (now second) (now header) (now limit)) (now around) ⌝ }
+    ensures { λ r. ⌜ Through (walkColumns (now (cost .entry)) (now (loops .entry)) (now (first .entry)) (now (second .entry)) (now (header .entry)) (now (limit .entry))) (now (around .entry)) (now (blocks .entry)) r ⌝ }
+{
+    let entry = stepping::first_block(cost.len(), blocks);
+    match entry {
+        Entry::Entered => {}
+        Entry::Length => return WalkReply::Length,
+        Entry::NoBlock => return WalkReply::NoBlock(0),
+        Entry::NotEntry => return WalkReply::NotEntry,
+    }
+    follow(cost, loops, first, second, header, limit, around, blocks)
 }
 
 // The reply to a walk: 201 to 207 first, then 301 and the blocks.
@@ -70,22 +155,5 @@ pub fn walk(
         return WalkReply::Structure(fault);
     }
     let around = checked.around;
-    let depths = levels::depths_of(parent).each;
-    let mut stayed = [0u32; MOST_LOOPS];
-    let mut visited = [0u32; MOST_LOOPS];
-    let followed = following::walk_through(
-        cost,
-        loops,
-        first,
-        second,
-        header,
-        limit,
-        &around,
-        &depths,
-        blocks,
-        false,
-        &mut stayed,
-        &mut visited,
-    );
-    reply_of(followed)
+    walk_through(cost, loops, first, second, header, limit, &around, blocks)
 }

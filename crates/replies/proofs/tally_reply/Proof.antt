@@ -65,13 +65,7 @@ enum-known-answer-6 : tie.Need-enum-known-answer-6
 enum-known-answer-6 c = search needs
 
 refused-requires-7 : tie.Need-refused-requires-7
-refused-requires-7 c κs = search (place-of tallyFields tally.OverLimit (λ i. refl))
-
-enum-known-answer-7 : tie.Need-enum-known-answer-7
-enum-known-answer-7 c = search needs
-
-refused-requires-8 : tie.Need-refused-requires-8
-refused-requires-8 c κs = search (place-of tallyFields tally.Unfinished (λ i. refl))
+refused-requires-7 c κs = search (place-of tallyFields tally.Unfinished (λ i. refl))
 
 returns : tie.Need-returns
 returns c = search (number-told tallyFields tally.Accepted (λ n. refl), needs)
@@ -100,9 +94,6 @@ returns-8 c = search (told tallyFields)
 returns-9 : tie.Need-returns-9
 returns-9 c = search (told tallyFields)
 
-returns-10 : tie.Need-returns-10
-returns-10 c = search (told tallyFields)
-
 pub tally-reply-spec : {M : Type 1} → statement M
 tally-reply-spec =
     tie.close
@@ -126,8 +117,6 @@ tally-reply-spec =
     refused-requires-6
     enum-known-answer-6
     refused-requires-7
-    enum-known-answer-7
-    refused-requires-8
     returns
     returns-2
     returns-3
@@ -136,5 +125,4 @@ tally-reply-spec =
     returns-6
     returns-7
     returns-8
-    returns-9
-    returns-10)
+    returns-9)

@@ -1,26 +1,23 @@
 use mathlib.Core.Path.{_≡_}
 use Rattle.wcet.specs.Table.{Routine}
 use Rattle.nesting.specs.declared.Structure.the-variants.{Sound}
-use Rattle.nesting.proofs.Chain.{sound-holds}
-use Rattle.stepping.specs.Step.{Walkable}
-use Rattle.following.specs.Follow.{Unread, walkColumns}
-use Rattle.stepping.proofs.Along.{sound-walkable, parents-ready}
+use Rattle.stepping.specs.Step.{Walkable, Unread, stepColumns}
+use Rattle.stepping.proofs.Along.{sound-walkable}
 use Rattle.tally.proofs.Replies.{reply-structure, reply-stays, reply-greatest, reply-written}
 use borrow.Author.Needs.{needs}
 use Rattle.tally.proofs.tally.Statement.{statement}
 use Rattle.tally.proofs.tally.Tie as tie
 use Rattle.tally.proofs.tally.Reads as reads
 use Rattle.tally.proofs.tally.Lts as lts
-use Rattle.levels.proofs.depths_of.Reads as depths-of-reads
 use Rattle.nesting.proofs.check_structure.Reads as check-structure-reads
 use Rattle.tally.proofs.write.Reads as write-reads
 
--- the columns that a walk does not read
+-- the columns that a step does not read
 abbrev unread : tie.Start → Unread
-unread s = record { figures = s .args .figure .now; parents = s .args .parent .now; multipliers = s .args .multiplier .now }
+unread s = record { figures = s .args .figure .now; parents = s .args .parent .now; limits = s .args .limit .now; multipliers = s .args .multiplier .now }
 
 abbrev table : tie.Start → Routine
-table s = let a = s .args in walkColumns (a .cost .now) (a .loops .now) (a .first .now) (a .second .now) (a .header .now) (a .limit .now) (unread s)
+table s = let a = s .args in stepColumns (a .cost .now) (a .loops .now) (a .first .now) (a .second .now) (a .header .now) (unread s)
 
 -- where the structure is checked, and where it is found sound
 abbrev entry : tie.After-check-structure → tie.Start
@@ -29,14 +26,8 @@ entry c = c .before .before .before .before .before .before .before .before .bef
 sound : (c : tie.After-enum-told) → c .before .before .check-structure .result .answer ≡ Sound
 sound c = search needs
 
-abbrev found : tie.After-depths-of → tie.After-enum-told
-found c = c .before .before .before .before
-
-walkable : (c : tie.After-depths-of) → Walkable (table (entry (found c .before .before))) (found c .before .before .check-structure .result .around) (c .depths-of .result .each)
-walkable c =
-    let k = found c .before .before in
-    let s = entry k in
-    sound-walkable (table s) (k .check-structure .result) (k .check-structure .ensures) (sound (found c)) (c .depths-of .result) (c .depths-of .ensures)
+walkable : (c : tie.After-enum-told) → Walkable (table (entry (c .before .before))) (c .before .before .check-structure .result .around)
+walkable c = let k = c .before .before in sound-walkable (table (entry k)) (k .check-structure .result) (k .check-structure .ensures) (sound c)
 
 check-structure-requires : tie.Need-check-structure-requires
 check-structure-requires c κs = search needs
@@ -64,18 +55,11 @@ returns-3 c =
     let s = entry k in
     reply-greatest (table s) (s .args .blocks .now) (s .args .stays .now) (s .args .greatest .now) (k .check-structure .result) (k .check-structure .ensures) (sound e) (c .if2 .taken)
 
-depths-of-requires : tie.Need-depths-of-requires
-depths-of-requires c κs =
-    let e = c .before .before .before in
-    let k = e .before .before in
-    let s = entry k in
-    parents-ready (table s) (sound-holds (table s) (k .check-structure .result) (k .check-structure .ensures) (sound e))
-
 write-requires : tie.Need-write-requires
 write-requires c κs =
-    let d = c .before .before .before .before .before in
-    let e = d .before .before in
-    record { unread = unread (entry (found d .before .before)); walkable = walkable d; stays-sized = e .before .if1 .left; greatest-sized = e .if2 .left }
+    let e = c .before .before .before .before in
+    let f = e .before .before in
+    record { unread = unread (entry (f .before .before)); walkable = walkable f; stays-sized = e .before .if1 .left; greatest-sized = e .if2 .left }
 
 same-length : tie.Need-same-length
 same-length c = search needs
@@ -86,12 +70,12 @@ same-length-2 c = search needs
 returns-4 : tie.Need-returns-4
 returns-4 c =
     let w = c .before .before .before .before in
-    let d = w .before .before .before .before .before .before in
-    let e = d .before .before in
-    let k = found d .before .before in
+    let e = w .before .before .before .before .before in
+    let f = e .before .before in
+    let k = f .before .before in
     let s = entry k in
-    reply-written (table s) (s .args .blocks .now) (s .args .stays .now) (s .args .greatest .now) (k .check-structure .result) (k .check-structure .ensures) (sound (found d)) (e .before .if1 .left) (e .if2 .left)
-    _ (w .write .last .1 .1 .1 .1 .1 .1 .1 .1 .1 .0) (w .write .last .1 .1 .1 .1 .1 .1 .1 .1 .1 .1 .0) (w .write .ensures (unread s) (walkable d) (e .before .if1 .left) (e .if2 .left))
+    reply-written (table s) (s .args .blocks .now) (s .args .stays .now) (s .args .greatest .now) (k .check-structure .result) (k .check-structure .ensures) (sound f) (e .before .if1 .left) (e .if2 .left)
+    _ (w .write .last .1 .1 .1 .1 .1 .1 .1 .0) (w .write .last .1 .1 .1 .1 .1 .1 .1 .1 .0) (w .write .ensures (unread s) (walkable f) (e .before .if1 .left) (e .if2 .left))
 
 pub tally-spec : {M : Type 1} → statement M
 tally-spec =
@@ -103,7 +87,6 @@ tally-spec =
     enum-told
     returns-2
     returns-3
-    depths-of-requires
     write-requires
     same-length
     same-length-2

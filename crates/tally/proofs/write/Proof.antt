@@ -1,54 +1,49 @@
-use mathlib.Core.Path.{refl}
 use native.Mathlib.Omega.{arith}
 use Rattle.wcet.specs.Table.{Routine}
-use Rattle.following.specs.Follow.{Unread, walkColumns}
+use Rattle.stepping.specs.Step.{Unread, stepColumns}
 use Rattle.tally.proofs.Replies.{reply-refused, reply-accepted}
 use borrow.Author.Needs.{needs}
 use Rattle.tally.proofs.write.Statement.{statement}
 use Rattle.tally.proofs.write.Tie as tie
 use Rattle.tally.proofs.write.Reads as reads
 use Rattle.tally.proofs.write.Lts as lts
-use Rattle.following.proofs.walk_through.Reads as walk-through-reads
+use Rattle.stepping.proofs.first_numbers.Reads as first-numbers-reads
 use Rattle.tally.proofs.fill.Reads as fill-reads
-use Rattle.tally.proofs.reply_of.Reads as reply-of-reads
+use Rattle.tally.proofs.tally_through.Reads as tally-through-reads
 
 -- where the walk has ended
-abbrev entry : tie.After-walk-through → tie.Start
-entry c = c .before .before .before .before .before .before .before .before .before .before .before .before
+abbrev entry : tie.After-tally-through → tie.Start
+entry c = c .before .before .before .before .before .before .before .before .before .before .before .before .before
 
 -- the routine of the columns that are read, and of others
 abbrev table : tie.Start → Unread → Routine
-table s = let a = s .args in walkColumns (a .cost .now) (a .loops .now) (a .first .now) (a .second .now) (a .header .now) (a .limit .now)
+table s = let a = s .args in stepColumns (a .cost .now) (a .loops .now) (a .first .now) (a .second .now) (a .header .now)
 
-array-write-stayed : tie.Need-array-write-stayed
-array-write-stayed c = search needs
+first-numbers-requires : tie.Need-first-numbers-requires
+first-numbers-requires c κs = search needs
 
-array-write-visited : tie.Need-array-write-visited
-array-write-visited c = search needs
+first-numbers-requires-2 : tie.Need-first-numbers-requires-2
+first-numbers-requires-2 c κs = search needs
 
-walk-through-requires : tie.Need-walk-through-requires
-walk-through-requires c κs =
-    let p = c .before .before .before .before .before .before .before .before .before .before .before .pre in
-    record { unread = p .unread; walkable = p .walkable; first-stays = λ e. refl; first-visits = λ e. refl }
-
-reply-of-requires : tie.Need-reply-of-requires
-reply-of-requires c κs = search needs
+tally-through-requires : tie.Need-tally-through-requires
+tally-through-requires c κs =
+    let p = c .before .before .before .before .before .before .before .before .before .before .before .before .pre in
+    (record { others = p .unread; walkable = p .walkable }, record { first-stays = c .before .before .before .first-numbers .ensures; first-visits = c .before .before .first-numbers2 .ensures })
 
 enum-known-reply : tie.Need-enum-known-reply
 enum-known-reply c = search needs
 
 returns : tie.Need-returns
 returns c = λ x S wide wide′.
-    let r = c .before in
-    let w = r .before in
+    let w = c .before in
     let s = entry w in
-    reply-refused (table s x) (s .args .blocks .now) (s .args .stays .now) (s .args .greatest .now) (w .walk-through .result) _ _ (w .walk-through .ensures x S) (r .reply-of .result) (r .reply-of .ensures) (c .match .keys2)
+    reply-refused (table s x) (s .args .blocks .now) (s .args .stays .now) (s .args .greatest .now) (w .tally-through .result) _ _ (w .tally-through .ensures x S) (c .match .keys2)
 
 fill-requires : tie.Need-fill-requires
-fill-requires c κs = let s = entry (c .before .before .before .before .before .before) in omega (arith, s .pre .stays-sized, s .pre .walkable .ranged .sized .few-loops)
+fill-requires c κs = let s = entry (c .before .before .before .before .before) in omega (arith, s .pre .stays-sized, s .pre .walkable .ranged .sized .few-loops)
 
 fill-requires-2 : tie.Need-fill-requires-2
-fill-requires-2 c κs = let s = entry (c .before .before .before .before .before .before .before .before .before .before .before) in omega (arith, s .pre .greatest-sized, s .pre .walkable .ranged .sized .few-loops)
+fill-requires-2 c κs = let s = entry (c .before .before .before .before .before .before .before .before .before .before) in omega (arith, s .pre .greatest-sized, s .pre .walkable .ranged .sized .few-loops)
 
 same-length : tie.Need-same-length
 same-length c = search needs
@@ -61,20 +56,18 @@ returns-2 c = λ x S wide wide′.
     let g = c .before .before in
     let h = c .before .before .before .before .before .before .before in
     let told = h .before .before .before .before .reply .given in
-    let r = h .before .before .before .before .before .before in
-    let w = r .before in
+    let w = h .before .before .before .before .before .before in
     let s = entry w in
-    reply-accepted (table s x) (s .args .blocks .now) (s .args .stays .now) (s .args .greatest .now) (w .walk-through .result) _ _ (w .walk-through .ensures x S) (r .reply-of .result) (r .reply-of .ensures) wide wide′
+    reply-accepted (table s x) (s .args .blocks .now) (s .args .stays .now) (s .args .greatest .now) (w .tally-through .result) _ _ (w .tally-through .ensures x S) wide wide′
     (told .0 .0) (told .1) (h .fill .last .0) (g .fill2 .last .0) (h .fill .ensures) (g .fill2 .ensures)
 
 pub write-spec : {M : Type 1} → statement M
 write-spec =
     tie.close
     (tie.spec
-    array-write-stayed
-    array-write-visited
-    walk-through-requires
-    reply-of-requires
+    first-numbers-requires
+    first-numbers-requires-2
+    tally-through-requires
     enum-known-reply
     returns
     fill-requires

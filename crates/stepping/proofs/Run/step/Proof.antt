@@ -1,50 +1,45 @@
 use native.Mathlib.Omega.{arith}
 use mathlib.Core.Path.{_≡_, sym, _∙_}
-use lib.ListN.{length}
-use Rattle.limits.specs.Limits.{mostDepth}
 use Rattle.wcet.specs.Table.{Routine}
 use Rattle.stepping.specs.declared.Answer.the-variants.{Moved}
 use Rattle.stepping.specs.Step.{stateOf, Walkable, Unread, stepColumns}
-use Rattle.stepping.proofs.Steps.{OnEdge, on-edge, InStep, in-step, few-visits, step-refused, step-moved}
+use Rattle.stepping.proofs.Steps.{OnEdge, on-edge, InStep, in-step, few-visits, still-sized, step-refused, step-moved}
 use borrow.Author.Needs.{needs}
 use Rattle.stepping.proofs.Run.step.Statement.{statement}
 use Rattle.stepping.proofs.Run.step.Tie as tie
 use Rattle.stepping.proofs.Run.step.Reads as reads
 use Rattle.stepping.proofs.Run.step.Lts as lts
-use Rattle.counts.proofs.visit.Reads as visit-reads
+use Rattle.stepping.proofs.visit.Reads as visit-reads
 use Rattle.loopsets.proofs.LoopSet.contains.Reads as contains-reads
 use Rattle.loopsets.proofs.set_at.Reads as set-at-reads
 use Rattle.stepping.proofs.edge_answer.Reads as edge-answer-reads
 
 -- places on the way: where the edge is found, and where the visit is counted
 abbrev entry : tie.After-enum-told → tie.Start
-entry c = c .before .before .before .before .before .before .before .before
+entry c = c .before .before .before .before .before .before .before .before .before
 
 abbrev found : tie.After-visit → tie.After-enum-told
-found c = c .before .before .before .before .before .before .before .before
+found c = c .before .before .before .before .before .before .before
 
 -- the routine of the columns that are read, and of others
 abbrev table : tie.Start → Unread → Routine
 table s = let a = s .args in stepColumns (a .cost .now) (a .loops .now) (a .first .now) (a .second .now) (a .header .now)
 
-size : (s : tie.Start) → length (s .args .t1 .counts) ≡ mostDepth
-size s = search needs
-
 told : (c : tie.After-enum-told) → c .before .before .edge-answer .result ≡ Moved
 told c = search needs
 
-module _ (c : tie.After-enum-told) (x : Unread) (S : Walkable (table (entry c) x) (entry c .args .around .now) (entry c .args .depths .now)) where
-  on : OnEdge (table (entry c) x) (entry c .args .t1 .at) (entry c .args .v)
+module _ (c : tie.After-enum-told) (x : Unread) (S : Walkable (table (entry c) x) (entry c .args .around .now)) where
+  on : OnEdge (table (entry c) x) (entry c .args .self .at) (entry c .args .v)
   on =
       let s = entry c in
-      on-edge (table s x) (S .ranged .sized .few-blocks) (stateOf (table s x) (s .args .t1)) (s .args .t1 .cost) (s .args .v) (sym (c .before .before .edge-answer .ensures) ∙ told c)
+      on-edge (table s x) (S .ranged .sized .few-blocks) (stateOf (table s x) (s .args .counts .now) (s .args .self)) (s .args .self .cost) (s .args .v) (sym (c .before .before .edge-answer .ensures) ∙ told c)
 
 -- what is known once the edge is found
-passed : (c : tie.After-enum-told) → InStep (table (entry c) (entry c .pre .unread)) (entry c .args .depths .now) (entry c .args .t1) (entry c .args .v)
+passed : (c : tie.After-enum-told) → InStep (table (entry c) (entry c .pre .unread)) (entry c .args .self) (entry c .args .v)
 passed c =
     let s = entry c in
     let p = s .pre in
-    in-step (table s (p .unread)) (s .args .around .now) (s .args .depths .now) (p .walkable) (s .args .t1) (s .args .v) (p .standing) (on c (p .unread) (p .walkable))
+    in-step (table s (p .unread)) (s .args .around .now) (s .args .counts .now) (p .walkable) (s .args .self) (s .args .v) (p .standing) (on c (p .unread) (p .walkable))
 
 cast-from : tie.Need-cast-from
 cast-from c = search needs
@@ -56,9 +51,12 @@ enum-told : tie.Need-enum-told
 enum-told c = search needs
 
 returns : tie.Need-returns
-returns c = λ x S stands.
-    let s = c .before .before .before .before .before .before .before in
-    step-refused (table s x) (S .ranged .sized .few-blocks) (stateOf (table s x) (s .args .t1)) (s .args .t1 .cost) (s .args .v) (c .before .edge-answer .result) (c .before .edge-answer .ensures) (c .match .keys2)
+returns c =
+    let s = c .before .before .before .before .before .before .before .before in
+    record {
+      sized = s .pre .standing .sized;
+      is-step = λ x S stands. step-refused (table s x) (S .ranged .sized .few-blocks) (stateOf (table s x) (s .args .counts .now) (s .args .self)) (s .args .self .cost) (s .args .v) (c .before .edge-answer .result) (c .before .edge-answer .ensures) (c .match .keys2);
+    }
 
 mul-l : tie.Need-mul-l
 mul-l c = search needs
@@ -87,25 +85,18 @@ mul-heading c = omega (arith, passed (c .before .before .before))
 shared-slice-read-heading : tie.Need-shared-slice-read-heading
 shared-slice-read-heading c = omega (arith, passed (c .before .before .before .before))
 
-mul-visit : tie.Need-mul-visit
-mul-visit c = omega (arith, passed (c .before .before .before .before .before))
-
-element-copy-out-visit : tie.Need-element-copy-out-visit
-element-copy-out-visit c = omega (arith, passed (c .before .before .before .before .before))
-
 contains-requires : tie.Need-contains-requires
-contains-requires c κs = omega (arith, passed (c .before .before .before .before .before .before))
+contains-requires c κs = omega (arith, passed (c .before .before .before .before .before))
 
 visit-requires : tie.Need-visit-requires
 visit-requires c κs =
-    let e = c .before .before .before .before .before .before .before in
+    let e = c .before .before .before .before .before .before in
     let s = entry e in
     let p = s .pre in
     let k = passed e in
-    let here = c .before .before .before .before .set-at in (
-      k .deep,
-      k .not-deeper,
-      few-visits (table s (p .unread)) (s .args .around .now) (s .args .depths .now) (p .walkable) (s .args .t1) (s .args .v) (p .standing) (on e (p .unread) (p .walkable)) (here .result) (c .contains .result) (here .ensures) (c .contains .ensures),
+    let here = c .before .before .before .set-at in (
+      omega (arith, k),
+      few-visits (table s (p .unread)) (s .args .around .now) (s .args .counts .now) (p .walkable) (s .args .self) (s .args .v) (p .standing) (on e (p .unread) (p .walkable)) (here .result) (c .contains .result) (here .ensures) (c .contains .ensures),
     )
 
 mul-self : tie.Need-mul-self
@@ -118,16 +109,21 @@ cast-self : tie.Need-cast-self
 cast-self c = omega (arith, passed (found (c .before)))
 
 add-self : tie.Need-add-self
-add-self c = omega (arith, passed (found (c .before)))
+add-self c = omega (arith, passed (found (c .before .before)))
 
 returns-2 : tie.Need-returns-2
-returns-2 c = λ x S stands.
-    let p = c .before in
+returns-2 c =
+    let p = c .before .before in
     let e = found p in
     let s = entry e in
-    let here = p .before .before .before .before .before .set-at in
-    step-moved (table s x) (s .args .around .now) (s .args .depths .now) S (s .args .t1) (s .args .v) stands (on e x S) (here .result) (p .before .contains .result) (here .ensures) (p .before .contains .ensures)
-    (p .visit .result) (p .visit .ensures .0) (size s) (e .before .before .edge-answer .result) (told e) (p .visit .last .0) (p .visit .ensures .1)
+    let here = p .before .before .before .before .set-at in
+    record {
+      sized = still-sized (table s (s .pre .unread)) (s .args .around .now) (s .args .counts .now) (s .pre .walkable) (s .args .self) (s .args .v) (s .pre .standing) (on e (s .pre .unread) (s .pre .walkable)) (here .result) (p .before .contains .result) (here .ensures) (p .before .contains .ensures)
+          (p .visit .result) (p .visit .ensures .0) (p .visit .last .0) (p .visit .ensures .1);
+      is-step = λ x S stands.
+          step-moved (table s x) (s .args .around .now) (s .args .counts .now) S (s .args .self) (s .args .v) stands (on e x S) (here .result) (p .before .contains .result) (here .ensures) (p .before .contains .ensures)
+          (p .visit .result) (p .visit .ensures .0) (e .before .before .edge-answer .result) (told e) (p .visit .last .0) (p .visit .ensures .1);
+    }
 
 pub step-spec : {M : Type 1} → statement M
 step-spec =
@@ -146,8 +142,6 @@ step-spec =
     set-at-requires
     mul-heading
     shared-slice-read-heading
-    mul-visit
-    element-copy-out-visit
     contains-requires
     visit-requires
     mul-self

@@ -1,4 +1,0 @@
-pub mod Notes
-pub mod Walks
-pub mod Tallying
-pub mod Openings
