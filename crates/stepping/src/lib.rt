@@ -18,7 +18,7 @@ pub type Numbers = [u32; MOST_LOOPS];
 // for each loop. A loop that is not around the block stands at 0, whatever its number is: nothing is cleared when a loop is left, and the number
 // is not read until the header is visited from outside, which sets it to 1.
 pub struct Run {
-    pub at: u16,
+    pub at: usize,
     pub cost: u64,
 }
 
@@ -130,7 +130,7 @@ impl Run {
         requires { ⌜ Stands (stepColumns (now cost) (now loops) (now first) (now second) (now header)) (now around) (now counts) self ⌝ }
         ensures { λ r. ⌜ Steps (stepColumns (now (cost .entry)) (now (loops .entry)) (now (first .entry)) (now (second .entry)) (now (header .entry))) (now (around .entry)) (now (counts .entry)) self v r (now (counts .exit)) ⌝ }
     {
-        let from = self.at as usize;
+        let from = self.at;
         let to = v as usize;
         let answer = edge_answer(cost.len(), first, second, from, v);
         let Answer::Moved = answer else {
@@ -144,7 +144,7 @@ impl Run {
         let here = loopsets::set_at(around, loops[from] as usize);
         let heading = header[l] == v;
         let visits = visit(counts, l, heading, here.contains(l));
-        self.at = v;
+        self.at = to;
         self.cost += cost[to] as u64;
         Stepped {
             run: self,

@@ -36,8 +36,7 @@ fn finish(run: Run, n: usize, length: usize) -> TallyReply
     requires { ⌜ (0 < n) × (0 < length) ⌝ }
     ensures { λ r. ⌜ r ≡ endOf run n length ⌝ }
 {
-    let at = run.at as usize;
-    if at != n - 1 {
+    if run.at != n - 1 {
         return TallyReply::Unfinished(length);
     }
     let steps = length - 1;
@@ -197,12 +196,12 @@ fn write(
         &mut stayed,
         &mut visited,
     );
-    let TallyReply::Accepted(steps) = reply else {
+    let TallyReply::Accepted(count) = reply else {
         return reply;
     };
     fill(stays, &stayed);
     fill(greatest, &visited);
-    TallyReply::Accepted(steps)
+    TallyReply::Accepted(count)
 }
 
 // The step count of a recorded walk, and for each loop in the two lent columns the number of stays and the greatest number of header visits in

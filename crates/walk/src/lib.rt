@@ -35,8 +35,7 @@ fn finish(run: Run, n: usize, length: usize) -> WalkReply
     requires { ⌜ (0 < n) × (0 < length) ⌝ }
     ensures { λ r. ⌜ r ≡ endOf run n length ⌝ }
 {
-    let at = run.at as usize;
-    if at != n - 1 {
+    if run.at != n - 1 {
         return WalkReply::Unfinished(length);
     }
     let cost = run.cost;

@@ -16,7 +16,7 @@ use Rattle.stepping.proofs.edge_answer.Reads as edge-answer-reads
 
 -- places on the way: where the edge is found, and where the visit is counted
 abbrev entry : tie.After-enum-told → tie.Start
-entry c = c .before .before .before .before .before .before .before .before .before
+entry c = c .before .before .before .before .before .before .before .before
 
 abbrev found : tie.After-visit → tie.After-enum-told
 found c = c .before .before .before .before .before .before .before
@@ -41,9 +41,6 @@ passed c =
     let p = s .pre in
     in-step (table s (p .unread)) (s .args .around .now) (s .args .counts .now) (p .walkable) (s .args .self) (s .args .v) (p .standing) (on c (p .unread) (p .walkable))
 
-cast-from : tie.Need-cast-from
-cast-from c = search needs
-
 edge-answer-requires : tie.Need-edge-answer-requires
 edge-answer-requires c κs = search needs
 
@@ -52,7 +49,7 @@ enum-told c = search needs
 
 returns : tie.Need-returns
 returns c =
-    let s = c .before .before .before .before .before .before .before .before in
+    let s = c .before .before .before .before .before .before .before in
     record {
       sized = s .pre .standing .sized;
       is-step = λ x S stands. step-refused (table s x) (S .ranged .sized .few-blocks) (stateOf (table s x) (s .args .counts .now) (s .args .self)) (s .args .self .cost) (s .args .v) (c .before .edge-answer .result) (c .before .edge-answer .ensures) (c .match .keys2);
@@ -129,7 +126,6 @@ pub step-spec : {M : Type 1} → statement M
 step-spec =
     tie.close
     (tie.spec
-    cast-from
     edge-answer-requires
     enum-told
     returns
