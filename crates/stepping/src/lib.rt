@@ -104,17 +104,25 @@ fn edge_answer(n: usize, first: &[u16], second: &[u16], from: usize, v: u16) -> 
     Answer::Moved
 }
 
-impl Run {
-    // At the first block, block 0.
-    pub fn start(cost: u32) -> Run
-        ensures { λ r. ⌜ (r .at ≡ 0) × (r .cost ≡ cost) ⌝ }
+impl Stepped {
+    // At the first block, block 0: the first visit to the header of loop 0.
+    pub fn start(cost: u32) -> Stepped
+        ensures { λ r. ⌜ (r .run .at ≡ 0) × (r .run .cost ≡ cost) ⌝ }
     {
-        Run {
+        let run = Run {
             at: 0,
             cost: cost as u64,
+        };
+        let answer = Answer::Moved;
+        Stepped {
+            run,
+            visits: 1,
+            answer,
         }
     }
+}
 
+impl Run {
     // One block more. The contract holds for any columns that it does not take.
     pub fn step(
         mut self,

@@ -94,13 +94,7 @@ fn follow(
     ensures { λ r. ⌜ Follows (stepColumns (now (cost .entry)) (now (loops .entry)) (now (first .entry)) (now (second .entry)) (now (header .entry))) (now (around .entry)) (now (blocks .entry)) r (now (stayed .exit)) (now (visited .exit)) ⌝ }
 {
     let mut counts = stepping::first_numbers();
-    let run = Run::start(cost[0]);
-    let answer = Answer::Moved;
-    let mut last = Stepped {
-        run,
-        visits: 1,
-        answer,
-    };
+    let mut last = Stepped::start(cost[0]);
     let mut i = 1;
     while i < blocks.len() {
         let v = blocks[i];

@@ -70,13 +70,7 @@ fn follow(
     ensures { λ r. ⌜ Follows (walkColumns (now (cost .entry)) (now (loops .entry)) (now (first .entry)) (now (second .entry)) (now (header .entry)) (now (limit .entry))) (now (around .entry)) (now (blocks .entry)) r ⌝ }
 {
     let mut counts = stepping::first_numbers();
-    let run = Run::start(cost[0]);
-    let answer = Answer::Moved;
-    let mut last = Stepped {
-        run,
-        visits: 1,
-        answer,
-    };
+    let mut last = Stepped::start(cost[0]);
     let mut i = 1;
     while i < blocks.len() {
         let v = blocks[i];

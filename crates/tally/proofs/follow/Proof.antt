@@ -22,7 +22,7 @@ use Rattle.tally.proofs.follow.Statement.{statement}
 use Rattle.tally.proofs.follow.Tie as tie
 use Rattle.tally.proofs.follow.Reads as reads
 use Rattle.tally.proofs.follow.Lts as lts
-use Rattle.stepping.proofs.Run.start.Reads as start-reads
+use Rattle.stepping.proofs.Stepped.start.Reads as start-reads
 use Rattle.stepping.proofs.Run.step.Reads as step-reads
 use Rattle.stepping.proofs.first_numbers.Reads as first-numbers-reads
 use Rattle.tally.proofs.finish.Reads as finish-reads
@@ -125,8 +125,8 @@ loop-holds c =
       record { stays-sized = ap (λ (xs : List ℕ). length xs) (s .pre .1 .first-stays); visits-sized = ap (λ (xs : List ℕ). length xs) (s .pre .1 .first-visits) },
       λ x S.
           rw (s .pre .1 .first-stays, s .pre .1 .first-visits)
-          (tallying-first (table s x) (s .args .around .now) S (s .args .blocks .now) (c .before .before .first-numbers .result) (c .start .result) (p .some) (p .entry) (ap (λ (xs : List ℕ). length xs) e)
-          (ap (λ (xs : List ℕ). stateOf (table s x) xs (c .start .result)) e ∙ start-is (table s x) (S .rules) (c .start .result) (c .start .ensures .0)) (c .start .ensures .1)),
+          (tallying-first (table s x) (s .args .around .now) S (s .args .blocks .now) (c .before .before .first-numbers .result) (c .start .result .run) (p .some) (p .entry) (ap (λ (xs : List ℕ). length xs) e)
+          (ap (λ (xs : List ℕ). stateOf (table s x) xs (c .start .result .run)) e ∙ start-is (table s x) (S .rules) (c .start .result .run) (c .start .ensures .0)) (c .start .ensures .1)),
     )
 
 mul-v : tie.Need-mul-v Inv-loop μ-loop

@@ -23,7 +23,7 @@ use Rattle.walk.proofs.follow.Statement.{statement}
 use Rattle.walk.proofs.follow.Tie as tie
 use Rattle.walk.proofs.follow.Reads as reads
 use Rattle.walk.proofs.follow.Lts as lts
-use Rattle.stepping.proofs.Run.start.Reads as start-reads
+use Rattle.stepping.proofs.Stepped.start.Reads as start-reads
 use Rattle.stepping.proofs.Run.step.Reads as step-reads
 use Rattle.stepping.proofs.first_numbers.Reads as first-numbers-reads
 use Rattle.walk.proofs.finish.Reads as finish-reads
@@ -90,8 +90,8 @@ loop-holds c = λ x S.
     let s = c .before .before .before .before .before .before .before .before .before .before in
     let p = s .pre in
     let e = c .before .before .first-numbers .ensures in
-    underway-first (table s x) (s .args .around .now) S (s .args .blocks .now) (c .before .before .first-numbers .result) (c .start .result) (p .some) (p .entry) (ap (λ (xs : List ℕ). length xs) e)
-    (ap (λ (xs : List ℕ). stateOf (table s x) xs (c .start .result)) e ∙ start-is (table s x) (S .rules) (c .start .result) (c .start .ensures .0)) (c .start .ensures .1)
+    underway-first (table s x) (s .args .around .now) S (s .args .blocks .now) (c .before .before .first-numbers .result) (c .start .result .run) (p .some) (p .entry) (ap (λ (xs : List ℕ). length xs) e)
+    (ap (λ (xs : List ℕ). stateOf (table s x) xs (c .start .result .run)) e ∙ start-is (table s x) (S .rules) (c .start .result .run) (c .start .ensures .0)) (c .start .ensures .1)
 
 mul-v : tie.Need-mul-v Inv-loop μ-loop
 mul-v c = search needs
