@@ -1,9 +1,11 @@
-// The tally of one loop over a recorded walk (document 02, §7): the number of stays in the loop, and the greatest number of visits to its header in
-// one stay.
+// The tally of a recorded walk (document 02, §7): for each loop the number of stays in it, and the greatest number of visits to its header in one
+// stay.
 ghost use mathlib.Core.Path.{_≡_};
-ghost use Prim.Native.Nat.{_≤_};
+ghost use Prim.Native.Nat.{_≤_, _<_};
+ghost use lib.ListN.{length, getD};
 ghost use Rattle.limits.specs.Limits.{longestWalk};
-ghost use Rattle.tallies.specs.Tally.{seenAfter};
+ghost use Rattle.tallies.specs.Tally.{seenAfter, TallyFits, Noted};
+use stepping::Numbers;
 
 pub struct LoopTally {
     pub stays: u32,
@@ -40,10 +42,44 @@ fn see(one: &mut LoopTally, visits: u32)
 }
 
 // The step on a lent tally, for callers that have the tally by value: they need no walk by hand.
-pub fn tallied(mut one: LoopTally, visits: u32) -> LoopTally
+fn tallied(mut one: LoopTally, visits: u32) -> LoopTally
     requires { ⌜ one .stays ≤ longestWalk ⌝ }
     ensures { λ r. ⌜ r ≡ seenAfter one visits ⌝ }
 {
     see(&mut one, visits);
     one
+}
+
+// Makes a number this one. A number that is this one already is not stored: the next read of it would have to wait for the store.
+fn renew(number: &mut u32, next: u32)
+    ensures { λ _. ⌜ now (number .exit) ≡ next ⌝ }
+{
+    if *number != next {
+        *number = next;
+    }
+}
+
+// Updates the tally of loop l after a step to its header, which ends with these visits in the present stay.
+fn note(stayed: &mut Numbers, visited: &mut Numbers, l: usize, visits: u32)
+    requires { ⌜ TallyFits (now stayed) (now visited) l ⌝ }
+    ensures { λ _. ⌜ Noted (now (stayed .entry)) (now (visited .entry)) l visits (now (stayed .exit)) (now (visited .exit)) ⌝ }
+{
+    let one = LoopTally {
+        stays: stayed[l],
+        greatest: visited[l],
+    };
+    let next = tallied(one, visits);
+    renew(&mut stayed[l], next.stays);
+    renew(&mut visited[l], next.greatest);
+}
+
+// The same after a step to any block v: one that is no header has 0 visits, and nothing changes.
+pub fn note_step(loops: &[u16], v: u16, visits: u32, stayed: &mut Numbers, visited: &mut Numbers)
+    requires { ⌜ (v < length (now loops)) × TallyFits (now stayed) (now visited) (getD (now loops) v 0) ⌝ }
+    ensures { λ _. ⌜ Noted (now (stayed .entry)) (now (visited .entry)) (getD (now (loops .entry)) v 0) visits (now (stayed .exit)) (now (visited .exit)) ⌝ }
+{
+    if visits == 0 {
+        return;
+    }
+    note(stayed, visited, loops[v as usize] as usize, visits);
 }

@@ -1,11 +1,10 @@
 -- What is promised of the numbers of all loops, and of a recording's blocks over the columns that are read.
-use Prim.Native.Nat.{ℕ, _+_, _-_, _≤_, _<_, max}
+use Prim.Native.Nat.{ℕ, _-_, _<_}
 use mathlib.Core.Bool.{not}
 use mathlib.Core.Path.{_≡_}
 use mathlib.Core.List.{List, [], _∷_}
 use lib.Dec.{eqb}
-use lib.ListN.{length, getD, drop, set}
-use Rattle.limits.specs.Limits.{mostLoops, longestWalk}
+use lib.ListN.{length, getD, drop}
 use Rattle.lists.specs.Search.{if_then_else_}
 use Rattle.wcet.specs.Table.{Routine, loopCount}
 use Rattle.wcet.specs.Rules.{Reply, accepted, check}
@@ -22,18 +21,6 @@ unfoldable pub endOf : Run → ℕ → ℕ → TallyReply
 endOf r n length = if not (eqb (r .at) (n - 1)) then Unfinished length else Accepted (length - 1)
 
 -- ---- the numbers of all loops
-
--- there is room for the numbers of every loop, and for one stay more in loop l
-pub record TallyFits (stayed visited : List ℕ) (l : ℕ) : Type 0 where
-  pub stays-sized : length stayed ≡ mostLoops
-  pub visits-sized : length visited ≡ mostLoops
-  pub is-loop : l < mostLoops
-  pub few : getD stayed l 0 ≤ longestWalk
-
--- the numbers of all loops after a step into loop l that ends with these visits to its header: the first visit begins a stay
-pub record Noted (stayed visited : List ℕ) (l visits : ℕ) (stayed′ visited′ : List ℕ) : Type 0 where
-  pub more-stays : stayed′ ≡ set stayed l (getD stayed l 0 + (if eqb visits 1 then 1 else 0))
-  pub more-visits : visited′ ≡ set visited l (max (getD visited l 0) visits)
 
 -- the numbers of each loop are those of the list w
 pub record SeenIn (t : Routine) (w stayed visited : List ℕ) : Type 0 where

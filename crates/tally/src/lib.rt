@@ -1,13 +1,13 @@
 // What a recorded walk shows of each loop (document 02, §7): the number of stays, and the greatest number of visits to its header in one stay.
 ghost use mathlib.Core.Path.{_≡_};
 ghost use Prim.Native.Nat.{_≤_, _<_};
-ghost use lib.ListN.{length, getD};
+ghost use lib.ListN.{length};
 ghost use Rattle.limits.specs.Limits.{mostLoops};
 ghost use Rattle.wcet.specs.Tally.{Tallied};
 ghost use Rattle.nesting.specs.Columns.{routine};
 ghost use Rattle.stepping.specs.Step.{stepColumns, Enters, Ready};
 ghost use Rattle.tally.specs.Tally.{meaning, Filled, Lent, Writes};
-ghost use Rattle.tally.specs.Follow.{endOf, TallyFits, Noted, First, Follows, Through};
+ghost use Rattle.tally.specs.Follow.{endOf, First, Follows, Through};
 use loopsets::Sets;
 use nesting::Structure;
 use nesting::StructureFault;
@@ -16,7 +16,6 @@ use stepping::Entry;
 use stepping::Numbers;
 use stepping::Run;
 use stepping::Stepped;
-use tallies::LoopTally;
 
 // The reply to a recording; a refusal of a block with its index.
 pub enum TallyReply {
@@ -41,40 +40,6 @@ fn finish(run: Run, n: usize, length: usize) -> TallyReply
     }
     let steps = length - 1;
     TallyReply::Accepted(steps)
-}
-
-// Makes a number this one. A number that is this one already is not stored: the next read of it would have to wait for the store.
-fn renew(number: &mut u32, next: u32)
-    ensures { λ _. ⌜ now (number .exit) ≡ next ⌝ }
-{
-    if *number != next {
-        *number = next;
-    }
-}
-
-// Updates the tally of loop l after a step to its header, which ends with these visits in the present stay.
-fn note(stayed: &mut Numbers, visited: &mut Numbers, l: usize, visits: u32)
-    requires { ⌜ TallyFits (now stayed) (now visited) l ⌝ }
-    ensures { λ _. ⌜ Noted (now (stayed .entry)) (now (visited .entry)) l visits (now (stayed .exit)) (now (visited .exit)) ⌝ }
-{
-    let one = LoopTally {
-        stays: stayed[l],
-        greatest: visited[l],
-    };
-    let next = tallies::tallied(one, visits);
-    renew(&mut stayed[l], next.stays);
-    renew(&mut visited[l], next.greatest);
-}
-
-// The same after a step to any block v: one that is no header has 0 visits, and nothing changes.
-fn note_step(loops: &[u16], v: u16, visits: u32, stayed: &mut Numbers, visited: &mut Numbers)
-    requires { ⌜ (v < length (now loops)) × TallyFits (now stayed) (now visited) (getD (now loops) v 0) ⌝ }
-    ensures { λ _. ⌜ Noted (now (stayed .entry)) (now (visited .entry)) (getD (now (loops .entry)) v 0) visits (now (stayed .exit)) (now (visited .exit)) ⌝ }
-{
-    if visits == 0 {
-        return;
-    }
-    note(stayed, visited, loops[v as usize] as usize, visits);
 }
 
 // The reply to a recording that starts at block 0, over tables that keep 201 to 207. The numbers are those of the first block before the call, and
@@ -108,7 +73,7 @@ fn follow(
             Answer::NoEdge => return TallyReply::NoEdge(i),
         }
         let visits = last.visits;
-        note_step(loops, v, visits, stayed, visited);
+        tallies::note_step(loops, v, visits, stayed, visited);
         i += 1;
     }
     let run = last.run;

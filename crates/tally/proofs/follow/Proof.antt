@@ -15,7 +15,8 @@ use Rattle.stepping.proofs.Along.{standing, moved, decided}
 use Rattle.tally.specs.declared.TallyReply.{TallyReply}
 use Rattle.tally.specs.declared.TallyReply.the-variants as reply
 use Rattle.tally.specs.Tally.{meaning}
-use Rattle.tally.specs.Follow.{TallyFits, Ends}
+use Rattle.tallies.specs.Tally.{TallyFits}
+use Rattle.tally.specs.Follow.{Ends}
 use Rattle.tally.proofs.Tallying.{Tallying, tallying-first, tallying-next, few-stays, stop-at, end-reply, at-end}
 use borrow.Author.Needs.{needs}
 use Rattle.tally.proofs.follow.Statement.{statement}
@@ -26,7 +27,7 @@ use Rattle.stepping.proofs.Stepped.start.Reads as start-reads
 use Rattle.stepping.proofs.Run.step.Reads as step-reads
 use Rattle.stepping.proofs.first_numbers.Reads as first-numbers-reads
 use Rattle.tally.proofs.finish.Reads as finish-reads
-use Rattle.tally.proofs.note_step.Reads as note-step-reads
+use Rattle.tallies.proofs.note_step.Reads as note-step-reads
 
 -- there is a number for each loop
 record Sized (stayed visited : List ℕ) : Type 0 where

@@ -4,9 +4,8 @@ use mathlib.Core.List.{List, [], _∷_}
 use Prim.Native.Nat.{ℕ, zero, suc, _<_}
 use native.Mathlib.Omega.{arith}
 use lib.ListN.{length, getD, set}
 use Rattle.tallies.specs.declared.LoopTally.{LoopTally}
-use Rattle.tallies.specs.Tally.{seenAfter}
-use Rattle.tally.specs.Follow.{TallyFits, Noted}
+use Rattle.tallies.specs.Tally.{seenAfter, TallyFits, Noted}
 
 pub noted : (stayed visited : List ℕ) (l visits : ℕ) (next : LoopTally) → next ≡ seenAfter (record { stays = getD stayed l 0; greatest = getD visited l 0 }) visits
     → (ss gs : ℕ) → ss ≡ next .stays → gs ≡ next .greatest → Noted stayed visited l visits (set stayed l ss) (set visited l gs)

@@ -1,11 +1,11 @@
-use Rattle.tally.proofs.Notes.{noted}
+use Rattle.tallies.proofs.Notes.{noted}
 use borrow.Author.Needs.{needs}
-use Rattle.tally.proofs.note.Statement.{statement}
-use Rattle.tally.proofs.note.Tie as tie
-use Rattle.tally.proofs.note.Reads as reads
-use Rattle.tally.proofs.note.Lts as lts
+use Rattle.tallies.proofs.note.Statement.{statement}
+use Rattle.tallies.proofs.note.Tie as tie
+use Rattle.tallies.proofs.note.Reads as reads
+use Rattle.tallies.proofs.note.Lts as lts
 use Rattle.tallies.proofs.tallied.Reads as tallied-reads
-use Rattle.tally.proofs.renew.Reads as renew-reads
+use Rattle.tallies.proofs.renew.Reads as renew-reads
 
 mul-t7 : tie.Need-mul-t7
 mul-t7 c = search needs

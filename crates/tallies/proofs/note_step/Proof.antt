@@ -1,11 +1,11 @@
 use lib.ListN.{getD}
-use Rattle.tally.proofs.Notes.{noted-none}
+use Rattle.tallies.proofs.Notes.{noted-none}
 use borrow.Author.Needs.{needs}
-use Rattle.tally.proofs.note_step.Statement.{statement}
-use Rattle.tally.proofs.note_step.Tie as tie
-use Rattle.tally.proofs.note_step.Reads as reads
-use Rattle.tally.proofs.note_step.Lts as lts
-use Rattle.tally.proofs.note.Reads as note-reads
+use Rattle.tallies.proofs.note_step.Statement.{statement}
+use Rattle.tallies.proofs.note_step.Tie as tie
+use Rattle.tallies.proofs.note_step.Reads as reads
+use Rattle.tallies.proofs.note_step.Lts as lts
+use Rattle.tallies.proofs.note.Reads as note-reads
 
 returns : tie.Need-returns
 returns c =
