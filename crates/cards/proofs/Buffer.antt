@@ -9,8 +9,8 @@ use mir.Val.{Fits}
 use borrow.Author.Tests.{ne-eqb}
 use lib.ListN.{length, length-append, take, drop, set, getD}
 use lib.Seq.{paste, paste-zero, paste-suc, take-length, length-paste, take-paste, drop-paste, drop-drop}
-use Rattle.numbers.specs.Number.{numeralOf}
-use Rattle.numbers.proofs.Numerals.{numeral-one, numeral-more, numeral-short}
+use Rattle.digits.specs.Decimal.{numeralOf}
+use Rattle.digits.proofs.Numerals.{numeral-one, numeral-more, numeral-short}
 use Rattle.cards.specs.Cards.{Space, Put, signedText, card, CardLength}
 
 pub copy-step : (d s out : List ℕ) (at i : ℕ) → out ≡ paste d at s i → at + i < length d → i < length s → set out (at + i) (getD s i 0) ≡ paste d at s (i + 1)

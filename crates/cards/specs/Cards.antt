@@ -7,7 +7,7 @@ use lib.Dec.{eqb}
 use lib.ListN.{length}
 use lib.Seq.{paste}
 use Rattle.lists.specs.Search.{if_then_else_}
-use Rattle.numbers.specs.Number.{numeralOf}
+use Rattle.digits.specs.Decimal.{numeralOf}
 use Rattle.mps.specs.Program.{block, loop}
 use Rattle.mps.specs.Text.{rowName, filled}
 

@@ -6,7 +6,7 @@ ghost use Prim.Native.Nat.{_≤_};
 ghost use lib.ListN.{length};
 ghost use lib.Seq.{paste};
 ghost use Rattle.lists.specs.Bytes.{bytes};
-ghost use Rattle.numbers.specs.Number.{numeralOf};
+ghost use Rattle.digits.specs.Decimal.{numeralOf};
 ghost use Rattle.mps.specs.Program.{objective, block, loop};
 ghost use Rattle.mps.specs.Text.{digitsIn, rowName, edgeName};
 ghost use Rattle.cards.specs.Cards.{Space, Put, head, blockRow, loopRow, signedText, card, CardLength};

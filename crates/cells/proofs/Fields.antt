@@ -11,10 +11,11 @@ use lib.IntN.{ℤ}
 use lib.ListN.{drop}
 use mir.Syntax.{w64}
 use mir.Val.{SFits}
-use Rattle.numbers.specs.Number.{digit, digits, natural, integer}
-use Rattle.numbers.specs.Digits.{signCount}
-use Rattle.numbers.specs.declared.Value.{Value}
-use Rattle.numbers.specs.declared.Value.the-variants.{Number, Bad}
+use Rattle.digits.specs.Decimal.{digit, digits}
+use Rattle.digits.specs.declared.Value.{Value}
+use Rattle.digits.specs.declared.Value.the-variants.{Number, Bad}
+use Rattle.numbers.specs.Number.{natural, integer}
+use Rattle.numbers.specs.Steps.{signCount}
 use Rattle.numbers.specs.declared.SignedValue.{SignedValue}
 use Rattle.numbers.specs.declared.SignedValue.the-variants.{Number as Signed, Bad as BadSigned}
 use Rattle.numbers.proofs.Numbers.{no-digits, no-integer, natural-fits, integer-fits}

@@ -11,16 +11,18 @@ use lib.Dec.{leb, eqb}
 use lib.ListN.{length, take, drop, length-drop, drop-of-length-le}
 use lib.Seq.{drop-drop}
 use Rattle.limits.specs.Limits.{mostFieldBytes}
-use Rattle.numbers.specs.Number.{digit, digits, decimal, natural, integer}
-use Rattle.numbers.specs.Digits.{digitCount, numberUpTo, runAt, asValue, asDigitRun, signCount, naturalBy, integerBy}
-use Rattle.numbers.specs.declared.Value.{Value}
-use Rattle.numbers.specs.declared.Value.the-variants.{Missing}
+use Rattle.digits.specs.Decimal.{digit, digits, decimal}
+use Rattle.digits.specs.Run.{digitCount, numberUpTo, runAt, asValue, asDigitRun}
+use Rattle.digits.specs.declared.Value.{Value}
+use Rattle.digits.specs.declared.Value.the-variants.{Missing}
+use Rattle.digits.specs.declared.DigitRun.{DigitRun}
+use Rattle.digits.specs.declared.WideRun.{WideRun}
+use Rattle.digits.proofs.Runs.{count-within, count-digits}
+use Rattle.numbers.specs.Number.{natural, integer}
+use Rattle.numbers.specs.Steps.{signCount, naturalBy, integerBy}
 use Rattle.numbers.specs.declared.SignedValue.{SignedValue}
 use Rattle.numbers.specs.declared.SignedValue.the-variants.{Missing as NoSigned}
-use Rattle.numbers.specs.declared.DigitRun.{DigitRun}
-use Rattle.numbers.specs.declared.WideRun.{WideRun}
-use Rattle.numbers.proofs.Digits.{count-within, count-digits, sign-within}
-use Rattle.numbers.proofs.Numbers.{natural-by-is, integer-by-is}
+use Rattle.numbers.proofs.Numbers.{sign-within, natural-by-is, integer-by-is}
 use Rattle.csv.specs.Grammar.{isText, width, size, comma, ends, following, limited, field, content}
 use Rattle.csv.specs.Place.{foundAt}
 use Rattle.csv.specs.Write.{bare, allText}

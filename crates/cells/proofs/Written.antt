@@ -4,10 +4,11 @@ use mathlib.Core.Path.{_≡_, ap, _∙_}
 use mathlib.Core.List.{_∷_}
 use Prim.Native.Nat.{ℕ, suc, _-_, _^_, _≤_}
 use lib.IntN.{pos, negsuc}
-use Rattle.numbers.specs.Number.{natural, integer, numeralOf}
-use Rattle.numbers.specs.declared.Value.the-variants.{Number}
+use Rattle.digits.specs.Decimal.{numeralOf}
+use Rattle.digits.specs.declared.Value.the-variants.{Number}
+use Rattle.numbers.specs.Number.{natural, integer}
 use Rattle.numbers.specs.declared.SignedValue.the-variants.{Number as Signed}
-use Rattle.numbers.proofs.Numerals.{natural-back, positive-back, negative-back}
+use Rattle.numbers.proofs.Written.{natural-back, positive-back, negative-back}
 use Rattle.csv.specs.Write.{Entry, entryText, written, Unmarked}
 use Rattle.csv.proofs.Inverse.{content-written}
 use Rattle.cells.specs.Cell.{unsigned, signed}

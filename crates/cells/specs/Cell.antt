@@ -3,9 +3,10 @@
 use Prim.Native.Nat.{ℕ, _+_}
 use mathlib.Core.List.{List}
 use lib.ListN.{take, drop}
+use Rattle.digits.specs.Run.{digitCount}
+use Rattle.digits.specs.declared.Value.{Value}
 use Rattle.numbers.specs.Number.{natural, integer}
-use Rattle.numbers.specs.Digits.{digitCount, signCount}
-use Rattle.numbers.specs.declared.Value.{Value}
+use Rattle.numbers.specs.Steps.{signCount}
 use Rattle.numbers.specs.declared.SignedValue.{SignedValue}
 use Rattle.csv.specs.Grammar.{size, limited, content}
 use Rattle.csv.specs.Place.{foundAt}

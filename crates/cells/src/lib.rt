@@ -4,14 +4,14 @@ ghost use Prim.Native.Nat.{_-_, _^_, _≤_};
 ghost use lib.ListN.{drop};
 ghost use Rattle.csv.specs.Grammar.{size, limited};
 ghost use Rattle.csv.specs.Place.{foundAt};
-ghost use Rattle.numbers.specs.Digits.{asValue};
+ghost use Rattle.digits.specs.Run.{asValue};
 ghost use Rattle.cells.specs.Cell.{unsigned, signed, cellAt, signedCellAt};
 use csv::Ending;
 use csv::Found;
+use digits::Value;
+use digits::WideValue;
 use limits::MOST_FIELD_BYTES;
 use numbers::SignedValue;
-use numbers::Value;
-use numbers::WideValue;
 
 // A field that is taken to be digits: what they say, and what follows them.
 pub struct Cell {
@@ -81,7 +81,7 @@ pub fn number_cell(text: &[u8], at: usize, greatest: u32) -> Cell
             found: Found::Ends(Ending::EndOfText, at),
         };
     }
-    let run = numbers::digit_run(text, at);
+    let run = digits::digit_run(text, at);
     let digits = run.value;
     let end = run.end;
     let value = numbers::natural_by(&text[at..end], digits, greatest);
@@ -100,7 +100,7 @@ pub fn integer_cell(text: &[u8], at: usize) -> SignedCell
         };
     }
     let start = numbers::digits_start(text, at);
-    let run = numbers::wide_run(text, start);
+    let run = digits::wide_run(text, start);
     let digits = run.value;
     let end = run.end;
     let value = numbers::integer_by(&text[at..end], digits);

@@ -9,7 +9,7 @@ use lib.Dec.{eqb}
 use lib.ListN.{length, take, drop, replicate, length-append, length-replicate, drop-of-length-le}
 use lib.Seq.{take-all, take-at, drop-at, drop-append-add}
 use borrow.Author.Tests.{ne-eqb}
-use Rattle.numbers.specs.Number.{integerOf}
+use Rattle.digits.specs.Decimal.{integerOf}
 use Rattle.mps.specs.Program.{Kind, free, equal, atMost, atLeast, Row, Entry, RowName}
 use Rattle.mps.specs.Mps.{Bytes, before, trimmed, field, same, inFields, kindIn, rowIn, cardIn}
 use Rattle.mps.specs.Text.{rowName, letter, filled, rowLine, entryLine}

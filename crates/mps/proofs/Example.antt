@@ -5,8 +5,8 @@ use mathlib.Core.Option.{none}
 use Prim.Native.String.{String}
 use Rattle.wcet.specs.Table.{around, inside}
 use Rattle.wcet.specs.Cases.{A}
-use Rattle.numbers.specs.Number.{numeralIn, numeralOf, integerOf}
-use Rattle.numbers.specs.Number.{digits, decimal}
+use Rattle.digits.specs.Decimal.{numeralIn, numeralOf, integerOf}
+use Rattle.digits.specs.Decimal.{digits, decimal}
 use Rattle.mps.specs.Program.{numbersFrom, keep, rowsOf, edgesOf, number, rightSide, entriesOf, columnOf, programOf}
 use Rattle.lists.specs.Bytes.{bytes}
 use Rattle.mps.specs.Mps.{Bytes, each, linesOf, trimmed, field, same, inFields, kindIn, numberIn, rowIn, cardIn, columnsIn, cards, behind, opened, all, among, distinct, inRows, wellNamed, readMps}

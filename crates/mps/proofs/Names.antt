@@ -10,8 +10,8 @@ use lib.IntN.{ℤ, pos, negsuc}
 use lib.ListN.{length, drop}
 use borrow.Author.Tests.{eqb-true, leb-true, ne-eqb, eq-eqb}
 use Rattle.lists.proofs.Tests.{and-true}
-use Rattle.numbers.specs.Number.{digits, decimal, numeralOf, integerOf}
-use Rattle.numbers.proofs.Numerals.{Numeral, is-numeral, numeral-short}
+use Rattle.digits.specs.Decimal.{digits, decimal, numeralOf, integerOf}
+use Rattle.digits.proofs.Numerals.{Numeral, is-numeral, numeral-short}
 use Rattle.mps.specs.Program.{RowName, objective, block, loop}
 use Rattle.mps.specs.Mps.{Bytes, same, naturalIn, numberIn}
 use Rattle.mps.specs.Text.{digitsIn, rowName, edgeName}

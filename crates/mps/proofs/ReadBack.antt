@@ -6,7 +6,7 @@ use mathlib.Core.Option.{some}
 use Prim.Native.Nat.{ℕ, zero, suc, _-_, _<_}
 use native.Mathlib.Omega.{arith}
 use lib.ListN.{length, replicate}
-use Rattle.numbers.specs.Number.{integerOf}
+use Rattle.digits.specs.Decimal.{integerOf}
 use Rattle.mps.specs.Program.{Kind, free, equal, atMost, atLeast, Row, Entry, Column, RowName, Program}
 use Rattle.lists.specs.Bytes.{bytes}
 use Rattle.mps.specs.Mps.{Bytes, each, trimmed, field, same, rowIn, cardIn, columnsIn, opened, wellNamed, readMps}

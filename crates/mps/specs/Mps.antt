@@ -17,7 +17,7 @@ use lib.Dec.{eqb}
 use lib.IntN.{ℤ, pos, negℤ}
 use lib.ListN.{take, drop}
 use Rattle.lists.specs.Bytes.{bytes}
-use Rattle.numbers.specs.Number.{digits, decimal}
+use Rattle.digits.specs.Decimal.{digits, decimal}
 use Rattle.mps.specs.Program.{Kind, free, equal, atMost, atLeast, Row, Entry, Column}
 
 abbrev pub Bytes : Type 0

@@ -3,7 +3,7 @@ use Prim.Native.Nat.{ℕ, zero, suc, _+_, _-_, _/_, _%_}
 use mathlib.Core.List.{List, [], _∷_, _++_, map, flatMap, flatten}
 use lib.ListN.{length, replicate}
 use Rattle.lists.specs.Bytes.{bytes}
-use Rattle.numbers.specs.Number.{integerOf}
+use Rattle.digits.specs.Decimal.{integerOf}
 use Rattle.wcet.specs.Table.{Routine}
 use Rattle.mps.specs.Program.{Kind, free, equal, atMost, atLeast, Row, Entry, Column, RowName, objective, block, loop, Program, programOf}
 use Rattle.mps.specs.Mps.{Bytes}

@@ -1,4 +1,3 @@
 -- What the proofs of several functions use.
-pub mod Digits
 pub mod Numbers
-pub mod Numerals
+pub mod Written

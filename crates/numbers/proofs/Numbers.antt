@@ -2,57 +2,53 @@
 -- Assumes nothing.
 use mathlib.Core.Path.{_≡_, refl, sym, ap, subst, _∙_}
 use mathlib.Core.Bool.{Bool, true, false, cond, not, _&&_, and-true, and-false, true≢false}
-use mathlib.Core.Logic.{_⊎_, inl, inr}
 use mathlib.Core.List.{List, [], _∷_}
 use Prim.Native.Nat.{ℕ, zero, suc, _+_, _-_, _^_, _<_, _≤_}
-use native.Mathlib.Nat.{zero-add}
+use native.Mathlib.Nat.{zero-add, add-zero}
 use native.Mathlib.Numerals.{sub-one}
 use native.Mathlib.Omega.{arith}
 use borrow.Author.Tests.{leb-true, leb-false, eq-eqb, ne-eqb, le-leb, lt-leb}
-use lib.ListN.{length, take, drop, getD, length-drop}
-use lib.Seq.{take-all}
+use lib.ListN.{length, take, drop, getD, length-drop, drop-of-length-le}
+use lib.Seq.{take-all, drop-cons}
 use lib.IntN.{ℤ, pos, negsuc, _-ℤ_}
 use mir.Syntax.{w64}
 use mir.Val.{SFits, toZ, ofZ}
 use mir.Facts.{toZ-pos, toZ-ofZ}
-use denote.Enum.Declared.{tagOf}
 use lib.Dec.{leb, eqb}
-use Rattle.numbers.proofs.Value.{the-type}
-use Rattle.numbers.proofs.WideValue as wide-enum
-use Rattle.numbers.specs.declared.Value.{Value}
-use Rattle.numbers.specs.declared.Value.the-variants.{Number, Missing, Bad}
-use Rattle.numbers.specs.declared.WideValue.{WideValue}
-use Rattle.numbers.specs.declared.WideValue.the-variants.{Number as Wide, Missing as NoWide, Bad as BadWide}
+use Rattle.digits.specs.Decimal.{digit, digits, decimal}
+use Rattle.digits.specs.Run.{digitCount, numberUpTo, runAt}
+use Rattle.digits.specs.declared.Value.{Value}
+use Rattle.digits.specs.declared.Value.the-variants.{Number, Missing, Bad}
+use Rattle.digits.specs.declared.DigitRun.{DigitRun}
+use Rattle.digits.proofs.Runs.{count-digits, count-all}
+use Rattle.digits.proofs.Values.{NoNumber}
 use Rattle.numbers.specs.declared.SignedValue.{SignedValue}
 use Rattle.numbers.specs.declared.SignedValue.the-variants.{Number as Signed, Missing as NoSigned, Bad as BadSigned}
-use Rattle.numbers.specs.declared.DigitRun.{DigitRun}
-use Rattle.numbers.specs.Number.{digit, digits, numeral, decimal, natural, integer, minus, plus}
-use Rattle.numbers.specs.Digits.{digitCount, numberUpTo, runAt, asValue, signCount, leadingZero, atWidth, naturalBy, integerBy}
-use Rattle.numbers.proofs.Digits.{count-digits, count-all, sign-within}
+use Rattle.numbers.specs.Number.{numeral, natural, integer, minus, plus}
+use Rattle.numbers.specs.Steps.{signCount, leadingZero, atWidth, naturalBy, integerBy}
 
--- a number of 64 bits is the same number as a `Value`
-pub as-number : {v : WideValue} (n : ℕ) → v ≡ Wide n → asValue v ≡ Number n
-as-number n e = ap asValue e
+-- Each way through `digits_start`.
+module _ (s : List ℕ) (at : ℕ) where
+  pub start-over : length s ≤ at → at ≡ at + signCount (drop at s)
+  unfolding signCount
+  start-over h = rw (drop-of-length-le s h, add-zero)
 
--- an answer whose tag is 1 or 2 is none whose tag is 0
-pub other-tag : {A : Type 0} (tag : A → ℕ) (v : A) → (tag v ≡ 1) ⊎ (tag v ≡ 2) → (c : A) → tag c ≡ 0 → v ≡ c → ⊥
-other-tag tag v (inl e) c z q = omega (arith, ap tag q)
-other-tag tag v (inr e) c z q = omega (arith, ap tag q)
+  pub start-minus : at < length s → getD s at 0 ≡ 45 → at + 1 ≡ at + signCount (drop at s)
+  unfolding signCount
+  start-minus h e = rw (drop-cons s at 0 h, eq-eqb (getD s at 0) 45 e)
 
--- an answer that is no number
-abbrev pub NoNumber : Value → Type 0
-NoNumber v = (n : ℕ) → v ≡ Number n → ⊥
+  pub start-plain : at < length s → (getD s at 0 ≡ 45 → ⊥) → at ≡ at + signCount (drop at s)
+  unfolding signCount
+  start-plain h e = rw (drop-cons s at 0 h, ne-eqb (getD s at 0) 45 e, add-zero)
 
-pub no-number : (v : Value) → (tagOf the-type v ≡ 1) ⊎ (tagOf the-type v ≡ 2) → NoNumber v
-no-number v h n q = other-tag (λ (u : Value). tagOf the-type u) v h (Number n) refl q
-
-same-tag : (v : WideValue) → tagOf the-type (asValue v) ≡ tagOf wide-enum.the-type v
-same-tag (Wide n) = refl
-same-tag NoWide = refl
-same-tag BadWide = refl
-
-pub no-number-wide : (v : WideValue) → (tagOf wide-enum.the-type v ≡ 1) ⊎ (tagOf wide-enum.the-type v ≡ 2) → NoNumber (asValue v)
-no-number-wide v h = no-number (asValue v) (rw (same-tag v) h)
+pub sign-within : (s : List ℕ) → signCount s ≤ length s
+unfolding signCount
+sign-within [] = omega arith
+sign-within (b ∷ s) = go (eqb b 45)
+  where
+    go : (d : Bool) → cond d 1 0 ≤ suc (length s)
+    go true = omega arith
+    go false = omega arith
 
 -- Each way through `has_leading_zero`.
 pub short-no-zero : (w : List ℕ) → length w < 2 → false ≡ leadingZero w

@@ -13,8 +13,8 @@ use mir.Val.{Fits, SFits}
 use lib.ListN.{length, length-append, getD, take, set}
 use lib.Seq.{length-take-le, take-all, take-suc, take-suc-set}
 use Rattle.integers.proofs.Laws.{ints, diff}
-use Rattle.numbers.specs.Number.{numeralOf, integerOf}
-use Rattle.numbers.proofs.Numerals.{numeral-one, numeral-more, numeral-short}
+use Rattle.digits.specs.Decimal.{numeralOf, integerOf}
+use Rattle.digits.proofs.Numerals.{numeral-one, numeral-more, numeral-short}
 use Rattle.report.specs.Line.{stageWord, lineOf, textOf, lineRoom, Room, Wrote, Ready}
 use Rattle.report.specs.declared.Stage.{Stage}
 use Rattle.report.specs.declared.Stage.the-variants.{Setting, Blocks, Loops, Table}

@@ -5,7 +5,7 @@ use mathlib.Core.Path.{_≡_}
 use mathlib.Core.List.{List, [], _∷_, _++_}
 use lib.ListN.{length, take}
 use Rattle.lists.specs.Bytes.{bytes}
-use Rattle.numbers.specs.Number.{numeralOf, integerOf}
+use Rattle.digits.specs.Decimal.{numeralOf, integerOf}
 use Rattle.report.specs.declared.Stage.{Stage}
 use Rattle.report.specs.declared.Stage.the-variants.{Setting, Blocks, Loops, Table}
 use Rattle.report.specs.declared.Outcome.{Outcome}

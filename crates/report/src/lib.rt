@@ -3,7 +3,7 @@ ghost use mathlib.Core.Path.{_≡_};
 ghost use mathlib.Core.List.{_∷_, []};
 ghost use Prim.Native.Nat.{_≤_};
 ghost use lib.IntN.{natAbs};
-ghost use Rattle.numbers.specs.Number.{numeralOf, integerOf};
+ghost use Rattle.digits.specs.Decimal.{numeralOf, integerOf};
 ghost use Rattle.report.specs.Line.{stageWord, lineOf, Room, Wrote, Ready};
 
 pub enum Stage {

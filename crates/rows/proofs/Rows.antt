@@ -19,13 +19,13 @@ use Rattle.csv.specs.declared.Ending.{Ending}
 use Rattle.csv.specs.Place.{splitOf, noPlaces, fieldAt}
 use Rattle.csv.specs.declared.Split.{Split}
 use Rattle.csv.proofs.Splits.{split-field}
-use Rattle.numbers.specs.declared.Value.{Value}
-use Rattle.numbers.specs.declared.Value.the-variants.{Number, Missing, Bad}
+use Rattle.digits.specs.declared.Value.{Value}
+use Rattle.digits.specs.declared.Value.the-variants.{Number, Missing, Bad}
+use Rattle.digits.proofs.Value.{the-type}
+use Rattle.digits.proofs.Values.{other-tag, NoNumber}
 use Rattle.numbers.specs.declared.SignedValue.{SignedValue}
 use Rattle.numbers.specs.declared.SignedValue.the-variants.{Number as Signed, Missing as NoSigned, Bad as BadSigned}
-use Rattle.numbers.proofs.Value.{the-type}
 use Rattle.numbers.proofs.SignedValue as signed-enum
-use Rattle.numbers.proofs.Numbers.{other-tag, NoNumber}
 use Rattle.cells.specs.Cell.{unsigned, signed}
 use Rattle.cells.proofs.Fields.{unsigned-fits, signed-fits}
 use Rattle.rows.specs.Row.{blockFields, loopFields, Verdict, fault, needed, neededSigned, orMissing, turnOf, inTurn, blockCells, blockRow, loopCells, loopRow}

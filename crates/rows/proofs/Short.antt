@@ -11,8 +11,8 @@ use Rattle.csv.specs.Grammar.{width, recordOf, ends, field, alike}
 use Rattle.csv.specs.declared.Ending.{Ending}
 use Rattle.csv.specs.declared.Found.the-variants.{Comma, Ends}
 use Rattle.csv.proofs.Reading.{Reads, reads-last, reads-comma}
-use Rattle.numbers.specs.declared.Value.{Value}
-use Rattle.numbers.specs.declared.Value.the-variants.{Number}
+use Rattle.digits.specs.declared.Value.{Value}
+use Rattle.digits.specs.declared.Value.the-variants.{Number}
 use Rattle.numbers.specs.declared.SignedValue.{SignedValue}
 use Rattle.cells.specs.Cell.{unsigned, signed, cellAt, signedCellAt}
 use Rattle.cells.specs.declared.Cell.{Cell}

@@ -13,8 +13,8 @@ use mir.Syntax.{w64}
 use mir.Val.{SFits}
 use Rattle.csv.specs.Grammar.{Record, alike}
 use Rattle.csv.specs.declared.Ending.{Ending}
-use Rattle.numbers.specs.declared.Value.{Value}
-use Rattle.numbers.specs.declared.Value.the-variants.{Number, Missing, Bad}
+use Rattle.digits.specs.declared.Value.{Value}
+use Rattle.digits.specs.declared.Value.the-variants.{Number, Missing, Bad}
 use Rattle.numbers.specs.declared.SignedValue.{SignedValue}
 use Rattle.numbers.specs.declared.SignedValue.the-variants.{Number as Signed, Missing as NoSigned, Bad as BadSigned}
 use Rattle.rows.specs.Row.{Verdict, taken, fault, needed, neededSigned, orMissing, turnOf, inTurn, blockFields, blockCells, blockRow, loopFields, loopCells, loopRow}

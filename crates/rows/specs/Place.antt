@@ -9,11 +9,11 @@ use mir.Syntax.{w64}
 use mir.Val.{SFits}
 use Rattle.csv.specs.Grammar.{Record, comma, ends, field, width, recordOf, alike}
 use Rattle.csv.specs.declared.Ending.{Ending}
-use Rattle.numbers.specs.declared.Value.{Value}
-use Rattle.numbers.specs.declared.Value.the-variants.{Number}
+use Rattle.digits.specs.declared.Value.{Value}
+use Rattle.digits.specs.declared.Value.the-variants.{Number}
+use Rattle.digits.specs.Run.{asValue}
 use Rattle.numbers.specs.declared.SignedValue.{SignedValue}
 use Rattle.numbers.specs.declared.SignedValue.the-variants.{Number as Signed}
-use Rattle.numbers.specs.Digits.{asValue}
 use Rattle.cells.specs.Cell.{unsigned, signed}
 use Rattle.rows.specs.Row.{Verdict, taken, fault, blockFields, blockCells}
 use Rattle.rows.specs.Judge.{fieldOf, judgeBlock, judgeLoop}

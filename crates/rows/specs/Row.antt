@@ -7,8 +7,8 @@ use mathlib.Core.List.{List}
 use lib.Dec.{eqb, ltb}
 use lib.IntN.{ℤ}
 use Rattle.cells.specs.Cell.{unsigned, signed}
-use Rattle.numbers.specs.declared.Value.{Value}
-use Rattle.numbers.specs.declared.Value.the-variants.{Number, Missing, Bad}
+use Rattle.digits.specs.declared.Value.{Value}
+use Rattle.digits.specs.declared.Value.the-variants.{Number, Missing, Bad}
 use Rattle.numbers.specs.declared.SignedValue.{SignedValue}
 use Rattle.numbers.specs.declared.SignedValue.the-variants.{Number as Signed, Missing as NoSigned, Bad as BadSigned}
 use Rattle.rows.specs.declared.Turn.{Turn}

@@ -4,15 +4,15 @@ ghost use Prim.Native.Nat.{_≤_};
 ghost use lib.ListN.{length, drop};
 ghost use Rattle.csv.specs.Grammar.{recordOf};
 ghost use Rattle.csv.specs.Place.{fieldAt};
-ghost use Rattle.numbers.specs.Digits.{asValue};
+ghost use Rattle.digits.specs.Run.{asValue};
 ghost use Rattle.cells.specs.Cell.{unsigned, signed};
 ghost use Rattle.rows.specs.Row.{orMissing, turnOf, inTurn, blockCells, blockRow, loopCells, loopRow};
 ghost use Rattle.rows.specs.Place.{blockVerdict, blockStep, asLoopCells, loopVerdict, loopStep, BlockFits, LoopFits, CommaAt, LastAt, ShortAt};
 use csv::Ending;
 use csv::Found;
+use digits::Value;
+use digits::WideValue;
 use numbers::SignedValue;
-use numbers::Value;
-use numbers::WideValue;
 
 // Fields of a record in each table.
 pub const BLOCK_FIELDS: usize = 6;

@@ -15,7 +15,7 @@ use Rattle.loopsets.specs.Sets.{member, setAt}
 use Rattle.loopsets.specs.declared.LoopSet.{LoopSet}
 use Rattle.nesting.specs.Columns.{Names, Linked}
 use Rattle.lists.specs.Search.{if_then_else_}
-use Rattle.numbers.specs.Number.{numeralIn, numeralOf}
+use Rattle.digits.specs.Decimal.{numeralIn, numeralOf}
 use Rattle.mps.specs.Program.{RowName, objective, block, loop}
 use Rattle.mps.specs.Text.{rowName, edgeName, filled}
 use Rattle.mps.proofs.Names.{row-named, edge-named}

@@ -7,8 +7,8 @@ use native.Mathlib.Omega.{arith}
 use lib.Dec.{eqb}
 use lib.ListN.{length, length-append}
 use borrow.Author.Tests.{eqb-true}
-use Rattle.numbers.specs.Number.{numeralOf}
-use Rattle.numbers.proofs.Numerals.{numeral-short}
+use Rattle.digits.specs.Decimal.{numeralOf}
+use Rattle.digits.proofs.Numerals.{numeral-short}
 use Rattle.wcet.specs.Table.{Routine, blockCount, exit, missing, edge, cost, loopOf, limit, isHeader}
 use Rattle.wcet.specs.Rules.{structureRules}
 use Rattle.wcet.specs.Claim.{AllHold}

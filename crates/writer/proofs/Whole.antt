@@ -12,7 +12,7 @@ use Rattle.limits.specs.Limits.{mostLoops}
 use Rattle.lists.specs.Search.{if_then_else_}
 use Rattle.lists.specs.Bytes.{bytes}
 use Rattle.integers.proofs.Laws.{ints, diff}
-use Rattle.numbers.specs.Number.{numeralIn, numeralOf, integerOf}
+use Rattle.digits.specs.Decimal.{numeralIn, numeralOf, integerOf}
 use Rattle.wcet.specs.Table.{Routine, blockCount, loopCount, exit, missing, edge, cost, loopOf, header, limit, inside}
 use Rattle.wcet.specs.Rules.{structureRules}
 use Rattle.wcet.specs.Claim.{AllHold}

@@ -5,7 +5,7 @@ use Rattle.cells.proofs.integer_cell.Tie as tie
 use Rattle.cells.proofs.integer_cell.Reads as reads
 use Rattle.cells.proofs.integer_cell.Lts as lts
 use Rattle.cells.proofs.found_after.Reads as found-after-reads
-use Rattle.numbers.proofs.wide_run.Reads as wide-run-reads
+use Rattle.digits.proofs.wide_run.Reads as wide-run-reads
 use Rattle.numbers.proofs.digits_start.Reads as digits-start-reads
 use Rattle.numbers.proofs.integer_by.Reads as integer-by-reads
 

@@ -5,7 +5,7 @@ use Rattle.cells.proofs.number_cell.Tie as tie
 use Rattle.cells.proofs.number_cell.Reads as reads
 use Rattle.cells.proofs.number_cell.Lts as lts
 use Rattle.cells.proofs.found_after.Reads as found-after-reads
-use Rattle.numbers.proofs.digit_run.Reads as digit-run-reads
+use Rattle.digits.proofs.digit_run.Reads as digit-run-reads
 use Rattle.numbers.proofs.natural_by.Reads as natural-by-reads
 
 returns : tie.Need-returns

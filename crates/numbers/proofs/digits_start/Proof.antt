@@ -1,4 +1,4 @@
-use Rattle.numbers.proofs.Digits.{start-over, start-minus, start-plain}
+use Rattle.numbers.proofs.Numbers.{start-over, start-minus, start-plain}
 use borrow.Author.Needs.{needs}
 use Rattle.numbers.proofs.digits_start.Statement.{statement}
 use Rattle.numbers.proofs.digits_start.Tie as tie

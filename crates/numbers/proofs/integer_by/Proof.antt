@@ -1,4 +1,5 @@
-use Rattle.numbers.proofs.Numbers.{as-number, no-number-wide, integer-none, integer-not-minus, integer-minus-zero, minus-cast, minus-sub, integer-negative, integer-not-plus, plus-cast, integer-positive}
+use Rattle.digits.proofs.Values.{as-number, no-number-wide}
+use Rattle.numbers.proofs.Numbers.{integer-none, integer-not-minus, integer-minus-zero, minus-cast, minus-sub, integer-negative, integer-not-plus, plus-cast, integer-positive}
 use borrow.Author.Needs.{needs}
 use Rattle.numbers.proofs.integer_by.Statement.{statement}
 use Rattle.numbers.proofs.integer_by.Tie as tie

@@ -6,7 +6,7 @@ use Rattle.numbers.proofs.integer_of.Reads as reads
 use Rattle.numbers.proofs.integer_of.Lts as lts
 use Rattle.numbers.proofs.digits_start.Reads as digits-start-reads
 use Rattle.numbers.proofs.integer_by.Reads as integer-by-reads
-use Rattle.numbers.proofs.wide_run.Reads as wide-run-reads
+use Rattle.digits.proofs.wide_run.Reads as wide-run-reads
 
 digits-start-requires : tie.Need-digits-start-requires
 digits-start-requires c κs = search needs

@@ -1,4 +1,5 @@
-use Rattle.numbers.proofs.Numbers.{no-number, by-none, by-zero, by-other, by-beyond, by-number}
+use Rattle.digits.proofs.Values.{no-number}
+use Rattle.numbers.proofs.Numbers.{by-none, by-zero, by-other, by-beyond, by-number}
 use borrow.Author.Needs.{needs}
 use Rattle.numbers.proofs.natural_by.Statement.{statement}
 use Rattle.numbers.proofs.natural_by.Tie as tie

@@ -4,7 +4,7 @@ use Rattle.numbers.proofs.natural_of.Statement.{statement}
 use Rattle.numbers.proofs.natural_of.Tie as tie
 use Rattle.numbers.proofs.natural_of.Reads as reads
 use Rattle.numbers.proofs.natural_of.Lts as lts
-use Rattle.numbers.proofs.digit_run.Reads as digit-run-reads
+use Rattle.digits.proofs.digit_run.Reads as digit-run-reads
 use Rattle.numbers.proofs.natural_by.Reads as natural-by-reads
 
 digit-run-requires : tie.Need-digit-run-requires

@@ -1,4 +1,5 @@
-use Rattle.numbers.proofs.Numbers.{as-number, no-number-wide, by-none, by-zero, by-other, by-beyond, by-number}
+use Rattle.digits.proofs.Values.{as-number, no-number-wide}
+use Rattle.numbers.proofs.Numbers.{by-none, by-zero, by-other, by-beyond, by-number}
 use borrow.Author.Needs.{needs}
 use Rattle.numbers.proofs.wide_by.Statement.{statement}
 use Rattle.numbers.proofs.wide_by.Tie as tie

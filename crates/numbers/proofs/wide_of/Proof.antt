@@ -7,7 +7,7 @@ use Rattle.numbers.proofs.wide_of.Tie as tie
 use Rattle.numbers.proofs.wide_of.Reads as reads
 use Rattle.numbers.proofs.wide_of.Lts as lts
 use Rattle.numbers.proofs.wide_by.Reads as wide-by-reads
-use Rattle.numbers.proofs.wide_run.Reads as wide-run-reads
+use Rattle.digits.proofs.wide_run.Reads as wide-run-reads
 
 wide-run-requires : tie.Need-wide-run-requires
 wide-run-requires c κs = search needs

@@ -1,7 +1,7 @@
 use Rattle.report.proofs.Lines.{integer-short, wrote-both, ready}
 use mir.Facts.{toZ-ofZ}
 use Rattle.lists.specs.Bytes.{bytes}
-use Rattle.numbers.specs.Number.{integerOf}
+use Rattle.digits.specs.Decimal.{integerOf}
 use Rattle.report.specs.Line.{lineOf}
 use mathlib.Core.List.{[], _∷_}
 use native.Mathlib.Omega.{arith}

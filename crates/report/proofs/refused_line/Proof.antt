@@ -1,8 +1,8 @@
-use Rattle.numbers.proofs.Numerals.{numeral-short}
+use Rattle.digits.proofs.Numerals.{numeral-short}
 use Rattle.report.proofs.Lines.{stage-short, wrote-both, ready}
 use Rattle.report.specs.Line.{stageWord, lineOf}
 use Rattle.lists.specs.Bytes.{bytes}
-use Rattle.numbers.specs.Number.{numeralOf}
+use Rattle.digits.specs.Decimal.{numeralOf}
 use lib.ListN.{length}
 use Prim.Native.Nat.{_≤_}
 use mathlib.Core.List.{[], _∷_}

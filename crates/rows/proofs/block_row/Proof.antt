@@ -1,4 +1,4 @@
-use Rattle.numbers.proofs.Numbers.{no-number}
+use Rattle.digits.proofs.Values.{no-number}
 use Rattle.rows.proofs.Rows.{block-0, block-1, block-2, block-3, block-4, block-5, block-placed, no-signed-number, fits16, fits-missing}
 use borrow.Author.Needs.{needs}
 use Rattle.rows.proofs.block_row.Statement.{statement}

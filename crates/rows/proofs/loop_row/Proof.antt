@@ -1,4 +1,4 @@
-use Rattle.numbers.proofs.Numbers.{no-number, no-number-wide, as-number}
+use Rattle.digits.proofs.Values.{no-number, no-number-wide, as-number}
 use Rattle.rows.proofs.Rows.{loop-0, loop-1, loop-2, loop-3, loop-4, loop-placed, fits16}
 use borrow.Author.Needs.{needs}
 use Rattle.rows.proofs.loop_row.Statement.{statement}

@@ -1,4 +1,4 @@
-use Rattle.numbers.proofs.Numerals.{numeral-one, numeral-more}
+use Rattle.digits.proofs.Numerals.{numeral-one, numeral-more}
 use Rattle.report.proofs.Lines.{wrote-both, room-only, room-front, room-last}
 use native.Mathlib.Omega.{arith}
 use Prim.Native.Nat.{ℕ, _<_}

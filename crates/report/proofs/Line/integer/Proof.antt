@@ -1,6 +1,6 @@
 use Rattle.report.proofs.Lines.{negative-text, positive-text, wrote-both, room-as, room-start, room-rest}
-use Rattle.numbers.specs.Number.{integerOf}
-use Rattle.numbers.specs.Number.{numeralOf}
+use Rattle.digits.specs.Decimal.{integerOf}
+use Rattle.digits.specs.Decimal.{numeralOf}
 use mir.Facts.{toZ-ofZ}
 use lib.IntN.{natAbs}
 use Prim.Native.Nat.{ℕ}

@@ -1,18 +1,14 @@
--- A number that is written in decimal digits is read as that number.
+-- The digits that write a number: they write that number, and they are its last digit after those of its tenth.
 -- Assumes nothing.
-use mathlib.Core.Path.{_≡_, refl, sym, _∙_, ap}
-use mathlib.Core.Bool.{Bool, true, false, cond, and-true, and-eq-true-iff}
+use mathlib.Core.Path.{_≡_, refl, _∙_, ap}
+use mathlib.Core.Bool.{Bool, true, false, cond}
 use mathlib.Core.List.{List, [], _∷_, _++_}
 use Prim.Native.Nat.{ℕ, zero, suc, _+_, _-_, _*_, _/_, _%_, _^_, _<_, _≤_}
 use native.Mathlib.Omega.{arith}
-use native.Mathlib.Decide.{ℕ-discrete}
-use borrow.Author.Tests.{leb-true, le-leb, ltb-true, ltb-false, lt-ltb, le-ltb, ne-eqb}
+use borrow.Author.Tests.{le-leb, ltb-true, ltb-false, lt-ltb, le-ltb}
 use lib.ListN.{length, length-append, getD}
-use lib.IntN.{pos, negsuc}
-use lib.Dec.{leb, ltb, leb·zero}
-use Rattle.numbers.specs.Number.{digit, digits, numeral, decimal, natural, integer, numeralIn, numeralOf}
-use Rattle.numbers.specs.declared.Value.the-variants.{Number}
-use Rattle.numbers.specs.declared.SignedValue.the-variants.{Number as Signed}
+use lib.Dec.{ltb}
+use Rattle.digits.specs.Decimal.{digits, decimal, numeralIn, numeralOf}
 
 -- what holds of the digits of n in front of s, by cases on n < 10
 module _ (P : ℕ → ℕ → List ℕ → List ℕ → Type 0) (one : (n : ℕ) (s : List ℕ) → n < 10 → (k : ℕ) → P (suc k) n s ((48 + n) ∷ s)) (more : (k n : ℕ) (s t : List ℕ) → 10 ≤ n → P k (n / 10) ((48 + n % 10) ∷ s) t → P (suc k) n s t) where
@@ -45,45 +41,6 @@ is-numeral n = by-digits Numeral one more (suc n) n [] (omega arith)
     more k n s t h r =
         let e : n / 10 * 10 + (48 + n % 10 - 48) ≡ n = omega arith in
         record { value = r .value ∙ rw e; digit = r .digit ∙ rw (le-leb 48 (48 + n % 10) (omega arith), le-leb (48 + n % 10) 57 (omega arith)); some = r .some; first = λ p. r .first (omega arith) }
-
--- digits with no leading zero say their number
-digits-say : (t : List ℕ) (greatest : ℕ) → digits t ≡ true → 0 < length t → (getD t 0 0 ≡ 48 → ⊥) → decimal 0 t ≤ greatest → Number (decimal 0 t) ≡ natural greatest t
-unfolding natural numeral digits
-digits-say [] greatest d h f l = absurd (omega arith)
-digits-say (b ∷ []) greatest d h f l = rw (sym (and-true (digit b)) ∙ d, le-leb (decimal 0 (b ∷ [])) greatest l)
-digits-say (b ∷ c ∷ s) greatest d h f l = rw (ne-eqb b 48 f, d, le-leb (decimal 0 (b ∷ c ∷ s)) greatest l)
-
-zero-back : (greatest : ℕ) → natural greatest (numeralOf 0) ≡ Number 0
-unfolding numeralOf numeralIn natural numeral decimal
-zero-back greatest = rw leb·zero
-
--- THEOREM: a number within its width reads back.
-pub natural-back : (greatest n : ℕ) → n ≤ greatest → natural greatest (numeralOf n) ≡ Number n
-unfolding decimal digits
-natural-back greatest n l = go (ℕ-discrete n 0)
-  where
-    r : Numeral (suc n) n [] (numeralOf n)
-    r = is-numeral n
-
-    go : Dec (n ≡ 0) → natural greatest (numeralOf n) ≡ Number n
-    go (yes z) = rw z (zero-back greatest)
-    go (no z) = sym (digits-say (numeralOf n) greatest (r .digit) (r .some) (r .first (omega arith)) (rw (r .value) l)) ∙ rw (r .value)
-
--- the same of signed numbers
-pub positive-back : (n : ℕ) → n ≤ 2 ^ 63 - 1 → integer (numeralOf n) ≡ Signed (pos n)
-unfolding integer digits
-positive-back n l = plain (numeralOf n) (natural-back (2 ^ 63 - 1) n l) (is-numeral n)
-  where
-    plain : (t : List ℕ) → natural (2 ^ 63 - 1) t ≡ Number n → Numeral (suc n) n [] t → integer t ≡ Signed (pos n)
-    plain [] q r = absurd (omega (arith, r .some))
-    plain (b ∷ t) q r =
-        let d = and-eq-true-iff (digit b) (digits t) .0 (r .digit) .0 in
-        let h : 48 ≤ b = leb-true 48 b (and-eq-true-iff (leb 48 b) (leb b 57) .0 d .0) in
-        rw (ne-eqb b 45 (λ z. omega arith), q)
-
-pub negative-back : (n : ℕ) → suc n ≤ 2 ^ 63 → integer (45 ∷ numeralOf (suc n)) ≡ Signed (negsuc n)
-unfolding integer
-negative-back n l = rw (natural-back (2 ^ 63) (suc n) l)
 
 -- ---- the digits one by one
 

@@ -1,13 +1,13 @@
-use Rattle.numbers.proofs.Digits.{Gathered, none-over, none-low, none-high, run-here, run-on, run-past, within-width, product-fits, sum-fits}
+use Rattle.digits.proofs.Runs.{Gathered, none-over, none-low, none-high, run-here, run-on, run-past, within-width, product-fits, sum-fits}
 use Prim.Native.Nat.{_-_, _^_}
 use lib.ListN.{length}
 use borrow.Author.Needs.{needs}
-use Rattle.numbers.proofs.wide_run.Statement.{statement}
-use Rattle.numbers.proofs.wide_run.Tie as tie
-use Rattle.numbers.proofs.wide_run.Reads as reads
-use Rattle.numbers.proofs.wide_run.Lts as lts
-use Rattle.numbers.proofs.digits_end.Reads as digits-end-reads
-use Rattle.numbers.proofs.overflows_wide.Reads as overflows-wide-reads
+use Rattle.digits.proofs.wide_run.Statement.{statement}
+use Rattle.digits.proofs.wide_run.Tie as tie
+use Rattle.digits.proofs.wide_run.Reads as reads
+use Rattle.digits.proofs.wide_run.Lts as lts
+use Rattle.digits.proofs.digits_end.Reads as digits-end-reads
+use Rattle.digits.proofs.overflows_wide.Reads as overflows-wide-reads
 
 abbrev Inv-loop : tie.InvT-loop
 Inv-loop text at n₀ i₀ n i = Gathered (2 ^ 64 - 1) text at n i

@@ -1,13 +1,13 @@
-use Rattle.numbers.proofs.Digits.{none-over, none-low, none-high, end-here, end-on}
+use Rattle.digits.proofs.Runs.{none-over, none-low, none-high, end-here, end-on}
 use Prim.Native.Nat.{_+_, _-_}
 use mathlib.Core.Path.{_≡_}
 use lib.ListN.{length, drop}
-use Rattle.numbers.specs.Digits.{digitCount}
+use Rattle.digits.specs.Run.{digitCount}
 use borrow.Author.Needs.{needs}
-use Rattle.numbers.proofs.digits_end.Statement.{statement}
-use Rattle.numbers.proofs.digits_end.Tie as tie
-use Rattle.numbers.proofs.digits_end.Reads as reads
-use Rattle.numbers.proofs.digits_end.Lts as lts
+use Rattle.digits.proofs.digits_end.Statement.{statement}
+use Rattle.digits.proofs.digits_end.Tie as tie
+use Rattle.digits.proofs.digits_end.Reads as reads
+use Rattle.digits.proofs.digits_end.Lts as lts
 
 abbrev Inv-loop : tie.InvT-loop
 Inv-loop text at i₀ i = at + digitCount (drop at text) ≡ i + digitCount (drop i text)

@@ -7,16 +7,16 @@ use Prim.Native.Nat.{ℕ, suc, _+_, _-_, _*_, _^_, _<_, _≤_}
 use native.Mathlib.Nat.{add-zero}
 use native.Mathlib.Numerals.{add-one}
 use native.Mathlib.Omega.{arith}
-use borrow.Author.Tests.{ltb-true, ltb-false, lt-ltb, le-ltb, le-leb, lt-leb, eq-eqb, ne-eqb}
+use borrow.Author.Tests.{ltb-true, ltb-false, lt-ltb, le-ltb, le-leb, lt-leb}
 use lib.ListN.{length, take, drop, getD, drop-of-length-le}
 use lib.Seq.{drop-cons}
-use lib.Dec.{leb, ltb, eqb}
+use lib.Dec.{leb, ltb}
 use mir.Syntax.{Width}
 use mir.Val.{Fits, bits}
-use Rattle.numbers.specs.Number.{digit, digits, decimal}
-use Rattle.numbers.specs.Digits.{digitCount, numberUpTo, runAt, signCount}
-use Rattle.numbers.specs.declared.Value.the-variants.{Number, Bad}
-use Rattle.numbers.specs.declared.DigitRun.{DigitRun}
+use Rattle.digits.specs.Decimal.{digit, digits, decimal}
+use Rattle.digits.specs.Run.{digitCount, numberUpTo, runAt}
+use Rattle.digits.specs.declared.Value.the-variants.{Number, Bad}
+use Rattle.digits.specs.declared.DigitRun.{DigitRun}
 
 -- What stands at i: nothing, a byte that is no digit, a digit.
 module _ (s : List ℕ) (i : ℕ) where
@@ -112,20 +112,6 @@ module _ (g : ℕ) (s : List ℕ) (n i : ℕ) {x : DigitRun} (q : x ≡ runAfter
         let z : i + 1 + digitCount (drop (i + 1) s) ≡ e = omega (arith, one-more s i h k l) in
         sym (run-on ∙ rw (b, z))
 
--- Each way through `digits_start`.
-module _ (s : List ℕ) (at : ℕ) where
-  pub start-over : length s ≤ at → at ≡ at + signCount (drop at s)
-  unfolding signCount
-  start-over h = rw (drop-of-length-le s h, add-zero)
-
-  pub start-minus : at < length s → getD s at 0 ≡ 45 → at + 1 ≡ at + signCount (drop at s)
-  unfolding signCount
-  start-minus h e = rw (drop-cons s at 0 h, eq-eqb (getD s at 0) 45 e)
-
-  pub start-plain : at < length s → (getD s at 0 ≡ 45 → ⊥) → at ≡ at + signCount (drop at s)
-  unfolding signCount
-  start-plain h e = rw (drop-cons s at 0 h, ne-eqb (getD s at 0) 45 e, add-zero)
-
 -- the digits at the start of s are digits, and lie in it; where they are not all of s, s is not digits
 pub count-within : (s : List ℕ) → digitCount s ≤ length s
 unfolding digitCount
@@ -149,12 +135,3 @@ pub count-all : (s : List ℕ) → digits s ≡ true → digitCount s ≡ length
 unfolding digitCount digits
 count-all [] e = refl
 count-all (b ∷ s) e = let h = and-eq-true-iff (digit b) (digits s) .0 e in rw (h .0) (ap suc (count-all s (h .1)))
-
-pub sign-within : (s : List ℕ) → signCount s ≤ length s
-unfolding signCount
-sign-within [] = omega arith
-sign-within (b ∷ s) = go (eqb b 45)
-  where
-    go : (d : Bool) → cond d 1 0 ≤ suc (length s)
-    go true = omega arith
-    go false = omega arith
