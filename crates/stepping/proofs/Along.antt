@@ -7,7 +7,7 @@ use native.Mathlib.Numerals.{add-one}
 use native.Mathlib.Omega.{arith}
 use lib.Dec.{eqb, ltb}
 use borrow.Author.Tests.{eqb-true, ltb-true, ltb-false}
-use lib.ListN.{length, getD, drop}
+use lib.ListN.{length, getD, drop, set, length-set}
 use lib.Seq.{drop-cons}
 use Rattle.lists.specs.Search.{if_then_else_}
 use Rattle.lists.proofs.Tests.{or-false}
@@ -26,7 +26,7 @@ use Rattle.stepping.specs.declared.Answer.the-variants.{Moved, NoBlock, 
 use Rattle.stepping.specs.declared.Stepped.{Stepped}
 use Rattle.stepping.specs.declared.Entry.{Entry}
 use Rattle.stepping.specs.declared.Entry.the-variants as entry
-use Rattle.stepping.specs.Step.{stateOf, visitsTo, Outcome, outcome, unmoved, stepped, entryAnswer, Walkable, Standing}
+use Rattle.stepping.specs.Step.{countsAfter, stateOf, visitsTo, Outcome, outcome, unmoved, stepped, entryAnswer, Walkable, Standing}
 
 -- what a walk is given by the structure check
 pub sound-walkable : (t : Routine) (s : Structured) → StructureChecked t s → s .answer ≡ Sound → Walkable t (s .around)
@@ -119,6 +119,14 @@ next-most t u v l c = go (leaves t u v l) (not (eqb (header t l) v)) (inside t u
     go false false false = omega arith
 
 -- ---- the walk
+
+-- there are as many counts after a step as before
+pub still-sized : (counts counts′ : List ℕ) (l visits : ℕ) → counts′ ≡ countsAfter counts l visits → length counts ≡ mostLoops → length counts′ ≡ mostLoops
+still-sized counts counts′ l visits e size = ap (λ (xs : List ℕ). length xs) e ∙ go (eqb visits 0)
+  where
+    go : (b : Bool) → length (if b then counts else set counts l visits) ≡ mostLoops
+    go true = size
+    go false = length-set counts l visits ∙ size
 
 spent-next : (t : Routine) (w : List ℕ) (i : ℕ) → i < length w → runCost t (drop i w) ≡ cost t (getD w i 0) + runCost t (drop (suc i) w)
 unfolding runCost

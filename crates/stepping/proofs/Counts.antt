@@ -7,7 +7,7 @@ use native.Mathlib.Decide.{ℕ-discrete}
 use native.Mathlib.Omega.{arith}
 use lib.Dec.{eqb, ltb, eqb·suc-zero}
 use borrow.Author.Tests.{eqb-false, ne-eqb, ltb-true, ltb-false}
-use lib.ListN.{length, getD, replicate, List·getD-eq-default}
+use lib.ListN.{length, getD, set, replicate, List·getD-eq-default}
 use lib.Seq.{getD-set-same, getD-set-other}
 use Rattle.limits.specs.Limits.{mostLoops}
 use Rattle.lists.specs.Search.{if_then_else_}
@@ -64,7 +64,7 @@ module _ (t : Routine) (sets : List ℕ) (S : Walkable t sets) where
     module _ (counts : List ℕ) (k : ℕ) (size : length counts ≡ mostLoops)
         (visits : k ≡ headerVisits (getD counts (loopOf t v) 0) (isHeader t v) (inside t u (loopOf t v))) where
       abbrev after : List ℕ
-      after = countsAfter counts (loopOf t v) (isHeader t v) k
+      after = countsAfter counts (loopOf t v) k
 
       -- a loop that v is outside of
       next-outside : (j : ℕ) → inside t v j ≡ false → countIn t after v j ≡ nextCount t u v j (countIn t counts u j)
@@ -78,15 +78,15 @@ module _ (t : Routine) (sets : List ℕ) (S : Walkable t sets) where
       -- a loop around v, other than the innermost
       next-outer : (j : ℕ) → inside t v j ≡ true → (j ≡ loopOf t v → ⊥) → countIn t after v j ≡ nextCount t u v j (countIn t counts u j)
       unfolding nextCount
-      next-outer j i ne = rw (i, was (inside t u j) refl, ne-eqb (header t j) v (other-header j ne)) (go (isHeader t v))
+      next-outer j i ne = rw (i, was (inside t u j) refl, ne-eqb (header t j) v (other-header j ne)) (go (eqb k 0))
         where
           was : (b : Bool) → inside t u j ≡ b → inside t u j ≡ true
           was true e = e
           was false e = absurd (ne (enters-one t nesting u v j block there (is-loop v j v-block i) i e))
 
-          go : (b : Bool) → getD (countsAfter counts (loopOf t v) b k) j 0 ≡ getD counts j 0
-          go true = getD-set-other counts (loopOf t v) j k 0 ne
-          go false = refl
+          go : (b : Bool) → getD (if b then counts else set counts (loopOf t v) k) j 0 ≡ getD counts j 0
+          go true = refl
+          go false = getD-set-other counts (loopOf t v) j k 0 ne
 
       -- the innermost loop
       next-own : countIn t after v (loopOf t v) ≡ nextCount t u v (loopOf t v) (countIn t counts u (loopOf t v))
@@ -100,9 +100,9 @@ module _ (t : Routine) (sets : List ℕ) (S : Walkable t sets) where
           small = omega (arith, size, nesting .innermost v v-block, S .ranged .sized .few-loops)
 
           go : (b : Bool) → isHeader t v ≡ b → (i : Bool) → inside t u l ≡ i
-              → getD (countsAfter counts l b (headerVisits (getD counts l 0) b i)) l 0
+              → getD (countsAfter counts l (headerVisits (getD counts l 0) b i)) l 0
               ≡ (if i && false then 0 else if not b then (if i then getD counts l 0 else 0) else if i then (if i then getD counts l 0 else 0) + 1 else 1)
-          go true p true q = getD-set-same counts l (getD counts l 0 + 1) 0 small
+          go true p true q = rw (ne-eqb (getD counts l 0 + 1) 0 (λ z. omega arith)) (getD-set-same counts l (getD counts l 0 + 1) 0 small)
           go true p false q = getD-set-same counts l 1 0 small
           go false p true q = refl
           go false p false q = absurd (eqb-false (header t (loopOf t v)) v p (nesting .at-header u v (loopOf t v) block there (nesting .innermost v v-block) (inside-own t v) q))

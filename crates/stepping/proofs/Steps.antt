@@ -8,7 +8,7 @@ use native.Mathlib.Decide.{ℕ-discrete}
 use native.Mathlib.Omega.{arith}
 use lib.Dec.{eqb, ltb}
 use borrow.Author.Tests.{lt-ltb, ne-eqb, eqb-false, ltb-true}
-use lib.ListN.{length, getD, length-set}
+use lib.ListN.{length, getD}
 use denote.Enum.Declared.{tagOf}
 use Rattle.limits.specs.Limits.{mostBlocks, mostLoops, longestWalk}
 use Rattle.lists.specs.Search.{if_then_else_}
@@ -140,15 +140,7 @@ module _ (t : Routine) (sets counts : List ℕ) (S : Walkable t sets) (r : Run) 
         go true false = refl
         go false i = refl
 
-    -- as many counts as before
-    pub still-sized : (after : List ℕ) → after ≡ countsAfter counts (loopOf t v) (isHeader t v) k → length after ≡ mostLoops
-    still-sized after e = ap (λ (xs : List ℕ). length xs) e ∙ go (isHeader t v)
-      where
-        go : (b : Bool) → length (countsAfter counts (loopOf t v) b k) ≡ mostLoops
-        go true = length-set counts (loopOf t v) k ∙ stands .sized
-        go false = stands .sized
-
-    pub step-moved : (a : Answer) → a ≡ Moved → (after : List ℕ) → after ≡ countsAfter counts (loopOf t v) (isHeader t v) k
+    pub step-moved : (a : Answer) → a ≡ Moved → (after : List ℕ) → after ≡ countsAfter counts (loopOf t v) k
         → record { state = record { block = v; count = countIn t after v }; spent = r .cost + cost t v; visits = k; answer = a } ≡ stepped t (stateOf t counts r) (r .cost) v
     unfolding stepped next
     step-moved a m after e =

@@ -35,9 +35,9 @@ visitsAfter count inside = if inside then count + 1 else 1
 abbrev pub headerVisits : ℕ → Bool → Bool → ℕ
 headerVisits count heading inside = if not heading then 0 else visitsAfter count inside
 
--- the counts after a step into loop l, where its header, if that is the block, has these visits
-abbrev pub countsAfter : List ℕ → ℕ → Bool → ℕ → List ℕ
-countsAfter counts l heading visits = if heading then set counts l visits else counts
+-- the counts after a step into loop l that ends with these visits to its header: 0 visits change nothing
+abbrev pub countsAfter : List ℕ → ℕ → ℕ → List ℕ
+countsAfter counts l visits = if eqb visits 0 then counts else set counts l visits
 
 -- ---- the state and the step
 
@@ -62,6 +62,10 @@ pub record Outcome : Type 0 where
 
 abbrev pub outcome : Routine → List ℕ → Stepped → Outcome
 outcome t counts s = record { state = stateOf t counts (s .run); spent = s .run .cost; visits = s .visits; answer = s .answer }
+
+-- the first block: its cost, and the first visit to the header of loop 0
+abbrev pub firstStep : ℕ → Stepped
+firstStep c = record { run = record { at = 0; cost = c }; visits = 1; answer = Moved }
 
 -- a refused step leaves the state as it was
 abbrev pub unmoved : State → ℕ → Answer → Outcome
@@ -127,19 +131,20 @@ pub record Stands (t : Unread → Routine) (sets counts : List ℕ) (r : Run) : 
   pub walkable : Walkable (t unread) sets
   pub standing : Standing (t unread) counts r
 
--- what a step ensures of its answer s and of the counts after it: with any such columns, it is the step of the definition
+-- what a step ensures of its answer s and of the counts after it: the count of the loop that it ends in is the visits, if there are any, and with any
+-- such columns it is the step of the definition
 pub record Steps (t : Unread → Routine) (sets counts : List ℕ) (r : Run) (v : ℕ) (s : Stepped) (counts′ : List ℕ) : Type 0 where
-  pub sized : length counts′ ≡ mostLoops
+  pub counts-are : (x : Unread) → counts′ ≡ countsAfter counts (loopOf (t x) v) (s .visits)
   pub is-step : (x : Unread) → Walkable (t x) sets → Standing (t x) counts r → outcome (t x) counts′ s ≡ stepped (t x) (stateOf (t x) counts r) (r .cost) v
 
 -- ---- the blocks of a walk, for a function that reads some of the columns
 
--- what a function requires that follows a walk: the tables of its columns, and of some others, keep 201 to 207
+-- what a function that follows a walk requires: with some choice of the columns that it does not take, the tables keep 201 to 207
 pub record Ready {Others : Type 0} (t : Others → Routine) (sets : List ℕ) : Type 0 where
   pub others : Others
   pub walkable : Walkable (t others) sets
 
--- and where it goes over the blocks after the first: the walk w is no longer than a walk may be and starts at block 0
+-- what its loop over the blocks after the first requires as well: the walk w is no longer than a walk may be and starts at block 0
 pub record Enters {Others : Type 0} (t : Others → Routine) (sets w : List ℕ) : Type 0 where
   pub ready : Ready t sets
   pub some : 0 < length w

@@ -6,7 +6,7 @@ ghost use Prim.Native.Nat.{_≤_, _<_};
 ghost use lib.Dec.{eqb};
 ghost use lib.ListN.{length, getD};
 ghost use Rattle.limits.specs.Limits.{mostLoops, longestWalk};
-ghost use Rattle.stepping.specs.Step.{firstNumbers, visitsAfter, headerVisits, countsAfter, edgeAnswer, entryAnswer, stepColumns, Stands, Steps};
+ghost use Rattle.stepping.specs.Step.{firstNumbers, visitsAfter, headerVisits, countsAfter, firstStep, edgeAnswer, entryAnswer, stepColumns, Stands, Steps};
 use limits::LONGEST_WALK;
 use limits::MOST_LOOPS;
 use loopsets::Sets;
@@ -68,7 +68,7 @@ fn count_on(count: &mut u32, inside: bool) -> u32
 // and 0 where it is no header.
 fn visit(counts: &mut Numbers, l: usize, heading: bool, inside: bool) -> u32
     requires { ⌜ (l < mostLoops) × (inside ≡ true → getD (now counts) l 0 ≤ longestWalk) ⌝ }
-    ensures { λ r. ⌜ (r ≡ headerVisits (getD (now (counts .entry)) l 0) heading inside) × (now (counts .exit) ≡ countsAfter (now (counts .entry)) l heading r) ⌝ }
+    ensures { λ r. ⌜ (r ≡ headerVisits (getD (now (counts .entry)) l 0) heading inside) × (now (counts .exit) ≡ countsAfter (now (counts .entry)) l r) ⌝ }
 {
     if !heading {
         return 0;
@@ -107,7 +107,7 @@ fn edge_answer(n: usize, first: &[u16], second: &[u16], from: usize, v: u16) -> 
 impl Stepped {
     // At the first block, block 0: the first visit to the header of loop 0.
     pub fn start(cost: u32) -> Stepped
-        ensures { λ r. ⌜ (r .run .at ≡ 0) × (r .run .cost ≡ cost) ⌝ }
+        ensures { λ r. ⌜ r ≡ firstStep cost ⌝ }
     {
         let run = Run {
             at: 0,
@@ -162,7 +162,7 @@ impl Run {
     }
 }
 
-// What 301, 302 and 303 say of the first block of a walk, in a routine of n blocks.
+// What 301, 302 and 303 say of the first block of a walk, in a routine of n blocks. There is a block, so block 0 is one.
 pub fn first_block(n: usize, blocks: &[u16]) -> Entry
     requires { ⌜ 0 < n ⌝ }
     ensures { λ r. ⌜ r ≡ entryAnswer n (now (blocks .entry)) ⌝ }

@@ -41,7 +41,7 @@ fn see(one: &mut LoopTally, visits: u32)
     *one = one.seen(visits);
 }
 
-// The step on a lent tally, for callers that have the tally by value: they need no walk by hand.
+// The step on a lent tally, for `note`, which has the tally by value: its proof is then not by hand.
 fn tallied(mut one: LoopTally, visits: u32) -> LoopTally
     requires { ⌜ one .stays ≤ longestWalk ⌝ }
     ensures { λ r. ⌜ r ≡ seenAfter one visits ⌝ }
@@ -73,7 +73,7 @@ fn note(stayed: &mut Numbers, visited: &mut Numbers, l: usize, visits: u32)
     renew(&mut visited[l], next.greatest);
 }
 
-// The same after a step to any block v: one that is no header has 0 visits, and nothing changes.
+// The same after a step to any block v. A block that is no header has 0 visits, and nothing changes.
 pub fn note_step(loops: &[u16], v: u16, visits: u32, stayed: &mut Numbers, visited: &mut Numbers)
     requires { ⌜ (v < length (now loops)) × TallyFits (now stayed) (now visited) (getD (now loops) v 0) ⌝ }
     ensures { λ _. ⌜ Noted (now (stayed .entry)) (now (visited .entry)) (getD (now (loops .entry)) v 0) visits (now (stayed .exit)) (now (visited .exit)) ⌝ }

@@ -1,4 +1,4 @@
--- What one step makes of the tallies, and the loop over the blocks where they count: before each index the tallies are those of the blocks so far, and the
+-- What one step makes of the tallies, and the loop over the blocks of a recording: before each index the tallies are those of the blocks so far, and the
 -- blocks that are left give the whole recording's reply. Assumes nothing.
 use mathlib.Core.Path.{_≡_, refl, sym, _∙_, ap, ap₂}
 use mathlib.Core.Bool.{Bool, true, false, not, _&&_}
@@ -70,7 +70,7 @@ module _ (t : Routine) (sets : List ℕ) (S : Walkable t sets) (u v : ℕ) (bloc
       at (yes e) = rw (e, eq-eqb (loopOf t v) (loopOf t v) refl, inside-own t v) (go (eqb (header t (loopOf t v)) v) refl (inside t u (loopOf t v)) refl)
       at (no ne) = rw (ne-eqb l (loopOf t v) ne) (other ne (inside t v l) refl (inside t u l) refl)
 
-  -- the greatest number so far, g, changes where the header is visited alone
+  -- the greatest number so far, g, changes only where the header is visited
   highest : (l g : ℕ) → l < loopCount t → c l ≤ g → max g (nextCount t u v l (c l)) ≡ (if eqb l (loopOf t v) then max g k else g)
   unfolding nextCount
   highest l g b most = at (ℕ-discrete l (loopOf t v))

@@ -1,4 +1,4 @@
--- The loop over the blocks where limits count: from each index on, the blocks that are left give the whole walk's reply. Assumes nothing.
+-- The loop over the blocks of a walk: from each index on, the blocks that are left give the whole walk's reply. Assumes nothing.
 use mathlib.Core.Path.{_≡_, refl, sym, _∙_, ap}
 use mathlib.Core.Bool.{Bool, true, false, not, _&&_, and-false}
 use mathlib.Core.List.{List}
@@ -31,7 +31,7 @@ use Rattle.walk.specs.declared.WalkReply.the-variants.{Accepted, Unfinis
 use Rattle.walk.specs.Reply.{meaning}
 use Rattle.walk.specs.Follow.{endOf}
 
--- 313 is asked of the loop that the step ends in alone, and only where its header is visited
+-- 313 is asked only of the loop that the step ends in, and only where its header is visited
 limit-next : (t : Routine) (sets : List ℕ) → Walkable t sets → (s : State) (v : ℕ) → s .block < blockCount t → edge t (s .block) v ≡ true → passesLimit t s ≡ false
     → passesLimit t (next t s v) ≡ ltb (limit t (loopOf t v)) (visitsTo t s v)
 unfolding next nextCount

@@ -7,11 +7,12 @@ use Rattle.limits.specs.Limits.{mostLoops}
 use Rattle.wcet.specs.Table.{Routine}
 use Rattle.wcet.specs.Rules.{Reply, accepted}
 use Rattle.wcet.specs.Tally.{recordingFrom}
+use Rattle.stepping.specs.declared.Stepped.{Stepped}
 use Rattle.stepping.specs.declared.Answer.{Answer}
 use Rattle.stepping.specs.declared.Answer.the-variants.{Moved, NoBlock, AfterExit, NoEdge}
 use Rattle.stepping.specs.Step.{stateOf, outcome, stepped, Walkable, Unread, stepColumns}
 use Rattle.stepping.proofs.Counts.{nesting, start-is}
-use Rattle.stepping.proofs.Along.{standing, moved, decided}
+use Rattle.stepping.proofs.Along.{standing, still-sized, moved, decided}
 use Rattle.tally.specs.declared.TallyReply.{TallyReply}
 use Rattle.tally.specs.declared.TallyReply.the-variants as reply
 use Rattle.tally.specs.Tally.{meaning}
@@ -65,6 +66,13 @@ in-walk c = c .before .before .before .before .loop-test .taken
 told : (c : tie.After-enum-told Inv-loop μ-loop) → c .before .before .step .result .answer ≡ Moved
 told c = search needs
 
+-- there are as many counts after the step
+sized-next : (c : tie.After-step Inv-loop μ-loop) → length (c .step .last .1 .0) ≡ mostLoops
+sized-next c =
+    let p = entry c .pre .0 .ready in
+    let loop = c .before .before .before .before .before .loop in
+    still-sized (loop .counts) (c .step .last .1 .0) (getD (entry c .args .loops .now) (block c) 0) (c .step .result .visits) (c .step .ensures .counts-are (p .others)) (loop .inv .1 (p .others) (p .walkable) .along .sized)
+
 module _ (c : tie.After-step Inv-loop μ-loop) (x : Unread) (S : Walkable (table (entry c) x) (entry c .args .around .now)) where
   tallying : let loop = c .before .before .before .before .before .loop in Tallying (table (entry c) x) (entry c .args .blocks .now) (loop .counts) (loop .last .run) (loop .i) (loop .stayed) (loop .visited)
   tallying = c .before .before .before .before .before .loop .inv .1 x S
@@ -80,7 +88,7 @@ module _ (c : tie.After-step Inv-loop μ-loop) (x : Unread) (S : Walkable (table
       let s = entry c in
       let loop = c .before .before .before .before .before .loop in
       record {
-        replied = stop-at (table s x) (s .args .around .now) S (s .args .blocks .now) (loop .counts) (loop .last .run) (loop .i) (loop .stayed) (loop .visited) tallying (in-walk c) (c .step .last .1 .0) (c .step .result) (c .step .ensures .sized) step-is a r says e;
+        replied = stop-at (table s x) (s .args .around .now) S (s .args .blocks .now) (loop .counts) (loop .last .run) (loop .i) (loop .stayed) (loop .visited) tallying (in-walk c) (c .step .last .1 .0) (c .step .result) (sized-next c) step-is a r says e;
         seen = λ k z. absurd (never k z);
       }
 
@@ -97,7 +105,7 @@ known c =
     let S = s .pre .0 .ready .walkable in
     let loop = d .before .before .before .before .before .loop in
     let b : block d < length (s .args .cost .now)
-    = moved (table s x) (s .args .around .now) S (s .args .blocks .now) (loop .counts) (loop .last .run) (loop .i) (tallying d x S .along) (in-walk d) (d .step .last .1 .0) (d .step .result) (d .step .ensures .sized) (step-is d x S) (told c) .block in
+    = moved (table s x) (s .args .around .now) S (s .args .blocks .now) (loop .counts) (loop .last .run) (loop .i) (tallying d x S .along) (in-walk d) (d .step .last .1 .0) (d .step .result) (sized-next d) (step-is d x S) (told c) .block in
     let l : inner d < length (x .parents) = nesting (table s x) (s .args .around .now) S .innermost (block d) b in
     record {
       in-loops = omega (arith, S .ranged .sized .loops);
@@ -127,7 +135,7 @@ loop-holds c =
       λ x S.
           rw (s .pre .1 .first-stays, s .pre .1 .first-visits)
           (tallying-first (table s x) (s .args .around .now) S (s .args .blocks .now) (c .before .before .first-numbers .result) (c .start .result .run) (p .some) (p .entry) (ap (λ (xs : List ℕ). length xs) e)
-          (ap (λ (xs : List ℕ). stateOf (table s x) xs (c .start .result .run)) e ∙ start-is (table s x) (S .rules) (c .start .result .run) (c .start .ensures .0)) (c .start .ensures .1)),
+          (ap (λ (xs : List ℕ). stateOf (table s x) xs (c .start .result .run)) e ∙ start-is (table s x) (S .rules) (c .start .result .run) (ap (λ (s : Stepped). s .run .at) (c .start .ensures))) (ap (λ (s : Stepped). s .run .cost) (c .start .ensures))),
     )
 
 mul-v : tie.Need-mul-v Inv-loop μ-loop
@@ -186,7 +194,7 @@ loop-again c =
       },
       λ x S.
           rw (n .more-stays, n .more-visits)
-          (tallying-next (table s x) (s .args .around .now) S (s .args .blocks .now) (loop .counts) (loop .last .run) (loop .i) (loop .stayed) (loop .visited) (tallying d x S) (in-walk d) (d .step .last .1 .0) (d .step .result) (d .step .ensures .sized) (step-is d x S) (told e) l refl (loop .inv .0 .stays-sized) (loop .inv .0 .visits-sized)),
+          (tallying-next (table s x) (s .args .around .now) S (s .args .blocks .now) (loop .counts) (loop .last .run) (loop .i) (loop .stayed) (loop .visited) (tallying d x S) (in-walk d) (d .step .last .1 .0) (d .step .result) (sized-next d) (step-is d x S) (told e) l refl (loop .inv .0 .stays-sized) (loop .inv .0 .visits-sized)),
     )
 
 finish-requires : tie.Need-finish-requires Inv-loop μ-loop

@@ -3,16 +3,18 @@ use mathlib.Core.List.{List}
 use mathlib.Core.Path.{_≡_, refl, _∙_, ap}
 use native.Mathlib.Omega.{arith}
 use lib.ListN.{length, getD, drop}
+use Rattle.limits.specs.Limits.{mostLoops}
 use Rattle.wcet.specs.Table.{Routine}
 use Rattle.wcet.specs.Rules.{Reply, accepted}
 use Rattle.wcet.specs.Run.{start}
 use Rattle.wcet.specs.Walk.{Walked, walked, walkFrom}
+use Rattle.stepping.specs.declared.Stepped.{Stepped}
 use Rattle.stepping.specs.declared.Answer.{Answer}
 use Rattle.stepping.specs.declared.Answer.the-variants.{Moved, NoBlock, AfterExit, NoEdge}
 use Rattle.stepping.specs.Step.{stateOf, outcome, stepped, Walkable}
 use Rattle.stepping.specs.Step as step
 use Rattle.stepping.proofs.Counts.{nesting, start-is}
-use Rattle.stepping.proofs.Along.{standing, moved, decided}
+use Rattle.stepping.proofs.Along.{standing, still-sized, moved, decided}
 use Rattle.walk.specs.declared.WalkReply.{WalkReply}
 use Rattle.walk.specs.declared.WalkReply.the-variants as reply
 use Rattle.walk.specs.Reply.{meaning}
@@ -60,6 +62,13 @@ in-walk c = c .before .before .before .before .loop-test .taken
 told : (c : tie.After-enum-told Inv-loop μ-loop) → c .before .before .step .result .answer ≡ Moved
 told c = search needs
 
+-- there are as many counts after the step
+sized-next : (c : tie.After-step Inv-loop μ-loop) → length (c .step .last .1 .0) ≡ mostLoops
+sized-next c =
+    let p = entry c .pre .ready in
+    let loop = c .before .before .before .before .before .loop in
+    still-sized (loop .counts) (c .step .last .1 .0) (getD (entry c .args .loops .now) (block c) 0) (c .step .result .visits) (c .step .ensures .counts-are (unread (entry c) (p .others))) (loop .inv (p .others) (p .walkable) .along .sized)
+
 module _ (c : tie.After-step Inv-loop μ-loop) (x : Unread) (S : Walkable (table (entry c) x) (entry c .args .around .now)) where
   underway : let loop = c .before .before .before .before .before .loop in Underway (table (entry c) x) (entry c .args .blocks .now) (loop .counts) (loop .last .run) (loop .i)
   underway = c .before .before .before .before .before .loop .inv x S
@@ -74,7 +83,7 @@ module _ (c : tie.After-step Inv-loop μ-loop) (x : Unread) (S : Walkable (table
   stop a r says e =
       let s = entry c in
       let loop = c .before .before .before .before .before .loop in
-      stop-at (table s x) (s .args .around .now) S (s .args .blocks .now) (loop .counts) (loop .last .run) (loop .i) underway (in-walk c) (c .step .last .1 .0) (c .step .result) (c .step .ensures .sized) step-is a r says e
+      stop-at (table s x) (s .args .around .now) S (s .args .blocks .now) (loop .counts) (loop .last .run) (loop .i) underway (in-walk c) (c .step .last .1 .0) (c .step .result) (sized-next c) step-is a r says e
 
 first-numbers-requires : tie.Need-first-numbers-requires Inv-loop μ-loop
 first-numbers-requires c κs = search needs
@@ -91,7 +100,7 @@ loop-holds c = λ x S.
     let p = s .pre in
     let e = c .before .before .first-numbers .ensures in
     underway-first (table s x) (s .args .around .now) S (s .args .blocks .now) (c .before .before .first-numbers .result) (c .start .result .run) (p .some) (p .entry) (ap (λ (xs : List ℕ). length xs) e)
-    (ap (λ (xs : List ℕ). stateOf (table s x) xs (c .start .result .run)) e ∙ start-is (table s x) (S .rules) (c .start .result .run) (c .start .ensures .0)) (c .start .ensures .1)
+    (ap (λ (xs : List ℕ). stateOf (table s x) xs (c .start .result .run)) e ∙ start-is (table s x) (S .rules) (c .start .result .run) (ap (λ (s : Stepped). s .run .at) (c .start .ensures))) (ap (λ (s : Stepped). s .run .cost) (c .start .ensures))
 
 mul-v : tie.Need-mul-v Inv-loop μ-loop
 mul-v c = search needs
@@ -135,7 +144,7 @@ passes-requires c κs =
     let S = s .pre .ready .walkable in
     let loop = d .before .before .before .before .before .loop in
     let b : block d < length (s .args .cost .now)
-    = moved (table s x) (s .args .around .now) S (s .args .blocks .now) (loop .counts) (loop .last .run) (loop .i) (underway d x S .along) (in-walk d) (d .step .last .1 .0) (d .step .result) (d .step .ensures .sized) (step-is d x S) (told c) .block in
+    = moved (table s x) (s .args .around .now) S (s .args .blocks .now) (loop .counts) (loop .last .run) (loop .i) (underway d x S .along) (in-walk d) (d .step .last .1 .0) (d .step .result) (sized-next d) (step-is d x S) (told c) .block in
     let l : getD (s .args .loops .now) (block d) 0 < length (x .parents) = nesting (table s x) (s .args .around .now) S .innermost (block d) b in
     (omega (arith, S .ranged .sized .loops), omega (arith, S .ranged .sized .limits))
 
@@ -146,7 +155,7 @@ returns-4 c = λ x S.
     let d = e .before .before in
     let s = entry d in
     let loop = d .before .before .before .before .before .loop in
-    stop-over (table s x) (s .args .around .now) S (s .args .blocks .now) (loop .counts) (loop .last .run) (loop .i) (underway d x S) (in-walk d) (d .step .last .1 .0) (d .step .result) (d .step .ensures .sized) (step-is d x S) (told e)
+    stop-over (table s x) (s .args .around .now) S (s .args .blocks .now) (loop .counts) (loop .last .run) (loop .i) (underway d x S) (in-walk d) (d .step .last .1 .0) (d .step .result) (sized-next d) (step-is d x S) (told e)
     (p .passes .result) (p .passes .ensures) (c .if1 .taken)
 
 add-i : tie.Need-add-i Inv-loop μ-loop
@@ -162,7 +171,7 @@ loop-again c = λ x S.
     let d = e .before .before in
     let s = entry d in
     let loop = d .before .before .before .before .before .loop in
-    underway-next (table s x) (s .args .around .now) S (s .args .blocks .now) (loop .counts) (loop .last .run) (loop .i) (underway d x S) (in-walk d) (d .step .last .1 .0) (d .step .result) (d .step .ensures .sized) (step-is d x S) (told e)
+    underway-next (table s x) (s .args .around .now) S (s .args .blocks .now) (loop .counts) (loop .last .run) (loop .i) (underway d x S) (in-walk d) (d .step .last .1 .0) (d .step .result) (sized-next d) (step-is d x S) (told e)
     (p .passes .result) (p .passes .ensures) (c .if1 .left)
 
 finish-requires : tie.Need-finish-requires Inv-loop μ-loop

@@ -1,9 +1,9 @@
 use native.Mathlib.Omega.{arith}
-use mathlib.Core.Path.{_≡_, sym, _∙_}
+use mathlib.Core.Path.{_≡_, refl, sym, _∙_}
 use Rattle.wcet.specs.Table.{Routine}
 use Rattle.stepping.specs.declared.Answer.the-variants.{Moved}
 use Rattle.stepping.specs.Step.{stateOf, Walkable, Unread, stepColumns}
-use Rattle.stepping.proofs.Steps.{OnEdge, on-edge, InStep, in-step, few-visits, still-sized, step-refused, step-moved}
+use Rattle.stepping.proofs.Steps.{OnEdge, on-edge, InStep, in-step, few-visits, step-refused, step-moved}
 use borrow.Author.Needs.{needs}
 use Rattle.stepping.proofs.Run.step.Statement.{statement}
 use Rattle.stepping.proofs.Run.step.Tie as tie
@@ -51,7 +51,7 @@ returns : tie.Need-returns
 returns c =
     let s = c .before .before .before .before .before .before .before in
     record {
-      sized = s .pre .standing .sized;
+      counts-are = λ x. refl;
       is-step = λ x S stands. step-refused (table s x) (S .ranged .sized .few-blocks) (stateOf (table s x) (s .args .counts .now) (s .args .self)) (s .args .self .cost) (s .args .v) (c .before .edge-answer .result) (c .before .edge-answer .ensures) (c .match .keys2);
     }
 
@@ -115,8 +115,7 @@ returns-2 c =
     let s = entry e in
     let here = p .before .before .before .before .set-at in
     record {
-      sized = still-sized (table s (s .pre .unread)) (s .args .around .now) (s .args .counts .now) (s .pre .walkable) (s .args .self) (s .args .v) (s .pre .standing) (on e (s .pre .unread) (s .pre .walkable)) (here .result) (p .before .contains .result) (here .ensures) (p .before .contains .ensures)
-          (p .visit .result) (p .visit .ensures .0) (p .visit .last .0) (p .visit .ensures .1);
+      counts-are = λ x. p .visit .ensures .1;
       is-step = λ x S stands.
           step-moved (table s x) (s .args .around .now) (s .args .counts .now) S (s .args .self) (s .args .v) stands (on e x S) (here .result) (p .before .contains .result) (here .ensures) (p .before .contains .ensures)
           (p .visit .result) (p .visit .ensures .0) (e .before .before .edge-answer .result) (told e) (p .visit .last .0) (p .visit .ensures .1);
