@@ -98,11 +98,11 @@ module _ (t : Routine) (sets : List ℕ) (S : Walkable t sets) (w : List ℕ) wh
             limit-next t sets S (stateOf t counts r) (getD w i 0) (A .at-block) (moved t sets S w counts r i A h counts′ s size step on .there) (U .within)
             ∙ ap (ltb (limit t (loopOf t (getD w i 0)))) (sym (next-visits t sets S w counts r i A h counts′ s size step on)) ∙ sym tested
 
-        pub stop-over : over ≡ true → meaning (OverLimit i) ≡ walkFrom t start 1 (drop 1 w) (accepted (walked t w))
+        stop-over : over ≡ true → meaning (OverLimit i) ≡ walkFrom t start 1 (drop 1 w) (accepted (walked t w))
         unfolding rest
         stop-over e = sym (stops Moved on ∙ rw (passes ∙ e))
 
-        pub underway-next : over ≡ false → Underway t w counts′ (s .run) (i + 1)
+        underway-next : over ≡ false → Underway t w counts′ (s .run) (i + 1)
         unfolding rest
         underway-next e = record {
           along = along-next t sets S w counts r i (U .along) h counts′ s size step on;
@@ -112,3 +112,7 @@ module _ (t : Routine) (sets : List ℕ) (S : Walkable t sets) (w : List ℕ) wh
           where
             state : stateOf t counts′ (s .run) ≡ next t (stateOf t counts r) (getD w i 0)
             state = next-state t sets S w counts r i (U .along) h counts′ s size step on
+
+        -- the walk is stopped, or goes on
+        pub decide : (over ≡ true → meaning (OverLimit i) ≡ walkFrom t start 1 (drop 1 w) (accepted (walked t w))) × (over ≡ false → Underway t w counts′ (s .run) (i + 1))
+        decide = (stop-over, underway-next)

@@ -1,4 +1,5 @@
-use Prim.Native.Nat.{ℕ, _-_, _<_}
+use Prim.Native.Nat.{ℕ, _+_, _-_, _<_}
+use mathlib.Core.Bool.{true, false}
 use mathlib.Core.List.{List}
 use mathlib.Core.Path.{_≡_, refl, _∙_, ap}
 use native.Mathlib.Omega.{arith}
@@ -19,7 +20,7 @@ use Rattle.walk.specs.declared.WalkReply.{WalkReply}
 use Rattle.walk.specs.declared.WalkReply.the-variants as reply
 use Rattle.walk.specs.Reply.{meaning}
 use Rattle.walk.specs.Follow.{Unread, walkColumns}
-use Rattle.walk.proofs.Walks.{Underway, underway-first, underway-next, stop-at, stop-over, end-reply}
+use Rattle.walk.proofs.Walks.{Underway, underway-first, stop-at, decide, end-reply}
 use borrow.Author.Needs.{needs}
 use Rattle.walk.proofs.follow.Statement.{statement}
 use Rattle.walk.proofs.follow.Tie as tie
@@ -148,15 +149,22 @@ passes-requires c κs =
     let l : getD (s .args .loops .now) (block d) 0 < length (x .parents) = nesting (table s x) (s .args .around .now) S .innermost (block d) b in
     (omega (arith, S .ranged .sized .loops), omega (arith, S .ranged .sized .limits))
 
-returns-4 : tie.Need-returns-4 Inv-loop μ-loop
-returns-4 c = λ x S.
-    let p = c .before in
+-- what the test of the limit decides
+judged : (p : tie.After-passes Inv-loop μ-loop) (x : Unread)
+    → let d = p .before .before .before in let t = table (entry d) x in let w = entry d .args .blocks .now in
+    Walkable t (entry d .args .around .now)
+    → (p .passes .result ≡ true → meaning (reply.OverLimit (index d)) ≡ walkFrom t start 1 (drop 1 w) (accepted (walked t w)))
+    × (p .passes .result ≡ false → Underway t w (d .step .last .1 .0) (d .step .result .run) (index d + 1))
+judged p x S =
     let e = p .before in
     let d = e .before .before in
     let s = entry d in
     let loop = d .before .before .before .before .before .loop in
-    stop-over (table s x) (s .args .around .now) S (s .args .blocks .now) (loop .counts) (loop .last .run) (loop .i) (underway d x S) (in-walk d) (d .step .last .1 .0) (d .step .result) (sized-next d) (step-is d x S) (told e)
-    (p .passes .result) (p .passes .ensures) (c .if1 .taken)
+    decide (table s x) (s .args .around .now) S (s .args .blocks .now) (loop .counts) (loop .last .run) (loop .i) (underway d x S) (in-walk d) (d .step .last .1 .0) (d .step .result) (sized-next d) (step-is d x S) (told e)
+    (p .passes .result) (p .passes .ensures)
+
+returns-4 : tie.Need-returns-4 Inv-loop μ-loop
+returns-4 c = λ x S. judged (c .before) x S .0 (c .if1 .taken)
 
 add-i : tie.Need-add-i Inv-loop μ-loop
 add-i c = let d = c .before .before .before .before in record { fits = omega (arith, in-walk d, entry d .pre .short) }
@@ -165,14 +173,7 @@ loop-less : tie.Need-loop-less Inv-loop μ-loop
 loop-less c = search needs
 
 loop-again : tie.Need-loop-again Inv-loop μ-loop
-loop-again c = λ x S.
-    let p = c .before in
-    let e = p .before in
-    let d = e .before .before in
-    let s = entry d in
-    let loop = d .before .before .before .before .before .loop in
-    underway-next (table s x) (s .args .around .now) S (s .args .blocks .now) (loop .counts) (loop .last .run) (loop .i) (underway d x S) (in-walk d) (d .step .last .1 .0) (d .step .result) (sized-next d) (step-is d x S) (told e)
-    (p .passes .result) (p .passes .ensures) (c .if1 .left)
+loop-again c = λ x S. judged (c .before) x S .1 (c .if1 .left)
 
 finish-requires : tie.Need-finish-requires Inv-loop μ-loop
 finish-requires c κs =
