@@ -10,16 +10,18 @@ use lib.Dec.{eqb}
 use lib.IntN.{ℤ}
 use lib.ListN.{drop}
 use borrow.Author.Tests.{eqb-true, eq-eqb}
+use Rattle.lists.proofs.Bytes.{same-refl, same-true}
+use Rattle.lists.specs.Bytes.{same}
 use Rattle.digits.specs.Decimal.{decimal}
 use Rattle.wcet.specs.Table.{Routine, blockCount, missing, cost}
 use Rattle.wcet.specs.Rules.{structureRules}
 use Rattle.wcet.specs.Claim.{AllHold}
 use Rattle.nesting.proofs.Stages.{headed}
 use Rattle.mps.specs.Program.{Row, Entry, Column, RowName, objective, block, loop, kindOf, rowsOf, target, edgesOf, entriesOf, columnOf, programOf}
-use Rattle.mps.specs.Mps.{Bytes, same}
+use Rattle.mps.specs.Mps.{Bytes}
 use Rattle.mps.specs.Text.{rowName, edgeName}
 use Rattle.mps.specs.Claim.{namedRow, namedEntry, namedColumn, named, Among, NamesApart}
-use Rattle.mps.proofs.Names.{same-refl, same-true, four-digits}
+use Rattle.mps.proofs.Names.{four-digits}
 use Rattle.mps.proofs.Sections.{All, all-map}
 use Rattle.mps.proofs.Apart.{each-among}
 use Rattle.mps.proofs.Routines.{entries-all, kept-all, names-apart}

@@ -9,6 +9,7 @@ use mathlib.Core.Option.{some}
 use lib.Dec.{eqb}
 use lib.IntN.{ℤ, pos, _+ℤ_, _-ℤ_, _*ℤ_}
 use lib.Signed.{_≤ℤ_}
+use Rattle.lists.specs.Bytes.{same}
 use Rattle.lists.specs.Search.{if_then_else_}
 use Rattle.wcet.specs.Table.{Routine, missing, cost, first}
 use Rattle.wcet.specs.Rules.{accepted, structureRules, tableReply}
@@ -16,7 +17,7 @@ use Rattle.wcet.specs.Run.{runCost}
 use Rattle.wcet.specs.Claim.{AllHold, FinishedRun}
 use Rattle.optimum.specs.Replies.{solveReply}
 use Rattle.mps.specs.Program.{Kind, free, equal, atMost, atLeast, Row, Entry, Column, RowName, objective, block, loop, programOf}
-use Rattle.mps.specs.Mps.{Bytes, Mps, same, readMps}
+use Rattle.mps.specs.Mps.{Bytes, Mps, readMps}
 use Rattle.mps.specs.Text.{edgeName, mpsText}
 use Rattle.mps.specs.Claim.{named}
 

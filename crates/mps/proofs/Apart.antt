@@ -5,11 +5,12 @@ use mathlib.Core.Bool.{Bool, true, false, cond, true≢false}
 use mathlib.Core.List.{List, [], _∷_, _++_, map}
 use Prim.Native.Nat.{ℕ, zero, suc, _+_, _<_}
 use native.Mathlib.Omega.{arith}
+use Rattle.lists.proofs.Bytes.{same-refl}
+use Rattle.lists.specs.Bytes.{same}
 use Rattle.lists.proofs.Tests.{both, or-left, or-right}
 use Rattle.mps.specs.Program.{numbersFrom, keep}
-use Rattle.mps.specs.Mps.{Bytes, isEmpty, same, all, among, distinct}
+use Rattle.mps.specs.Mps.{Bytes, isEmpty, all, among, distinct}
 use Rattle.mps.specs.Claim.{Among}
-use Rattle.mps.proofs.Names.{same-refl}
 use Rattle.mps.proofs.Sections.{All, all-append, all-weaken, map-all, keep-all, numbers-all}
 
 module _ {A : Type 0} (f : A → Bytes) where

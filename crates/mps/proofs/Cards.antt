@@ -9,9 +9,10 @@ use lib.Dec.{eqb}
 use lib.ListN.{length, take, drop, replicate, length-append, length-replicate, drop-of-length-le}
 use lib.Seq.{take-all, take-at, drop-at, drop-append-add}
 use borrow.Author.Tests.{ne-eqb}
+use Rattle.lists.specs.Bytes.{same}
 use Rattle.digits.specs.Decimal.{integerOf}
 use Rattle.mps.specs.Program.{Kind, free, equal, atMost, atLeast, Row, Entry, RowName}
-use Rattle.mps.specs.Mps.{Bytes, before, trimmed, field, same, inFields, kindIn, rowIn, cardIn}
+use Rattle.mps.specs.Mps.{Bytes, before, trimmed, field, inFields, kindIn, rowIn, cardIn}
 use Rattle.mps.specs.Text.{rowName, letter, filled, rowLine, entryLine}
 use Rattle.mps.specs.Claim.{namedRow, namedEntry}
 use Rattle.mps.proofs.Names.{Dark, Name, row-named, Small, whole-dark, whole-size, number-back}

@@ -8,8 +8,8 @@ use Rattle.wcet.specs.Cases.{A}
 use Rattle.digits.specs.Decimal.{numeralIn, numeralOf, integerOf}
 use Rattle.digits.specs.Decimal.{digits, decimal}
 use Rattle.mps.specs.Program.{numbersFrom, keep, rowsOf, edgesOf, number, rightSide, entriesOf, columnOf, programOf}
-use Rattle.lists.specs.Bytes.{bytes}
-use Rattle.mps.specs.Mps.{Bytes, each, linesOf, trimmed, field, same, inFields, kindIn, numberIn, rowIn, cardIn, columnsIn, cards, behind, opened, all, among, distinct, inRows, wellNamed, readMps}
+use Rattle.lists.specs.Bytes.{bytes, same}
+use Rattle.mps.specs.Mps.{Bytes, each, linesOf, trimmed, field, inFields, kindIn, numberIn, rowIn, cardIn, columnsIn, cards, behind, opened, all, among, distinct, inRows, wellNamed, readMps}
 use Rattle.mps.specs.Text.{digitsIn, rowName, edgeName, filled, rowLine, entryLine, columnLines, linesIn, textOf, mpsText}
 use Rattle.mps.specs.Claim.{namedRow, namedEntry, namedColumn, named, ReadsBack}
 

@@ -9,11 +9,13 @@ use lib.Dec.{eqb, leb}
 use lib.IntN.{ℤ, pos, negsuc}
 use lib.ListN.{length, drop}
 use borrow.Author.Tests.{eqb-true, leb-true, ne-eqb, eq-eqb}
+use Rattle.lists.proofs.Bytes.{same-true}
+use Rattle.lists.specs.Bytes.{same}
 use Rattle.lists.proofs.Tests.{and-true}
 use Rattle.digits.specs.Decimal.{digits, decimal, numeralOf, integerOf}
 use Rattle.digits.proofs.Numerals.{Numeral, is-numeral, numeral-short}
 use Rattle.mps.specs.Program.{RowName, objective, block, loop}
-use Rattle.mps.specs.Mps.{Bytes, same, naturalIn, numberIn}
+use Rattle.mps.specs.Mps.{Bytes, naturalIn, numberIn}
 use Rattle.mps.specs.Text.{digitsIn, rowName, edgeName}
 
 -- bytes that are neither blanks nor line ends
@@ -85,22 +87,6 @@ row-named (loop l) = record { dark = (omega arith, dark-digits 2 l [] tt); size 
 pub edge-named : (e : ℕ) → Name (edgeName e)
 unfolding edgeName
 edge-named e = record { dark = (omega arith, dark-digits 4 e [] tt); size = omega (arith, length-digits 4 e []) }
-
--- ---- comparing bytes
-
-pub same-refl : (s : Bytes) → same s s ≡ true
-unfolding same
-same-refl [] = refl
-same-refl (b ∷ s) = rw (eq-eqb b b refl, same-refl s)
-
-pub same-true : (s t : Bytes) → same s t ≡ true → s ≡ t
-unfolding same
-same-true [] [] e = refl
-same-true [] (b ∷ t) e = absurd (false≢true e)
-same-true (a ∷ s) [] e = absurd (false≢true e)
-same-true (a ∷ s) (b ∷ t) e =
-    let q : (eqb a b ≡ true) × (same s t ≡ true) = and-true (eqb a b) (same s t) e in
-    rw (eqb-true a b (q .0), same-true s t (q .1))
 
 -- a letter and digits: names of different numbers differ
 pub numbered-apart : (letter k bound : ℕ) → Written k bound → (d e : ℕ) → d < e → e < bound → same (letter ∷ digitsIn k d []) (letter ∷ digitsIn k e []) ≡ false

@@ -8,8 +8,8 @@ use native.Mathlib.Omega.{arith}
 use lib.ListN.{length, replicate}
 use Rattle.digits.specs.Decimal.{integerOf}
 use Rattle.mps.specs.Program.{Kind, free, equal, atMost, atLeast, Row, Entry, Column, RowName, Program}
-use Rattle.lists.specs.Bytes.{bytes}
-use Rattle.mps.specs.Mps.{Bytes, each, trimmed, field, same, rowIn, cardIn, columnsIn, opened, wellNamed, readMps}
+use Rattle.lists.specs.Bytes.{bytes, same}
+use Rattle.mps.specs.Mps.{Bytes, each, trimmed, field, rowIn, cardIn, columnsIn, opened, wellNamed, readMps}
 use Rattle.mps.specs.Text.{rowName, edgeName, letter, filled, rowLine, entryLine, columnLines, linesIn, textOf}
 use Rattle.mps.specs.Claim.{namedRow, namedEntry, named}
 use Rattle.mps.proofs.Names.{Dark, Name, row-named, edge-named, whole-dark}

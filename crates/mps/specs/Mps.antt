@@ -16,7 +16,7 @@ use mathlib.Core.Option.{Option, none, some}
 use lib.Dec.{eqb}
 use lib.IntN.{ℤ, pos, negℤ}
 use lib.ListN.{take, drop}
-use Rattle.lists.specs.Bytes.{bytes}
+use Rattle.lists.specs.Bytes.{bytes, same}
 use Rattle.digits.specs.Decimal.{digits, decimal}
 use Rattle.mps.specs.Program.{Kind, free, equal, atMost, atLeast, Row, Entry, Column}
 
@@ -75,13 +75,6 @@ field a b line = trimmed (take (b + 1 - a) (drop (a - 1) line))
 abbrev pub isEmpty : Bytes → Bool
 isEmpty [] = true
 isEmpty (b ∷ s) = false
-
--- two names are the same bytes
-unfoldable pub same : Bytes → Bytes → Bool
-same [] [] = true
-same [] (b ∷ t) = false
-same (a ∷ s) [] = false
-same (a ∷ s) (b ∷ t) = eqb a b && same s t
 
 -- ---- cards
 

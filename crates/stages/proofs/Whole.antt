@@ -20,8 +20,8 @@ use Rattle.rows.specs.Row.{Verdict, blockFields, loopFields}
 use Rattle.rows.specs.Judge.{judgeBlock, judgeLoop}
 use Rattle.rows.specs.declared.BlockRow.{BlockRow}
 use Rattle.rows.specs.declared.LoopRow.{LoopRow}
-use Rattle.lists.specs.Bytes.{bytes}
-use Rattle.stages.specs.Stages.{same, headerOf, ofAnswer, ofEnd, afterReading, blockReading, loopReading, settingRoom, textRoom, routineOf, tableStage, hasBlocks, hasLoops, loopsStage, blocksStage, settingStage, outcomeOf, wantedBy, Certified, FirstBytes, InTurn}
+use Rattle.lists.specs.Bytes.{bytes, same}
+use Rattle.stages.specs.Stages.{headerOf, ofAnswer, ofEnd, afterReading, blockReading, loopReading, settingRoom, textRoom, routineOf, tableStage, hasBlocks, hasLoops, loopsStage, blocksStage, settingStage, outcomeOf, wantedBy, Certified, FirstBytes, InTurn}
 use Rattle.stages.specs.declared.Header.{Header}
 use Rattle.stages.specs.declared.Header.the-variants.{Absent, Present, Wrong}
 use Rattle.stages.specs.declared.Files.{Files}

@@ -19,7 +19,7 @@ use Rattle.rows.specs.declared.LoopRow.{LoopRow}
 use Rattle.csv.specs.declared.Ending.{Ending}
 use Rattle.tables.specs.Table as table
 use Rattle.tables.specs.Table.{End, Reading, blockTable, loopTable}
-use Rattle.lists.specs.Bytes.{bytes}
+use Rattle.lists.specs.Bytes.{bytes, same}
 use Rattle.stages.specs.declared.Header.{Header}
 use Rattle.stages.specs.declared.Header.the-variants.{Absent, Present, Wrong}
 use Rattle.stages.specs.declared.Files.{Files}
@@ -32,13 +32,6 @@ use Rattle.stages.specs.declared.Wanted.{Wanted}
 use Rattle.stages.specs.declared.Wanted.the-variants.{Nothing, Blocks as BlockFile, Loops as LoopFile}
 
 -- ---- the setting
-
--- the same bytes
-unfoldable pub same : List ℕ → List ℕ → Bool
-same [] [] = true
-same [] (c ∷ t) = false
-same (b ∷ s) [] = false
-same (b ∷ s) (c ∷ t) = eqb b c && same s t
 
 -- "The line ends with LF or with the input"
 abbrev pub settingIs : List ℕ → String → Bool

@@ -1,5 +1,6 @@
+use Rattle.lists.specs.Bytes.{same}
 use Rattle.stages.proofs.Words.{is-other}
-use Rattle.stages.specs.Stages.{same, headerOf}
+use Rattle.stages.specs.Stages.{headerOf}
 use mathlib.Core.Path.{refl}
 use borrow.Author.Needs.{needs}
 use Rattle.stages.proofs.header_of.Statement.{statement}

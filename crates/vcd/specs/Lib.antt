@@ -1,0 +1,5 @@
+-- The definitions, in reading order.
+pub mod Words
+pub mod Syntax
+pub mod Recording
+pub mod Cases
