@@ -1,4 +1,5 @@
--- Document 02, §8, and its settled readings on small texts, as one list under one claim. `proofs/Cases.antt` computes them.
+-- Document 02, §8, and its settled readings on small texts, as one list under one claim. `proofs/Cases.antt` computes them. They are about the text alone,
+-- after 201 to 207, 431 and 101.
 use Prim.Native.Nat.{ℕ}
 use Prim.Native.String.{String}
 use mathlib.Core.Path.{_≡_}
@@ -120,10 +121,24 @@ cases =
     ∷ declared 0 "bx !" (refused 432 44)
     -- nor has a repeated value
     ∷ declared 1 "b1 ! b1 !" (accepted (1 ∷ []))
-    -- changes in a dump of the named vector and of others, between times, a code of the same first byte
+    -- codes that begin alike
     ∷ whole "!a" "$var reg 4 !a pc $end $enddefinitions $end #1 $dumpvars b0 !a b1 ! 1!ab $end b10 !a" (accepted (0 ∷ 2 ∷ []))
-    -- 433 before a later 432, and a 432 at an earlier byte before a 433
+    -- 433 before a later 432
     ∷ declared 1 "b1 ! b0 ! bx !" (refused 433 49)
+    -- CR parts words
+    ∷ declared 9 "b1\r!" (accepted (1 ∷ []))
+    -- the ends of the ranges of codes and times
+    ∷ declared 9 "#9 0~ b1 ~" (accepted [])
+    ∷ declared 9 "#1:" (refused 432 44)
+    ∷ declared 9 "b1 \u{1f}" (refused 432 47)
+    -- a real change in a dump leaves the dump open
+    ∷ declared 9 "$dumpvars r1 A" (refused 432 58)
+    -- a change in a dump without its code
+    ∷ declared 9 "$dumpvars b1 $end" (refused 432 57)
+    -- an x digit before the code is known
+    ∷ declared 9 "bx $end" (refused 432 47)
+    -- the text ends in a declaration
+    ∷ whole "!" "$var wire 16 ! pc" (refused 432 17)
     -- an empty code
     ∷ whole "" "$var wire 16 ! pc $end $enddefinitions $end" (refused 432 23)
     ∷ []

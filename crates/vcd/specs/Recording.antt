@@ -27,8 +27,9 @@ changes (v ∷ vs) = v ∷ changed (v .value) vs
 abbrev pub valuesIn : List Value → List ℕ
 valuesIn vs = map (λ v. v .value) vs
 
--- "the lowest byte decides between 432 and 433, and 432 wins at one byte": of the changed values vs, `left` are those "with no place left in the walk
--- buffer", and `refusal` is the place of the 432. 433 has the "place as for a refused change".
+-- "the lowest byte decides between 432 and 433, and 432 wins at one byte". "433 is a changed value with no place left in the walk buffer, place as for a
+-- refused change": of the changed values vs, `left` are those with no place left. `refusal` is the place of the 432. (The two are never at one byte: a
+-- change that is refused has no value here, so there 432 has won already.)
 abbrev pub decided : (vs left : List Value) (refusal : Option ℕ) → Reply (List ℕ)
 decided vs [] none = accepted (valuesIn vs)
 decided vs [] (some place) = refused 432 place
@@ -41,7 +42,7 @@ recorded named room s = decided (changes (readingOf named s .values)) (drop room
 
 -- ---- the reply
 
--- 431: "a block with an edge to itself, place the lowest such block"
+-- "A repeated value adds no block, so a table in which a block names itself is refused." 431: "a block with an edge to itself, place the lowest such block"
 abbrev pub selfEdgeRule : Routine → Rule
 selfEdgeRule t = record { number = 431; places = blockCount t; broken = λ u. edge t u u }
 
@@ -63,12 +64,13 @@ abbrev pub bufferAfter : (before : List ℕ) → Reply (List ℕ) → List ℕ
 bufferAfter before (accepted vs) = vs ++ drop (length vs) before
 bufferAfter before (refused number place) = before
 
--- No text that is short enough has more changed values: a change takes five bytes. A buffer of so many places gets no 433.
+-- No text within its limit has more changed values: a change takes at least four bytes, as in `b0 !`, and one that parts it from the next. A buffer of so
+-- many places gets no 433.
 abbrev pub mostChanges : ℕ
 mostChanges = 13107
 
--- What the reader ensures of its reply r to the text s, and of the buffer. Where it accepts, the first places of the buffer are what the text says;
--- and a buffer of `mostChanges` places has room for any text.
+-- What the reader ensures of its reply r to the tables t, the text s and the code `named`, and of the buffer, by what it was before: the reply, the buffer, and
+-- that a buffer of `mostChanges` places has room for any text.
 pub record Recorded (t : Routine) (s named before : List ℕ) (r : Reply ℕ) (after : List ℕ) : Type 0 where
   pub replied : r ≡ counted (recordingReply t s named (length before))
   pub buffer : after ≡ bufferAfter before (recordingReply t s named (length before))

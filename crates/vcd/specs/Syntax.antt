@@ -1,5 +1,5 @@
 -- Document 02, §8: "that standard's four-state syntax" (the value change dump of IEEE 1364). What each word of a text may be, by what came before it,
--- and the values that the text gives the named vector.
+-- and the values that the text gives the named vector: "The block number is on one vector that the caller names by its identifier code", `named`.
 use Prim.Native.Nat.{ℕ, suc, _-_, _+_, _*_}
 use mathlib.Core.Bool.{Bool, true, false, not, _&&_, _||_}
 use mathlib.Core.List.{List, [], _∷_}
@@ -17,10 +17,10 @@ unfoldable pub all : (ℕ → Bool) → List ℕ → Bool
 all p [] = true
 all p (b ∷ s) = p b && all p s
 
--- "one or more"
-unfoldable pub some-of : (ℕ → Bool) → List ℕ → Bool
-some-of p [] = false
-some-of p (b ∷ s) = all p (b ∷ s)
+-- "one or more": s is not empty, and each byte passes the test
+unfoldable pub oneOrMore : (ℕ → Bool) → List ℕ → Bool
+oneOrMore p [] = false
+oneOrMore p (b ∷ s) = all p (b ∷ s)
 
 -- "bytes 33 to 126"
 abbrev pub isGraphic : ℕ → Bool
@@ -28,14 +28,15 @@ isGraphic b = leb 33 b && leb b 126
 
 -- "A code is one or more of bytes 33 to 126 and never $end."
 unfoldable pub isCode : List ℕ → Bool
-isCode w = if is w "$end" then false else some-of isGraphic w
+isCode w = if is w "$end" then false else oneOrMore isGraphic w
 
 -- "each 0, 1, x or z in either case"
+abbrev pub isState : ℕ → Bool
+isState b = eqb b 48 || (eqb b 49 || (eqb b 120 || (eqb b 88 || (eqb b 122 || eqb b 90))))
+
+-- a digit that is no x or z
 abbrev pub isBit : ℕ → Bool
 isBit b = eqb b 48 || eqb b 49
-
-abbrev pub isState : ℕ → Bool
-isState b = isBit b || (eqb b 120 || (eqb b 88 || (eqb b 122 || eqb b 90)))
 
 -- "0 to 9"
 abbrev pub isDecimal : ℕ → Bool
@@ -46,15 +47,15 @@ unfoldable pub binary : ℕ → List ℕ → ℕ
 binary n [] = n
 binary n (b ∷ s) = binary (n * 2 + (b - 48)) s
 
--- The value that the digits s give the named vector. None, so that the change is refused: "with an x or z digit or over 65,534".
+-- The value that the digits s give the named vector. None where its change is refused: "with an x or z digit or over 65,534".
 unfoldable pub valueOf : List ℕ → Option ℕ
 valueOf s = if all isBit s && leb (binary 0 s) 65534 then some (binary 0 s) else none
 
 -- ---- what a word does
 
--- What the next word is to be: a declaration (is the named vector declared?), a word of $var (how many come before its code?), a word of
--- a declaration's text, a word of the text of $enddefinitions or of a later comment, a command (within a dump?), or the code of a change (its value,
--- the place of the word that holds it).
+-- What the next word is to be: a declaration (is the named vector declared already?), a word of $var (how many words, this one included, are still to
+-- come before its code), a word of a declaration's text, a word of the text of $enddefinitions or of a later comment, a command (within a dump?), or
+-- the code of a change (its value, none where the named vector may not take it, and the place of the word that holds it).
 pub data Due : Type 0 where
   declaration : (declared : Bool) → Due
   variable : (before : ℕ) (declared : Bool) → Due
@@ -64,17 +65,18 @@ pub data Due : Type 0 where
   code : (value : Option ℕ) (place : ℕ) (dump : Bool) → Due
 
 -- What a word does: `on` with what is due next; `says` that the named vector has a value, at the place of the word that holds it, as well; or it is
--- `bad`, 432 at this place.
+-- `bad`: 432 at this place, for "a word the syntax does not allow" its first byte.
 pub data Step : Type 0 where
   on : Due → Step
   says : (value place : ℕ) → Due → Step
   bad : (place : ℕ) → Step
 
--- The declarations of which "only its keyword, its $end" count. The two others are $var and $enddefinitions.
+-- The declaration keywords of IEEE 1364 that open a text up to $end and do no more. $var and $enddefinitions are in `declarationStep`.
 unfoldable pub isDeclaration : List ℕ → Bool
 isDeclaration w = is w "$comment" || (is w "$date" || (is w "$scope" || (is w "$timescale" || (is w "$upscope" || is w "$version"))))
 
--- "Declarations come first, $enddefinitions once and last". 432: "$enddefinitions with that vector undeclared".
+-- "Declarations come first, $enddefinitions once and last": a word that is no declaration is 432 here, and a second $enddefinitions in `keywordStep`.
+-- 432: "$enddefinitions with that vector undeclared".
 unfoldable pub declarationStep : (declared : Bool) (at : ℕ) → List ℕ → Step
 declarationStep declared at w =
     if is w "$var" then on (variable 2 declared) else
@@ -89,9 +91,10 @@ variableStep named before declared at w =
     if is w "$end" then bad at else
     on (variable (before - 1) declared)
 
--- "Of a declaration only its keyword, its $end and the code in $var count"; "Comments .. are passed over". `here` until $end, and then `after`.
-unfoldable pub passing : (here after : Due) → List ℕ → Step
-passing here after w = if is w "$end" then on after else on here
+-- "Of a declaration only its keyword, its $end and the code in $var count"; "Comments .. are passed over". `here` until $end, and then `next`. Words
+-- between $enddefinitions and its $end are passed over too (docs/DECISIONS.md).
+unfoldable pub passing : (here next : Due) → List ℕ → Step
+passing here next w = if is w "$end" then on next else on here
 
 -- a change of the named vector to a value that it may take, or to none: "place the first byte .. for a refused change, of the word that holds its value"
 abbrev pub taken : Option ℕ → (place : ℕ) (dump : Bool) → Step
@@ -104,23 +107,23 @@ codeStep named value place dump at w =
     if isCode w then (if same w named then taken value place dump else on (command dump)) else
     bad at
 
--- A scalar change: its code s comes right after its digit, in one word. 432: "a change of the named vector not in b or B form".
+-- A scalar change, as in IEEE 1364: its code s comes right after its digit, in one word. 432: "a change of the named vector not in b or B form".
 unfoldable pub scalarStep : (named : List ℕ) (dump : Bool) (at : ℕ) → List ℕ → Step
 scalarStep named dump at s = if isCode s && not (same s named) then on (command dump) else bad at
 
 -- "One or more digits follow b or B, each 0, 1, x or z in either case": the digits s
 unfoldable pub vectorStep : (dump : Bool) (at : ℕ) → List ℕ → Step
-vectorStep dump at s = if some-of isState s then on (code (valueOf s) at dump) else bad at
+vectorStep dump at s = if oneOrMore isState s then on (code (valueOf s) at dump) else bad at
 
 -- "# takes one or more of 0 to 9", "times are not compared": the digits s. Within a dump "only changes may stand between".
 unfoldable pub timeStep : (dump : Bool) (at : ℕ) → List ℕ → Step
-timeStep dump at s = if not dump && some-of isDecimal s then on (command false) else bad at
+timeStep dump at s = if not dump && oneOrMore isDecimal s then on (command false) else bad at
 
--- the dump keywords
+-- the four dump keywords of IEEE 1364
 unfoldable pub isDump : List ℕ → Bool
 isDump w = is w "$dumpvars" || (is w "$dumpall" || (is w "$dumpoff" || is w "$dumpon"))
 
--- "A dump keyword and its $end are passed over; only changes may stand between". Of the declarations "only $comment may come later too".
+-- "A dump keyword and its $end are passed over; only changes may stand between, and they count." Of the declarations "only $comment may come later too".
 unfoldable pub keywordStep : (dump : Bool) (at : ℕ) → List ℕ → Step
 keywordStep dump at w =
     if dump then (if is w "$end" then on (command false) else bad at) else
@@ -178,7 +181,8 @@ after (on due) rest = rest due
 after (says value place due) rest = more value place (rest due)
 after (bad place) rest = stopped place
 
--- The text may end here. "a text without it [$enddefinitions] ends too soon", and so does one that ends in a comment, a dump or a change.
+-- The text may end here. "a text without it [$enddefinitions] ends too soon", and so does one that ends in a declaration, $enddefinitions too, in a
+-- comment, in a dump or before the code of a change.
 abbrev pub mayEnd : Due → Bool
 mayEnd (declaration declared) = false
 mayEnd (variable before declared) = false

@@ -12,7 +12,7 @@ use Rattle.lists.specs.Bytes.{bytes, same}
 abbrev pub parting : ℕ → Bool
 parting b = eqb b 32 || (eqb b 9 || (eqb b 13 || eqb b 10))
 
--- how many bytes at the front of s part no words: a word ends at the first byte that does, or with the text
+-- how many bytes stand in s before the first that parts words; all, if none does
 unfoldable pub size : List ℕ → ℕ
 size [] = 0
 size (b ∷ s) = if parting b then 0 else suc (size s)
