@@ -1,18 +1,19 @@
 -- The bytes between words, the bytes of a word and those of one class, passed one by one. Assumes nothing.
 use mathlib.Core.Path.{_≡_, refl, sym, ap, _∙_}
-use mathlib.Core.Bool.{Bool, true, false, cond, and-false, true≢false}
+use mathlib.Core.Bool.{Bool, true, false, and-false, true≢false}
 use mathlib.Core.List.{List, [], _∷_}
-use Prim.Native.Nat.{ℕ, zero, suc, _+_, _<_, _≤_}
+use Prim.Native.Nat.{ℕ, zero, suc, _+_, _-_, _<_, _≤_}
 use native.Mathlib.Nat.{add-zero}
 use native.Mathlib.Numerals.{add-one}
 use native.Mathlib.Omega.{arith}
 use borrow.Author.Tests.{eq-eqb, ne-eqb, le-leb, lt-leb, leb-true, leb-false}
-use lib.ListN.{length, take, drop, getD, drop-of-length-le}
-use lib.Seq.{drop-cons, length-take-le}
+use lib.ListN.{length, drop, getD, length-drop, drop-of-length-le}
+use lib.Seq.{drop-cons}
 use lib.Dec.{leb}
 use Rattle.lists.specs.Bytes.{same}
 use Rattle.vcd.specs.Words.{parting, size, wordOf}
 use Rattle.vcd.specs.Syntax.{all, oneOrMore, isState}
+use Rattle.vcd.proofs.Words.{word-byte, size-byte, size-within, word-length}
 use Rattle.words.specs.Places.{gap, inClass, Along, RunEnds, wordIn}
 use Rattle.words.specs.declared.Class.{Class}
 use Rattle.words.specs.declared.Class.the-variants.{Graphic, State, Decimal}
@@ -54,27 +55,6 @@ none-over s i h = rw (drop-of-length-le s h)
 pub none-parting : (s : List ℕ) (i : ℕ) → i < length s → parting (getD s i 0) ≡ true → size (drop i s) ≡ 0
 unfolding size
 none-parting s i h e = rw (next-byte s i h, e)
-
--- a word with another first byte
-pub word-byte : (b : ℕ) (s : List ℕ) → parting b ≡ false → wordOf (b ∷ s) ≡ b ∷ wordOf s
-unfolding size
-word-byte b s e = rw e
-
-pub size-byte : (b : ℕ) (s : List ℕ) → parting b ≡ false → size (b ∷ s) ≡ suc (size s)
-unfolding size
-size-byte b s e = rw e
-
-pub size-within : (s : List ℕ) → size s ≤ length s
-unfolding size
-size-within [] = omega arith
-size-within (b ∷ s) = go (parting b) (size-within s)
-  where
-    go : (t : Bool) → size s ≤ length s → cond t 0 (suc (size s)) ≤ suc (length s)
-    go true h = omega arith
-    go false h = omega arith
-
-pub word-length : (s : List ℕ) → length (wordOf s) ≡ size s
-word-length s = length-take-le (size s) s (size-within s)
 
 -- ---- the bytes of a class
 
@@ -141,6 +121,38 @@ module _ (p : ℕ → Bool) (plain : (b : ℕ) → p b ≡ true → parting b �
   pub word-broken : {to : ℕ} → Along p s at to → to < length s → p (getD s to 0) ≡ false → parting (getD s to 0) ≡ false → at ≡ wordIn p s at
   unfolding wordIn all
   word-broken {to} a h e n = rw (some-not (wordOf (drop at s)) (a .alike ∙ rw (next-byte s to h, word-byte (getD s to 0) (drop (to + 1) s) n, e)))
+
+  -- what the answer tells
+  pub in-none : {to : ℕ} → to ≡ wordIn p s at → to ≡ at → oneOrMore p (wordOf (drop at s)) ≡ false
+  unfolding wordIn
+  in-none {to} q e = go (oneOrMore p (wordOf (drop at s))) refl
+    where
+      go : (t : Bool) → oneOrMore p (wordOf (drop at s)) ≡ t → t ≡ false
+      go true f =
+          let z : to ≡ at + size (drop at s) = q ∙ rw f in
+          sym f ∙ none-is (wordOf (drop at s)) (word-length (drop at s) ∙ omega arith)
+      go false f = refl
+
+  pub in-some : {to : ℕ} → to ≡ wordIn p s at → (to ≡ at → ⊥) → (oneOrMore p (wordOf (drop at s)) ≡ true) × (to ≡ at + size (drop at s)) × (to ≤ length s)
+  unfolding wordIn
+  in-some {to} q n = go (oneOrMore p (wordOf (drop at s))) refl
+    where
+      within : size (drop at s) ≤ length s - at
+      within = rw length-drop at (size-within (drop at s))
+
+      go : (t : Bool) → oneOrMore p (wordOf (drop at s)) ≡ t → (t ≡ true) × (to ≡ at + size (drop at s)) × (to ≤ length s)
+      go true f = let z : to ≡ at + size (drop at s) = q ∙ rw f in (refl, z, below z)
+        where
+          below : to ≡ at + size (drop at s) → to ≤ length s
+          below z = omega (arith, within, size-least z)
+            where
+              size-least : to ≡ at + size (drop at s) → 0 < size (drop at s)
+              size-least z = go′ (size (drop at s)) refl
+                where
+                  go′ : (k : ℕ) → size (drop at s) ≡ k → 0 < size (drop at s)
+                  go′ zero e = absurd (n (omega arith))
+                  go′ (suc k) e = omega arith
+      go false f = absurd (n (q ∙ rw f))
 
 -- two lists of bytes
 pub same-lengths : (s t : List ℕ) → (length s ≡ length t → ⊥) → false ≡ same s t

@@ -16,7 +16,8 @@ use Rattle.words.specs.Places.{gap, nextStart, wordsFrom, afterEnd, Text
 use Rattle.words.specs.declared.Start.{Start}
 use Rattle.words.specs.declared.Start.the-variants.{Word as WordAt, Nothing}
 use Rattle.words.specs.declared.AfterEnd.the-variants.{To, Missing}
-use Rattle.words.proofs.Runs.{next-byte, size-within}
+use Rattle.vcd.proofs.Words.{size-within}
+use Rattle.words.proofs.Runs.{next-byte}
 
 -- ---- what `start_at` answers
 
