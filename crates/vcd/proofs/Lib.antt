@@ -1,3 +1,6 @@
 pub mod Words
 pub mod Lowest
 pub mod Cases
+pub mod Writing
+pub mod Writable
+pub mod Walks

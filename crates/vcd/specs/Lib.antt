@@ -3,3 +3,5 @@ pub mod Words
 pub mod Syntax
 pub mod Recording
 pub mod Cases
+pub mod Writing
+pub mod Claim
