@@ -18,6 +18,8 @@ use Rattle.writer.specs.Answers.{mpsMeaning}
 use Rattle.writer.specs.declared.MpsReply.{MpsReply}
 use Rattle.tally.specs.Tally.{meaning as tallyMeaning}
 use Rattle.tally.specs.declared.TallyReply.{TallyReply}
+use Rattle.recordings.specs.Answers.{vcdMeaning}
+use Rattle.recordings.specs.declared.VcdReply.{VcdReply}
 use Rattle.walk.specs.Reply.{meaning}
 use Rattle.walk.specs.declared.WalkReply.{WalkReply}
 use Rattle.walk.specs.declared.WalkReply.the-variants as walk
@@ -46,6 +48,9 @@ walkFields a = ofWalk (meaning a)
 
 abbrev pub tallyFields : TallyReply → Reply
 tallyFields a = ofCount (tallyMeaning a)
+
+abbrev pub vcdFields : VcdReply → Reply
+vcdFields a = ofCount (vcdMeaning a)
 
 -- a number below 2^63, as the value of a reply
 pub value-fits : (n : ℕ) {m : ℕ} → ValueFits (acceptance (pos n) m) → SFits w64 (pos n)

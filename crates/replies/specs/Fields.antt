@@ -23,7 +23,7 @@ abbrev pub ofTables : Answer ℤ → Reply
 ofTables (accepted b) = acceptance b 0
 ofTables (refused n p) = refusing n p
 
--- of the writer, the length of the text; of a recording, the walk's step count
+-- of the writer, the length of the text; of a recorded walk, its step count; of a recording's text, the count of places filled
 abbrev pub ofCount : Answer ℕ → Reply
 ofCount (accepted n) = acceptance (pos n) 0
 ofCount (refused n p) = refusing n p

@@ -6,18 +6,20 @@ ghost use Rattle.walk.specs.Reply.{meaning};
 ghost use Rattle.solver.specs.Answers.{solveMeaning};
 ghost use Rattle.writer.specs.Answers.{mpsMeaning};
 ghost use Rattle.tally.specs.Tally.{meaning as tallyMeaning};
+ghost use Rattle.recordings.specs.Answers.{vcdMeaning};
 ghost use Rattle.replies.specs.Fields.{acceptance, refusing, ofTables, ofCount, ofWalk, endingNumber, ofReading, PlaceFits, ValueFits};
 ghost use Prim.Native.Nat.{_<_, _^_};
 use certificate::TableReply;
 use csv::Ending;
 use nesting::StructureFault;
+use recordings::VcdReply;
 use solver::SolveReply;
 use tables::ReadReply;
 use tally::TallyReply;
 use walk::WalkReply;
 use writer::MpsReply;
 
-// number 0: accepted, with value the row count, the bound, the cost, the step count or the length, and more the line end of a text's first record (0 CR LF, 1 LF, 2 the
+// number 0: accepted, with value the row count, the bound, the cost, the step count, the count of places filled or the length, and more the line end of a text's first record (0 CR LF, 1 LF, 2 the
 // end of the text) or the steps of a walk. Else the number and place of a refusal.
 #[repr(C)]
 pub struct Reply {
@@ -135,6 +137,20 @@ pub fn tally_reply(answer: TallyReply) -> Reply
         TallyReply::AfterExit(i) => refused(311, i),
         TallyReply::NoEdge(i) => refused(312, i),
         TallyReply::Unfinished(length) => refused(314, length),
+    }
+}
+
+pub fn vcd_reply(answer: VcdReply) -> Reply
+    requires { ⌜ PlaceFits (ofCount (vcdMeaning answer)) × ValueFits (ofCount (vcdMeaning answer)) ⌝ }
+    ensures { λ r. ⌜ r ≡ ofCount (vcdMeaning answer) ⌝ }
+{
+    match answer {
+        VcdReply::Filled(count) => accepted(count as i64, 0),
+        VcdReply::Structure(fault) => structure(fault),
+        VcdReply::SelfEdge(u) => refused(431, u),
+        VcdReply::TextLength => refused(101, 0),
+        VcdReply::Word(place) => refused(432, place),
+        VcdReply::NoPlace(place) => refused(433, place),
     }
 }
 

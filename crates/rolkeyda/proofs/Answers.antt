@@ -30,6 +30,9 @@ use Rattle.wcet.specs.Tally.{tallyReply, staysAfter, greatestAfter, Tallied}
 use Rattle.tally.specs.Tally.{meaning as tallyMeaning}
 use Rattle.tally.specs.declared.TallyReply.{TallyReply}
 use Rattle.tally.specs.declared.TallyReply.the-variants as tally
+use Rattle.vcd.specs.Recording.{recordingReply, counted, Recorded}
+use Rattle.recordings.specs.Answers.{vcdMeaning}
+use Rattle.recordings.specs.declared.VcdReply.{VcdReply}
 use Rattle.walk.specs.Reply.{meaning}
 use Rattle.walk.specs.declared.WalkReply.{WalkReply}
 use Rattle.walk.specs.declared.WalkReply.the-variants as walk
@@ -41,8 +44,8 @@ use Rattle.tables.specs.declared.ReadReply.{ReadReply}
 use Rattle.replies.specs.declared.Reply.{Reply}
 use Rattle.replies.specs.Fields.{ofTables, ofCount, ofWalk, ofReading, PlaceFits, ValueFits}
 use Rattle.replies.proofs.Answers.{same-fault, same-count-fault}
-use Rattle.rolkeyda.specs.Replies.{TablesReplied, TablesSolved, TextReplied, WalkReplied, RecordingReplied, BlocksReplied, LoopsReplied}
-use Rattle.rolkeyda.proofs.Ranges.{Small, table-place, solve-place, text-place, text-length, walk-place, Finished, walk-finished, tally-place, tally-steps, reading-small}
+use Rattle.rolkeyda.specs.Replies.{TablesReplied, TablesSolved, TextReplied, WalkReplied, RecordingReplied, DumpReplied, BlocksReplied, LoopsReplied}
+use Rattle.rolkeyda.proofs.Ranges.{Small, table-place, solve-place, text-place, text-length, walk-place, Finished, walk-finished, tally-place, tally-steps, vcd-place, vcd-count, reading-small}
 
 -- ---- 201 to 207
 
@@ -216,6 +219,23 @@ module _ (t : Routine) (w stayed visited : List ℕ) (a : TallyReply) (ss gs : L
       accepting (tally.AfterExit i) z = absurd (omega arith)
       accepting (tally.NoEdge i) z = absurd (omega arith)
       accepting (tally.Unfinished n) z = absurd (omega arith)
+
+-- ---- recordings as texts
+
+module _ (t : Routine) (s named before : List ℕ) (a : VcdReply) (buffer : List ℕ) (C : Recorded t s named before (vcdMeaning a) buffer) where
+  pub vcd-small : PlaceFits (ofCount (vcdMeaning a)) × ValueFits (ofCount (vcdMeaning a))
+  vcd-small = rw (C .replied) (go (recordingReply t s named (length before)) refl)
+    where
+      go : (x : Answer (List ℕ)) → recordingReply t s named (length before) ≡ x → PlaceFits (ofCount (counted x)) × ValueFits (ofCount (counted x))
+      go (accepted vs) e = (record { place = omega arith }, record { value = omega (ints, vcd-count t s named (length before) vs e) })
+      go (refused n p) e = (record { place = omega (arith, vcd-place t s named (length before) n p e) }, record { value = omega ints })
+
+  pub vcd-replied : (r : Reply) → r ≡ ofCount (vcdMeaning a) → DumpReplied t s named before r buffer
+  vcd-replied r e = rw e record { replied = ap ofCount (C .replied); buffer = C .buffer; roomy = λ l z. go (vcdMeaning a) (C .roomy l) z }
+    where
+      go : (x : Answer ℕ) → ((place : ℕ) → x ≡ refused 433 place → ⊥) → ofCount x .number ≡ 433 → ⊥
+      go (accepted n) h z = omega arith
+      go (refused n p) h z = h p (rw z)
 
 -- ---- readings
 

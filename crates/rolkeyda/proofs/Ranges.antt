@@ -16,7 +16,7 @@ use Rattle.integers.proofs.Laws.{ints}
 use Rattle.wcet.specs.Table.{Routine, blockCount, exit, cost, edge}
 use Rattle.wcet.specs.Rules.{Reply as Answer, accepted, refused, Rule, refusedAt, check, sizesWrong, structureRules, undeclaredRule, tableRules, bound, tableReply}
 use Rattle.wcet.specs.Run.{State, start, next, passesLimit, runCost}
-use Rattle.limits.specs.Limits.{mostBlocks, longestWalk}
+use Rattle.limits.specs.Limits.{mostBlocks, mostTextBytes, longestWalk}
 use Rattle.wcet.specs.Walk.{Walked, walked, lengthRule, walkFrom, walkBlocks, walkReply}
 use Rattle.wcet.specs.Claim.{AllHold, FinishedRun}
 use Rattle.wcet.proofs.Replies.{decides, hands-on, all-append, passes}
@@ -29,6 +29,8 @@ use Rattle.mps.specs.Reply.{mpsRules, mpsReply, longestText}
 use Rattle.writer.proofs.Longest.{text-fits}
 use Rattle.nesting.specs.Columns.{Sized, Ranged}
 use Rattle.nesting.proofs.Stages.{fits, headed, cost-anywhere}
+use Rattle.vcd.specs.Recording.{recorded, selfEdgeRule, textRule, recordingReply, mostChanges}
+use Rattle.vcd.proofs.Lowest.{recorded-place, recorded-few}
 use Rattle.tables.specs.Table as table
 use Rattle.tables.specs.Table.{End, all, Reading}
 use Rattle.tables.specs.Columns.{replyBy, replyOf}
@@ -71,6 +73,10 @@ sized-within {A} t m rs passed n p W rest e = go (sizesWrong t) refl
         let there : 0 ≡ p = cc in
         omega arith
     go false s = within m rs passed n p (W (fits t s)) rest (sym (hands-on sizes rs passed (λ q h. s)) ∙ e)
+
+-- 101
+text-kept : (s : List ℕ) → AllHold (textRule s ∷ []) → length s ≤ mostTextBytes
+text-kept s h = ltb-false mostTextBytes (length s) (h .0 0 (omega arith))
 
 -- ---- tables
 
@@ -257,6 +263,25 @@ tally-steps t w stayed visited k e =
     let h = all-append (structureRules t) (columnsRule t stayed visited ∷ lengthRule w ∷ []) (p .0) in
     let few : length w ≤ longestWalk = length-kept w (h .1 .1) in
     omega (arith, recorded-steps t w (length w - 1) k (p .1))
+
+-- ---- recordings as texts
+
+pub vcd-place : (t : Routine) (s named : List ℕ) (room n p : ℕ) → recordingReply t s named room ≡ refused n p → p ≤ longestWalk
+unfolding recordingReply structureRules
+vcd-place t s named room n p e =
+    sized-within t longestWalk _ (recorded named room s) n p
+    (λ S.
+    let b : blockCount t ≤ longestWalk = omega (arith, S .few-blocks) in
+    let l : length (t .parents) ≤ longestWalk = omega (arith, S .few-loops) in
+    (l, (b, (l, (l, (b, (b, (b, (omega arith, tt)))))))))
+    (λ h q. let few : length s ≤ mostTextBytes = text-kept s (h .1 .1 .1 .1 .1 .1 .1) in omega (arith, recorded-place named room s n p q)) e
+
+pub vcd-count : (t : Routine) (s named : List ℕ) (room : ℕ) (vs : List ℕ) → recordingReply t s named room ≡ accepted vs → length vs ≤ mostChanges
+unfolding recordingReply
+vcd-count t s named room vs e =
+    let p = passes (structureRules t ++ selfEdgeRule t ∷ textRule s ∷ []) (recorded named room s) vs e in
+    let h = all-append (structureRules t) (selfEdgeRule t ∷ textRule s ∷ []) (p .0) in
+    recorded-few named room s vs (text-kept s (h .1 .1)) (p .1)
 
 -- ---- readings
 

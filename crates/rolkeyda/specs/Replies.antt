@@ -19,6 +19,7 @@ use Rattle.mps.specs.Program.{programOf}
 use Rattle.mps.specs.Mps.{readMps}
 use Rattle.mps.specs.Claim.{named, NamesApart}
 use Rattle.mps.specs.Reply.{mpsReply, bufferAfter}
+use Rattle.vcd.specs.Recording.{recordingReply, counted, bufferAfter as dumpBuffer, mostChanges}
 use Rattle.tables.specs.Table.{blockTable, loopTable}
 use Rattle.tables.specs.Columns.{replyOf, BlockColumns, shortestBlock, BlocksRead, LoopColumns, shortestLoop, LoopsRead}
 use Rattle.tables.specs.declared.ReadReply.{ReadReply}
@@ -61,6 +62,12 @@ pub record RecordingReplied (t : Routine) (w stayed visited : List ℕ) (r : Rep
   pub greatest-column : gs ≡ greatestAfter t w visited (tallyReply t w stayed visited)
   pub numbers : r .number ≡ 0 → NumbersSeen t w
   pub limits : r .number ≡ 0 → ((l : ℕ) → l < loopCount t → getD gs l 0 ≤ 65535) → LimitsSeen t w gs
+
+-- Document 02, §8: the reply to a recording's text s and the buffer after the call. A buffer of `mostChanges` places gets no 433.
+pub record DumpReplied (t : Routine) (s named before : List ℕ) (r : Reply) (after : List ℕ) : Type 0 where
+  pub replied : r ≡ ofCount (counted (recordingReply t s named (length before)))
+  pub buffer : after ≡ dumpBuffer before (recordingReply t s named (length before))
+  pub roomy : mostChanges ≤ length before → r .number ≡ 433 → ⊥
 
 -- Demand 1 of the reply to a text: it is the reply to what the text says, and the columns are as the reader promises.
 abbrev pub blocksAnswer : List ℕ → Bool → BlockColumns → ReadReply

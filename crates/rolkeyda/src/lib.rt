@@ -1,8 +1,8 @@
-// The C library: the readers, the table checker, the walk checker, the tally, the solver and the writer.
+// The C library: the readers, the table checker, the walk checker, the tally, the reader of recordings, the solver and the writer.
 // Nothing is decided here; each function hands its answer over in the fields of the one reply struct.
 ghost use Rattle.nesting.specs.Columns.{routine};
 ghost use Rattle.tables.specs.Columns.{blocks, loops};
-ghost use Rattle.rolkeyda.specs.Replies.{TablesReplied, TablesSolved, TextReplied, WalkReplied, RecordingReplied, BlocksReplied, LoopsReplied};
+ghost use Rattle.rolkeyda.specs.Replies.{TablesReplied, TablesSolved, TextReplied, WalkReplied, RecordingReplied, DumpReplied, BlocksReplied, LoopsReplied};
 use replies::Reply;
 
 // Reads a block table into the columns. A refusal leaves them as they were.
@@ -132,6 +132,42 @@ pub extern "C" fn rolkeyda_tally(
         greatest,
     );
     replies::tally_reply(answer)
+}
+
+// The changed values of the named vector of a recording, in the first places of the buffer, and their count; or what is wrong with the tables or the text, and
+// the buffer stays as it was.
+#[no_mangle]
+pub extern "C" fn rolkeyda_vcd(
+    cost: &[u32],
+    loops: &[u16],
+    first: &[u16],
+    second: &[u16],
+    figure: &[i64],
+    parent: &[u16],
+    header: &[u16],
+    limit: &[u32],
+    multiplier: &[u64],
+    text: &[u8],
+    code: &[u8],
+    blocks: &mut [u16],
+) -> Reply
+    ensures { λ r. ⌜ DumpReplied (routine (now (cost .entry)) (now (loops .entry)) (now (first .entry)) (now (second .entry)) (now (figure .entry)) (now (parent .entry)) (now (header .entry)) (now (limit .entry)) (now (multiplier .entry))) (now (text .entry)) (now (code .entry)) (now (blocks .entry)) r (now (blocks .exit)) ⌝ }
+{
+    let answer = recordings::vcd(
+        cost,
+        loops,
+        first,
+        second,
+        figure,
+        parent,
+        header,
+        limit,
+        multiplier,
+        text,
+        code,
+        blocks,
+    );
+    replies::vcd_reply(answer)
 }
 
 // The bound of the remade figures and multipliers, which are then in place of the given ones; or the first broken rule, and both columns stay as
