@@ -121,17 +121,17 @@ static const uint8_t *read_digits(struct recording *r, const uint8_t *word, uint
 {
     const uint8_t *at = word + 1;
     uint32_t v = 0;
-    for (; at < r->end && !is_blank(*at); at++) {
+    for (; at < r->end; at++) {
         if (*at == '0' || *at == '1')
             v = v * 2 + (*at - '0');
         else if (*at == 'x' || *at == 'z' || *at == 'X' || *at == 'Z')
             v = UNFIT;
         else
-            return refuse(r, word);
+            break;
         if (v > UNFIT)
             v = UNFIT;
     }
-    if (at == word + 1)
+    if (at == word + 1 || !word_ends(at, r->end))
         return refuse(r, word);
     *value = v;
     return at;
