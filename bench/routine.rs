@@ -323,22 +323,18 @@ impl Routine {
         ahead
     }
 
-    // A finished counted run of this length: it goes round wherever the limits and the length allow.
-    pub fn walk(&self, length: usize) -> Vec<u16> {
+    // A finished counted run. Where a block has a second successor and the limits allow the first, `second` decides by the block and the length so far.
+    fn run(&self, mut second: impl FnMut(usize, usize) -> bool) -> Vec<u16> {
         let b = &self.blocks;
-        let exit = b.cost.len() - 1;
-        let ahead = self.ahead();
         let mut visits = vec![0u32; self.loops.parent.len()];
         let mut walk = vec![0u16];
         let mut u = 0;
-        while u != exit {
-            let left = length - walk.len();
+        while u != b.cost.len() - 1 {
             let l = b.loops[u] as usize;
             let heads = self.loops.header[l] as usize == u;
-            let first = b.first[u] as usize;
             let full = heads && l > 0 && visits[l] == self.loops.limit[l];
-            let spare = b.second[u] != MISSING && (full || ahead[first] + 1 > left || (l == 0 && exit - u > left));
-            let v = if spare { b.second[u] as usize } else { first };
+            let spare = b.second[u] != MISSING && (full || second(u, walk.len()));
+            let v = if spare { b.second[u] as usize } else { b.first[u] as usize };
             let to = b.loops[v] as usize;
             if self.loops.header[to] as usize == v {
                 visits[to] = if self.inside(u, to as u16) { visits[to] + 1 } else { 1 };
@@ -346,7 +342,49 @@ impl Routine {
             walk.push(v as u16);
             u = v;
         }
+        walk
+    }
+
+    // A finished counted run of this length: it goes round wherever the limits and the length allow.
+    pub fn walk(&self, length: usize) -> Vec<u16> {
+        let exit = self.blocks.cost.len() - 1;
+        let ahead = self.ahead();
+        let walk = self.run(|u, so_far| {
+            let left = length - so_far;
+            ahead[self.blocks.first[u] as usize] + 1 > left || (self.blocks.loops[u] == 0 && exit - u > left)
+        });
         assert_eq!(walk.len(), length);
         walk
+    }
+
+    // A finished counted run by chance, of about this length. Block numbers grow on the way to the exit: where they are ahead of the length, the lower
+    // successor is next seven times in eight, else one time in eight.
+    pub fn random_walk(&self, length: usize, random: &mut Random) -> Vec<u16> {
+        let b = &self.blocks;
+        self.run(|u, so_far| {
+            let ahead = u * length > so_far * b.cost.len();
+            let lower = ahead == (random.below(8) > 0);
+            lower == (b.second[u] < b.first[u])
+        })
+    }
+}
+
+// A pseudorandom sequence (xorshift), the same for the same seed.
+pub struct Random(u64);
+
+impl Random {
+    pub fn new(seed: u64) -> Random {
+        Random(seed.wrapping_mul(0x9e37_79b9_7f4a_7c15) | 1)
+    }
+
+    pub fn next(&mut self) -> u32 {
+        self.0 ^= self.0 << 13;
+        self.0 ^= self.0 >> 7;
+        self.0 ^= self.0 << 17;
+        (self.0 >> 32) as u32
+    }
+
+    pub fn below(&mut self, n: u32) -> u32 {
+        self.next() % n
     }
 }
