@@ -86,6 +86,13 @@ extern "C" {
         limit: *const u32, limit_length: usize, multiplier: *const u64, multiplier_length: usize,
         text: *mut u8, text_length: usize,
     ) -> Reply;
+    fn rolkeyda_vcd(
+        cost: *const u32, cost_length: usize, loops: *const u16, loops_length: usize, first: *const u16, first_length: usize,
+        second: *const u16, second_length: usize, figure: *const i64, figure_length: usize,
+        parent: *const u16, parent_length: usize, header: *const u16, header_length: usize,
+        limit: *const u32, limit_length: usize, multiplier: *const u64, multiplier_length: usize,
+        text: *const u8, text_length: usize, code: *const u8, code_length: usize, blocks: *mut u16, blocks_length: usize,
+    ) -> Reply;
 }
 
 #[rustfmt::skip]
@@ -235,6 +242,19 @@ impl Library {
                 b.cost.as_ptr(), n, b.loops.as_ptr(), n, b.first.as_ptr(), n, b.second.as_ptr(), n, b.figure.as_ptr(), n,
                 l.parent.as_ptr(), m, l.header.as_ptr(), m, l.limit.as_ptr(), m, l.multiplier.as_ptr(), m,
                 text.as_mut_ptr(), text.len(),
+            )
+        }
+    }
+
+    pub fn vcd(t: &Routine, text: &[u8], code: &[u8], blocks: &mut [u16]) -> Reply {
+        let (b, l) = (&t.blocks, &t.loops);
+        let (n, m) = (b.cost.len(), l.parent.len());
+        // SAFETY: each pointer comes with the length of its own column, text or buffer, and the buffer overlaps none of the others.
+        unsafe {
+            rolkeyda_vcd(
+                b.cost.as_ptr(), n, b.loops.as_ptr(), n, b.first.as_ptr(), n, b.second.as_ptr(), n, b.figure.as_ptr(), n,
+                l.parent.as_ptr(), m, l.header.as_ptr(), m, l.limit.as_ptr(), m, l.multiplier.as_ptr(), m,
+                text.as_ptr(), text.len(), code.as_ptr(), code.len(), blocks.as_mut_ptr(), blocks.len(),
             )
         }
     }

@@ -1,5 +1,6 @@
 // Ratios of the proved library to other ways of doing the same, in one run. The measures alternate, and each counts by its fastest round,
 // so that what else the machine does weighs on both alike.
+mod dumps;
 mod library;
 mod program;
 mod reading;
@@ -7,6 +8,7 @@ mod routine;
 mod straight;
 mod writing;
 
+use dumps::{Beside, Dump};
 use library::Library;
 use routine::Routine;
 use csv_core::Reader;
@@ -401,6 +403,36 @@ fn writing_mps() {
     }
 }
 
+// Recordings as VCD beside straight C, eight texts of a kind in turn, so that no branch predictor learns one by heart. Both ask 201 to 207 and 431 first.
+fn reading_vcd() {
+    let routine = Routine::nested(&[2, 3, 4].repeat(21));
+    let kinds = [("alone", Beside::Nothing), ("beside a clock", Beside::Clock), ("among four vectors and a real", Beside::Registers)];
+    for (title, beside) in kinds {
+        let dumps: Vec<Dump> = (1..=8).map(|seed| dumps::dump(&routine, beside, seed)).collect();
+        let mut ours = vec![u16::MAX; 13_107];
+        let mut theirs = ours.clone();
+        for Dump { text, walk } in &dumps {
+            let reply = Library::vcd(&routine, text.as_bytes(), b"!", &mut ours);
+            assert_eq!((reply.number, reply.place, reply.value as usize, reply.more), (0, 0, walk.len(), 0));
+            assert_eq!(reading::vcd(&routine, text.as_bytes(), b"!", &mut theirs), Ok(walk.len()));
+            assert!(ours == theirs && ours.starts_with(walk));
+        }
+        let mean = |length: fn(&Dump) -> usize| dumps.iter().map(length).sum::<usize>() / dumps.len();
+        let (bytes, blocks) = (mean(|dump| dump.text.len()), mean(|dump| dump.walk.len()));
+        let (mut next, mut their_next) = (dumps.iter().cycle(), dumps.iter().cycle());
+        compare(
+            &format!("reading a vector {title} as VCD, {bytes} bytes, {blocks} blocks (goal 300 MB/s, and the ratio)"),
+            (bytes as f64, "B"),
+            (400, 8),
+            &[1.0],
+            &mut [
+                Measure::new("rolkeyda_vcd", || keep(Library::vcd(black_box(&routine), next.next().unwrap().text.as_bytes(), b"!", &mut ours))),
+                Measure::new("straight C", || keep(reading::vcd(black_box(&routine), their_next.next().unwrap().text.as_bytes(), b"!", &mut theirs))),
+            ],
+        );
+    }
+}
+
 // One run of a program on a setting, in a folder.
 fn run(program: &Path, folder: &Path) -> Vec<u8> {
     let mut child = Command::new(program).current_dir(folder).stdin(Stdio::piped()).stdout(Stdio::piped()).spawn().unwrap();
@@ -441,6 +473,9 @@ fn main() {
     }
     if wanted("mps") {
         writing_mps();
+    }
+    if wanted("vcd") {
+        reading_vcd();
     }
     if wanted("walk") {
         walking();

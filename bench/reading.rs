@@ -1,9 +1,11 @@
-// The block table read by csv-core and by libcsv, with its numbers parsed: what one would write over those libraries.
-use crate::routine::Blocks;
+// The block table read by csv-core and by libcsv, with its numbers parsed: what one would write over those libraries. VCD read by straight C.
+use crate::routine::{Blocks, Routine};
+use crate::straight;
 use csv_core::{ReadRecordResult, Reader};
 
 extern "C" {
     fn csv_blocks(text: *const u8, length: usize, cost: *mut u32, loops: *mut u16, first: *mut u16, second: *mut u16, figure: *mut i64, room: usize) -> i64;
+    fn vcd_straight(text: *const u8, length: usize, code: *const u8, code_length: usize, blocks: *mut u16, room: usize, place: *mut u32) -> i64;
 }
 
 pub fn libcsv(text: &[u8], to: &mut Blocks) -> Option<usize> {
@@ -84,4 +86,13 @@ pub fn csv_core(reader: &mut Reader, text: &[u8], to: &mut Blocks) -> Option<usi
             ReadRecordResult::OutputFull | ReadRecordResult::OutputEndsFull => return None,
         }
     }
+}
+
+// The rules that rolkeyda_vcd asks of the tables, in straight Rust, then the text: the count of the blocks.
+pub fn vcd(t: &Routine, text: &[u8], code: &[u8], blocks: &mut [u16]) -> Result<usize, (u32, usize)> {
+    straight::structure_and_self_edges(t)?;
+    let mut place = 0;
+    // SAFETY: the text, the code and the buffer come with their own lengths, and the buffer overlaps neither.
+    let count = unsafe { vcd_straight(text.as_ptr(), text.len(), code.as_ptr(), code.len(), blocks.as_mut_ptr(), blocks.len(), &mut place) };
+    usize::try_from(count).map_err(|_| (count.unsigned_abs() as u32, place as usize))
 }

@@ -158,6 +158,12 @@ pub fn structure_and_cycles(t: &Routine) -> Result<[u64; 64], Refusal> {
     Ok(around)
 }
 
+// 201 to 207, then 431: no block has an edge to itself.
+pub fn structure_and_self_edges(t: &Routine) -> Result<(), Refusal> {
+    structure(t)?;
+    lowest(431, t.blocks.cost.len(), |u| some_edge(&t.blocks, u, |v| v == u))
+}
+
 const NONE: i64 = -1;
 const CAP: i64 = 1 << 62;
 const LOWEST: i64 = -(1 << 62);
