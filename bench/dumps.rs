@@ -79,28 +79,29 @@ fn changes(beside: Beside, to: Option<u16>, time: u64, registers: &mut Registers
     }
 }
 
-// A walk by chance and its recording, which ends where the next step would make the text too long. The walk has a few blocks more.
+// A walk by chance and its recording, which ends with the walk or where the next step would make the text too long. Nearly all walks are longer than fits.
 pub fn dump(routine: &Routine, beside: Beside, seed: u64) -> Dump {
     let random = &mut Random::new(seed);
     let blocks = match beside {
-        Beside::Nothing => 3_200,
-        Beside::Clock => 1_200,
-        Beside::Registers => 600,
+        Beside::Nothing => 3_400,
+        Beside::Clock => 1_250,
+        Beside::Registers => 650,
     };
     let mut walk = routine.random_walk(blocks, random);
     let mut registers = Registers { values: [0; 4], load: 0.0 };
     let mut text = head(beside);
     let (mut recorded, mut time) = (1, HALF);
-    loop {
+    while recorded < walk.len() {
         let to = (random.below(2) == 0).then_some(walk[recorded]);
         let changes = changes(beside, to, time, &mut registers, random);
         let step = if changes.is_empty() { changes } else { format!("#{time}\n{changes}") };
         if text.len() + step.len() > LONGEST {
-            walk.truncate(recorded);
-            return Dump { text, walk };
+            break;
         }
         text += &step;
         recorded += usize::from(to.is_some());
         time += 2 * HALF;
     }
+    walk.truncate(recorded);
+    Dump { text, walk }
 }
