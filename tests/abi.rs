@@ -67,6 +67,16 @@ extern "C" {
         blocks: *const u16, blocks_length: usize,
         stays: *mut u32, stays_length: usize, greatest: *mut u32, greatest_length: usize,
     ) -> Reply;
+
+    fn rolkeyda_vcd(
+        cost: *const u32, cost_length: usize, inner: *const u16, inner_length: usize,
+        first: *const u16, first_length: usize, second: *const u16, second_length: usize,
+        figure: *const i64, figure_length: usize,
+        parent: *const u16, parent_length: usize, header: *const u16, header_length: usize,
+        limit: *const u32, limit_length: usize, multiplier: *const u64, multiplier_length: usize,
+        text: *const u8, text_length: usize, code: *const u8, code_length: usize,
+        blocks: *mut u16, blocks_length: usize,
+    ) -> Reply;
 }
 
 /// The nine columns of a pair of tables.
@@ -175,6 +185,20 @@ pub fn tally(c: Columns, blocks: &[u16], stays: &mut [u32], greatest: &mut [u32]
             c.limit.as_ptr(), c.limit.len(), c.multiplier.as_ptr(), c.multiplier.len(),
             blocks.as_ptr(), blocks.len(),
             stays.as_mut_ptr(), stays.len(), greatest.as_mut_ptr(), greatest.len(),
+        )
+    }
+}
+
+pub fn vcd(c: Columns, text: &[u8], code: &[u8], blocks: &mut [u16]) -> Reply {
+    unsafe {
+        rolkeyda_vcd(
+            c.cost.as_ptr(), c.cost.len(), c.inner.as_ptr(), c.inner.len(),
+            c.first.as_ptr(), c.first.len(), c.second.as_ptr(), c.second.len(),
+            c.figure.as_ptr(), c.figure.len(),
+            c.parent.as_ptr(), c.parent.len(), c.header.as_ptr(), c.header.len(),
+            c.limit.as_ptr(), c.limit.len(), c.multiplier.as_ptr(), c.multiplier.len(),
+            text.as_ptr(), text.len(), code.as_ptr(), code.len(),
+            blocks.as_mut_ptr(), blocks.len(),
         )
     }
 }

@@ -1,6 +1,7 @@
 //! One case at a time: the library and the reference on the same input, with guards around all that is lent.
 
 use crate::abi::{self, Columns, Reply};
+use crate::changes::{self, Answer, Dump};
 use crate::graphs::Tables;
 use crate::lent::Yard;
 use crate::random::Random;
@@ -12,6 +13,7 @@ use crate::texts::{Case, Table};
 /// The memory that is lent, and the generator for old contents and places.
 pub struct Bench {
     text: Yard,
+    code: Yard,
     columns: Vec<Yard>,
     list: Yard,
     seen: [Yard; 2],
@@ -50,6 +52,7 @@ impl Bench {
         let column = || Yard::new(64 * 1024);
         Bench {
             text: Yard::new(512 * 1024),
+            code: Yard::new(64 * 1024),
             columns: (0..9).map(|_| column()).collect(),
             list: Yard::new(2 * 1_048_600),
             seen: [column(), column()],
@@ -202,6 +205,22 @@ impl Bench {
         unchanged(walk.holds(list), "the walk")?;
         unchanged(stays.holds(after[0]), "column stays")?;
         unchanged(greatest.holds(after[1]), "column greatest")?;
+        self.kept(tables)?;
+        Ok((given, wanted))
+    }
+
+    /// The reply, and what it says of the recording. The lent buffer has other numbers in it, which stay where no value is put.
+    pub fn vcd(&mut self, tables: &Tables, dump: &Dump) -> Result<(Reply, Answer), String> {
+        let wanted = changes::vcd(&tables.blocks, &tables.loops, dump);
+        let columns = self.lend(tables);
+        let Bench { text, code, list, random, .. } = self;
+        let old: Vec<u16> = (0..dump.places).map(|_| random.next() as u16).collect();
+        let given = abi::vcd(columns, text.lend(&dump.text, random), code.lend(&dump.code, random), list.lend(&old, random));
+        let values = wanted.as_ref().map_or(&[][..], |changes| &changes.values);
+        agree(reply(wanted.as_ref().map(|changes| (changes.values.len() as i64, 0)).map_err(|(refusal, _)| *refusal)), given)?;
+        unchanged(text.holds(&dump.text), "the text")?;
+        unchanged(code.holds(&dump.code), "the code")?;
+        unchanged(list.holds(&filled(&old, values)), "the buffer")?;
         self.kept(tables)?;
         Ok((given, wanted))
     }

@@ -2,8 +2,11 @@
 //! is 'N passed, M failed'. With --long the run has ten times as many cases, from further seeds.
 
 mod abi;
+mod changes;
 mod compare;
 mod cycles;
+mod dumped;
+mod dumps;
 mod graphs;
 mod lent;
 mod named;
@@ -23,13 +26,15 @@ use std::collections::BTreeMap;
 use std::sync::atomic::{AtomicU64, Ordering};
 use texts::{Case, Table};
 
-const FUNCTIONS: [&str; 6] = ["read_blocks", "read_loops", "check", "walk", "solve", "tally"];
+const FUNCTIONS: [&str; 7] = ["read_blocks", "read_loops", "check", "walk", "solve", "tally", "vcd"];
 const CHECK: usize = 2;
 const WALK: usize = 3;
 const SOLVE: usize = 4;
 const TALLY: usize = 5;
-const NUMBERS: [u32; 28] = [
-    0, 101, 102, 103, 104, 105, 106, 108, 201, 202, 203, 204, 205, 206, 207, 208, 209, 301, 302, 303, 311, 312, 313, 314, 401, 402, 403, 421,
+const VCD: usize = 6;
+const NUMBERS: [u32; 31] = [
+    0, 101, 102, 103, 104, 105, 106, 108, 201, 202, 203, 204, 205, 206, 207, 208, 209, 301, 302, 303, 311, 312, 313, 314, 401, 402, 403, 421, 431, 432,
+    433,
 ];
 /// The readers' replies that depend on line ends: number and more. Each is wanted from both readers, with and without a header row.
 const LINE_ENDS: [(&str, u32, u64); 4] = [("CR LF", 0, 0), ("LF", 0, 1), ("text", 0, 2), ("108", 108, 0)];
@@ -67,6 +72,11 @@ pub struct Score {
     /// The recordings of each kind of `recordings::KINDS`, and what was tried with the limits that they show, by `recordings::TRIED`.
     recorded: [u64; recordings::KINDS.len()],
     put_in: [u64; recordings::TRIED.len()],
+    /// The recordings as VCD of each kind of `dumped::KINDS`, what was tried with them, by `dumped::TRIED`, and those that were refused for each of
+    /// `changes::REASONS`.
+    dumps: [u64; dumped::KINDS.len()],
+    read_back: [u64; dumped::TRIED.len()],
+    reasons: [u64; changes::REASONS.len()],
     failures: Vec<String>,
 }
 
@@ -113,7 +123,9 @@ impl Score {
             *self.reads.entry(key).or_default() += count;
         }
         let sums = self.graphs.iter_mut().chain(&mut self.solved).chain(&mut self.tried).chain(&mut self.recorded).chain(&mut self.put_in);
+        let sums = sums.chain(&mut self.dumps).chain(&mut self.read_back).chain(&mut self.reasons);
         let counts = other.graphs.into_iter().chain(other.solved).chain(other.tried).chain(other.recorded).chain(other.put_in);
+        let counts = counts.chain(other.dumps).chain(other.read_back).chain(other.reasons);
         for (sum, count) in sums.zip(counts) {
             *sum += count;
         }
@@ -132,9 +144,12 @@ impl Score {
     }
 }
 
+fn show_text(text: &[u8]) -> String {
+    text.iter().flat_map(|byte| std::ascii::escape_default(*byte)).map(char::from).collect()
+}
+
 fn show_case(case: &Case) -> String {
-    let text: String = case.text.iter().flat_map(|byte| std::ascii::escape_default(*byte)).map(char::from).collect();
-    format!("  {:?}, header row {}, lengths {:?}, text \"{text}\"", case.table, case.header_row, case.lengths)
+    format!("  {:?}, header row {}, lengths {:?}, text \"{}\"", case.table, case.header_row, case.lengths, show_text(&case.text))
 }
 
 fn show_tables(tables: &Tables) -> String {
@@ -146,17 +161,17 @@ fn show_tables(tables: &Tables) -> String {
 }
 
 /// A shorter text that the two sides still disagree on, found in at most 2,000 trials.
-fn shorter(bench: &mut Bench, case: &Case) -> Case {
-    let mut best = case.clone();
-    let mut part = best.text.len() / 2;
+fn shorter(text: &[u8], mut differs: impl FnMut(&[u8]) -> bool) -> Vec<u8> {
+    let mut best = text.to_vec();
+    let mut part = best.len() / 2;
     let mut trials = 0;
     while part > 0 {
         let mut at = 0;
-        while at + part <= best.text.len() && trials < 2000 {
+        while at + part <= best.len() && trials < 2000 {
             trials += 1;
             let mut tried = best.clone();
-            tried.text.drain(at..at + part);
-            if bench.read(&tried).is_err() {
+            tried.drain(at..at + part);
+            if differs(&tried) {
                 best = tried;
             } else {
                 at += part;
@@ -171,7 +186,10 @@ fn read(bench: &mut Bench, score: &mut Score, case: &Case) {
     let mut outcome = bench.read(case);
     let mut shown = String::new();
     if outcome.is_err() {
-        let best = if score.failed < 5 { shorter(bench, case) } else { case.clone() };
+        let mut best = case.clone();
+        if score.failed < 5 {
+            best.text = shorter(&case.text, |text| bench.read(&Case { text: text.to_vec(), ..case.clone() }).is_err());
+        }
         shown = show_case(&best);
         outcome = bench.read(&best).and(outcome);
     }
@@ -250,9 +268,10 @@ fn part(seed: u64, rounds: usize) -> Score {
     let mut random = Random::new(seed);
     let mut bench = Bench::new(!seed);
     let mut score = Score::default();
-    // the solver's cases have a generator of their own, and so has the tally
+    // the solver's cases have a generator of their own, and so have the tally and the recordings as VCD
     let mut solving = Random::new(seed + (1 << 32));
     let mut recording = Random::new(seed + (2 << 32));
+    let mut dumping = Random::new(seed + (3 << 32));
     for round in 0..rounds {
         for table in [Table::Blocks, Table::Loops] {
             let case = texts::case(&mut random, table);
@@ -278,12 +297,16 @@ fn part(seed: u64, rounds: usize) -> Score {
                 Some(bound) if reply.number == 0 && reply.value > bound => Err(format!("cost {} over the bound {bound}", reply.value)),
                 _ => Ok(reply),
             });
+            if outcome.as_ref().is_ok_and(|reply| reply.number == 0) {
+                dumped::walk(&mut bench, &mut score, &mut dumping, &tables, &list);
+            }
             score.count(WALK, outcome, || format!("{}\n  walk {list:?}", show_tables(&tables)));
             let recorded = graphs::recording(&mut recording, &tables);
             for list in [list, recorded] {
                 recordings::tally(&mut bench, &mut score, &mut recording, &tables, &list, number);
             }
         }
+        dumped::any(&mut bench, &mut score, &mut dumping, &tables);
         let small = solvable::small(&mut solving);
         solve(&mut bench, &mut score, &mut solving, &small, None);
         if round % 20 == 0 {
@@ -334,6 +357,10 @@ fn report(score: &mut Score) {
         if matches!(number, 0 | 201..=207 | 301..=303 | 311 | 312 | 314 | 421) {
             score.often(&format!("reply {number} of tally"), counts[TALLY]);
         }
+        // and the reader of recordings as VCD these
+        if matches!(number, 0 | 101 | 201..=207 | 431..=433) {
+            score.often(&format!("reply {number} of vcd"), counts[VCD]);
+        }
     }
     println!("the readers by line end, each without and with a header row");
     for (name, number, more) in LINE_ENDS {
@@ -360,6 +387,12 @@ fn report(score: &mut Score) {
     for (name, count) in names.zip(score.recorded.into_iter().chain(score.put_in)) {
         println!("       {count:>12} {name}");
         score.often(&format!("recordings: {name}"), count);
+    }
+    println!("the recordings as VCD by what they have, by what was tried, and by why they are refused");
+    let names = dumped::KINDS.into_iter().map(|(name, _)| name).chain(dumped::TRIED).chain(changes::REASONS.into_iter().map(|(_, name)| name));
+    for (name, count) in names.zip(score.dumps.into_iter().chain(score.read_back).chain(score.reasons)) {
+        println!("       {count:>12} {name}");
+        score.often(&format!("recordings as VCD: {name}"), count);
     }
 }
 

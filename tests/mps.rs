@@ -4,6 +4,8 @@
 
 #[allow(dead_code)]
 mod abi;
+#[allow(dead_code)]
+mod changes;
 mod clients;
 #[allow(dead_code)]
 mod compare;

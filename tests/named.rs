@@ -1,9 +1,11 @@
 //! Named tests: the marked cases of document 01, each sentence of its "Plausible and wrong", the edges of its rules, and of document 02 the
 //! line ends of request 1, the closed walks of request 2, the solver of request 3, for request 4 numbers at the ends of every width, the
-//! order of request 6, and the recordings of request 7.
+//! order of request 6, the recordings of request 7, and those of request 8 as VCD.
 
+use crate::changes::Dump;
 use crate::cycles::Graph;
 use crate::compare::Bench;
+use crate::dumps::MOST_BYTES;
 use crate::graphs::{edges, Tables};
 use crate::recordings;
 use crate::reference::{self, MISSING};
@@ -78,6 +80,18 @@ impl Tester<'_> {
         self.expect(name, Refused(number, place), outcome);
     }
 
+    /// A recording as VCD: the values that are read of it, or the number and the place.
+    fn vcd(&mut self, name: &str, tables: &Tables, dump: &Dump, wanted: Result<&[u16], (u32, u32)>) {
+        let outcome = self.bench.vcd(tables, dump);
+        let values = outcome.as_ref().ok().and_then(|(_, answer)| answer.as_ref().ok()).map(|changes| changes.values.clone());
+        let reply = wanted.map_or_else(|(number, place)| Refused(number, place), |values| Accepted(values.len() as i64, 0));
+        self.expect(name, reply, outcome.map(|(reply, _)| reply));
+        if let Ok(wanted) = wanted {
+            let read = if values.as_deref() == Some(wanted) { Ok(()) } else { Err(format!("{values:?}")) };
+            self.score.test(&format!("{name}, its values"), read);
+        }
+    }
+
     /// A table that the solver refuses, also with other figures and multipliers where the given ones are not the reason.
     fn unsolved(&mut self, name: &str, tables: &Tables, number: u32, place: u32) {
         let outcome = self.bench.solve(tables).map(|(reply, _)| reply);
@@ -135,6 +149,11 @@ pub fn all(score: &mut Score) {
     lent_to_tally(&mut tester);
     recorded_long(&mut tester);
     recorded_small_graphs(&mut tester);
+    dumped(&mut tester);
+    dumped_codes(&mut tester);
+    dumped_order(&mut tester);
+    dumped_sizes(&mut tester);
+    dumped_small_texts(&mut tester);
 }
 
 /// Records written with '|' for CR LF.
@@ -658,7 +677,7 @@ fn sizes(t: &mut Tester) {
 }
 
 /// `n` blocks in a row and loop 0 only.
-fn straight(n: usize) -> Tables {
+pub fn straight(n: usize) -> Tables {
     let mut tables = Tables::default();
     let blocks = &mut tables.blocks;
     blocks.cost = vec![1; n];
@@ -1530,6 +1549,23 @@ fn recorded_past_limits(t: &mut Tester) {
     }
 }
 
+/// Tables that break 201 to 207, with the number and the place.
+fn broken_tables() -> Vec<(&'static str, Tables, u32, u32)> {
+    vec![
+        ("no blocks", Tables { blocks: Default::default(), ..straight(2) }, 201, 0),
+        ("no loops", Tables { loops: Default::default(), ..straight(2) }, 201, 0),
+        ("1,025 blocks", straight(1025), 201, 0),
+        ("65 loops", headed(65, false), 201, 0),
+        ("a multiplier of 2^40 + 1", a(|x| x.loops.multiplier[1] = (1 << 40) + 1), 202, 1),
+        ("cost 1,000,001", a(|x| x.blocks.cost[3] = 1_000_001), 203, 3),
+        ("a figure of -2^60 - 1", a(|x| x.blocks.figure[3] = -(1 << 60) - 1), 203, 3),
+        ("a header in another loop", a(|x| x.loops.header[1] = 3), 204, 1),
+        ("depth 17", headed(17, true), 205, 16),
+        ("an edge out of the exit", a(|x| x.blocks.first[3] = 1), 206, 3),
+        ("an edge past the header", a(|x| x.blocks.second[0] = 2), 207, 0),
+    ]
+}
+
 /// Walks and tables that are refused as in document 01, and in which order.
 fn recorded_wrongly(t: &mut Tester) {
     for (name, list, (number, place)) in WRONG_WALKS {
@@ -1554,23 +1590,10 @@ fn recorded_wrongly(t: &mut Tester) {
         t.walk(&format!("a walk past the limit that {name}"), &a(|_| ()), &list, Refused(313, 9));
         t.untallied(&format!("recorded: a walk past the limit that {name}"), &a(|_| ()), &list, [2, 2], number, place);
     }
-    let broken: &[(&str, Tables, u32, u32)] = &[
-        ("no blocks", Tables { blocks: Default::default(), ..straight(2) }, 201, 0),
-        ("no loops", Tables { loops: Default::default(), ..straight(2) }, 201, 0),
-        ("1,025 blocks", straight(1025), 201, 0),
-        ("65 loops", headed(65, false), 201, 0),
-        ("a multiplier of 2^40 + 1", a(|x| x.loops.multiplier[1] = (1 << 40) + 1), 202, 1),
-        ("cost 1,000,001", a(|x| x.blocks.cost[3] = 1_000_001), 203, 3),
-        ("a figure of -2^60 - 1", a(|x| x.blocks.figure[3] = -(1 << 60) - 1), 203, 3),
-        ("a header in another loop", a(|x| x.loops.header[1] = 3), 204, 1),
-        ("depth 17", headed(17, true), 205, 16),
-        ("an edge out of the exit", a(|x| x.blocks.first[3] = 1), 206, 3),
-        ("an edge past the header", a(|x| x.blocks.second[0] = 2), 207, 0),
-    ];
-    for (name, tables, number, place) in broken {
+    for (name, tables, number, place) in broken_tables() {
         let m = tables.loops.parent.len();
         for (list, lengths) in [(&[0, 1, 3][..], [m, m]), (&[], [m, m]), (&[0, 1, 3], [m, m + 1]), (&[], [0, 0]), (&[65_535], [m + 1, m])] {
-            t.untallied(&format!("recorded: {name}, walk {list:?}, lengths {lengths:?}"), tables, list, lengths, *number, *place);
+            t.untallied(&format!("recorded: {name}, walk {list:?}, lengths {lengths:?}"), &tables, list, lengths, number, place);
         }
     }
     for (name, change) in COLUMNS {
@@ -1679,6 +1702,365 @@ fn recorded_small_graphs(t: &mut Tester) {
                 (reply, _) => Err(format!("{reply:?}, walk {walk:?}")),
             });
             t.score.test(&format!("recorded: small graph {code:#x}, loops {loops:?}"), outcome);
+        }
+    }
+}
+
+/// The declarations of a recording of the vector "!", before its commands.
+const DECLARED: &str = "$var wire 16 ! block $end $enddefinitions $end ";
+
+/// Request 8 of document 02: commands after these declarations, and the values that are read.
+const DUMPED: &[(&str, &str, &[u16])] = &[
+    ("no change", "", &[]),
+    ("one value", "b1 !", &[1]),
+    ("0", "b0 !", &[0]),
+    ("B in upper case", "B101 !", &[5]),
+    ("zeros before", "b0000000000000000000000000000000000000000000000000000000000000000000000000000000101 !", &[5]),
+    ("65,534", "b1111111111111110 !", &[65_534]),
+    ("65,534 with zeros before", "B000000000000000001111111111111110 !", &[65_534]),
+    ("32,768", "b1000000000000000 !", &[32_768]),
+    ("a value again", "b1 ! b1 ! B01 ! b0001 !", &[1]),
+    ("a value again in another form", "b10 ! #5 $comment b11 ! $end B0010 ! b11 \" b010 !", &[2]),
+    ("back to a value", "b1 ! b0 ! b1 !", &[1, 0, 1]),
+    ("0 again at the start", "b0 ! b00 ! b1 !", &[0, 1]),
+    // blanks
+    ("blanks of four kinds", "\t\r\n b1\r\n\t !\tb10\r!\nb11\n\n!\r\n", &[1, 2, 3]),
+    ("no blank at the end", "b1 ! b10 !", &[1, 2]),
+    // times
+    ("times that fall", "#5 b1 ! #5 #4 b10 ! #0", &[1, 2]),
+    ("a long time", "#000099999999999999999999999999999999999999 b1 !", &[1]),
+    // comments
+    ("comments", "$comment b1 ! $end b10 ! $comment $end", &[2]),
+    ("a comment with keywords in it", "$comment $var $enddefinitions $dumpvars $comment # b $END $endx $end b1 !", &[1]),
+    ("a comment with vertical tabs in it", "$comment $end\x0b \x0c$end $end b1 !", &[1]),
+    // dumps
+    ("each dump", "$dumpvars b1 ! $end $dumpoff b10 ! $end $dumpon b11 ! $end $dumpall b100 ! $end", &[1, 2, 3, 4]),
+    ("empty dumps", "$dumpvars $end $dumpall $end", &[]),
+    ("a value again in a dump", "b1 ! $dumpall b1 ! $end b1 ! $dumpoff b10 ! $end b10 !", &[1, 2]),
+    ("changes of all forms in a dump", "$dumpvars 0\" bx # r1 $ b1 ! $end", &[1]),
+    // other codes
+    ("scalars of other codes", "0\" 1\" x\" X\" z\" Z\" 0!! 0!0 1b1 b1 !", &[1]),
+    ("scalars whose codes look like keywords", "0$end! 1$en x$comment z$var 0#1 b1 !", &[1]),
+    ("vectors of other codes", "bx \" B01xXzZ !! b11111111111111111111 \"! b1 !", &[1]),
+    ("reals of other codes", "r \" R \" r1.5 \" Rnan !! r$end \" r\x01\x7f \" b1 !", &[1]),
+    ("keywords as codes", "b1 $comment b1 $dumpvars bx $enddefinitions r1 $var b0 $scope b1 #1 b1 b1 b1 !", &[1]),
+    ("the code of the vector as a value of another", "b1 \" r! \" b10 !0", &[]),
+];
+
+/// Commands that are refused with 432 at the mark ^.
+const UNDUMPED: &[(&str, &str)] = &[
+    ("$end for a code", "b1 ^$end"),
+    ("$end for a code after an x digit", "bx ^$end"),
+    ("$end for a code after a real", "r1 ^$end"),
+    ("no code", "b1^"),
+    ("no code after a blank", "b1 ^"),
+    ("no code after an x digit", "bx ^"),
+    ("no code after a real", "r1\n^"),
+    ("a byte that no code has", "b1 ^\x7f"),
+    ("a byte after the code that no code has", "b1 ^!\x0b b10 !"),
+    ("a low byte in a code of a real", "r1 ^\x1f!"),
+    // values
+    ("no digits", "^b !"),
+    ("no digits in upper case", "^B \""),
+    ("a digit 2", "^b12 \""),
+    ("a vertical tab after the digits", "^b1\x0b!"),
+    ("a digit u", "^bu \""),
+    ("a sign", "^b-1 !"),
+    ("no digits and no code", "^b $end"),
+    ("a decimal number", "^5 !"),
+    ("a vector in another letter", "^h1 !"),
+    // changes of the vector
+    ("an x digit", "^bx !"),
+    ("an X digit", "b1 ! ^B1X !"),
+    ("a z digit", "^b0z !"),
+    ("a Z digit", "^bZ !"),
+    ("65,535", "^b1111111111111111 !"),
+    ("65,536", "b1 ! ^b10000000000000000 !"),
+    ("65,537", "^b10000000000000001 !"),
+    ("2^32 + 1", "^b100000000000000000000000000000001 !"),
+    ("2^64 + 1", "^b10000000000000000000000000000000000000000000000000000000000000001 !"),
+    ("65,535 with zeros before", "^b0000000000000000000000000001111111111111111 !"),
+    ("a scalar", "^0!"),
+    ("a scalar x", "^x!"),
+    ("a scalar after values", "b1 ! ^1!"),
+    ("a real", "^r1.5 !"),
+    ("a real without a number", "^R !"),
+    ("a refused value in a dump", "$dumpoff ^bx ! $end"),
+    // scalars
+    ("a scalar without a code", "^0 !"),
+    ("a scalar of $end", "^0$end"),
+    ("a scalar of a byte that no code has", "^1!\x7f"),
+    // times
+    ("a time without digits", "^#"),
+    ("a time parted from its digits", "^# 5"),
+    ("a time with a letter", "^#5s"),
+    ("a negative time", "^#-5"),
+    // other words
+    ("$end", "^$end"),
+    ("a second $end", "$dumpvars $end ^$end"),
+    ("a code", "b1 ! ^!"),
+    ("$enddefinitions again", "^$enddefinitions $end"),
+    ("$var", "b1 ! ^$var wire 16 # block $end"),
+    ("$date", "^$date $end"),
+    ("$upscope", "^$upscope $end"),
+    ("$dumpports", "^$dumpports $end"),
+    ("$vcdclose", "^$vcdclose #5 $end"),
+    ("a keyword in upper case", "^$COMMENT $end"),
+    ("a keyword with a byte more", "^$dumpvarsx $end"),
+    ("a keyword with a vertical tab", "^$comment\x0b $end"),
+    ("a byte order mark", "^\u{feff}b1 !"),
+    // dumps
+    ("a comment in a dump", "$dumpvars ^$comment $end $end"),
+    ("a time in a dump", "$dumpvars b1 ! ^#5 $end"),
+    ("a dump in a dump", "$dumpvars ^$dumpall $end"),
+    ("a declaration in a dump", "$dumpvars ^$scope $end"),
+    ("a dump without an end", "$dumpvars b1 ! ^"),
+    ("an empty dump without an end", "$dumpall^"),
+    ("a dump whose end is taken for a code", "$dumpall b1 ^$end"),
+    ("a comment without an end", "$comment b1 ! ^"),
+    ("an empty comment without an end", "b1 ! $comment^"),
+    ("a comment with $END", "$comment $END $endx^"),
+];
+
+/// Whole texts, and the values that are read.
+const DEFINED: &[(&str, &str, &[u16])] = &[
+    ("$var without a name", "$var wire 16 ! $end $enddefinitions $end b1 !", &[1]),
+    ("blanks before", "\n\t $var wire 16 ! $end $enddefinitions $end b1 !", &[1]),
+    ("all declarations", "$date x $end $version $end $timescale 1 ns $end $scope module top $end $var reg 16 ! $end $upscope $end $comment $end $enddefinitions $end b1 !", &[1]),
+    ("unbalanced scopes", "$upscope $end $var wire 16 ! $end $scope $end $scope $end $enddefinitions $end", &[]),
+    ("a code declared twice", "$var wire 16 ! $end $var real 1 ! x $end $enddefinitions $end b1 !", &[1]),
+    ("the code after others", "$var wire 16 \" $end $var wire 16 !! $end $var wire 1 ! $end $enddefinitions $end b1 !", &[1]),
+    ("keywords for type and size", "$var $var $comment ! $end $enddefinitions $end b1 !", &[1]),
+    ("any bytes for type and size", "$var \x01 \x7f ! $end $enddefinitions $end b1 !", &[1]),
+    ("keywords in a name", "$var wire 16 ! $var $enddefinitions $comment $end $enddefinitions $end b1 !", &[1]),
+    ("words before the end of $enddefinitions", "$var wire 16 ! $end $enddefinitions b1 ! $var $comment $end b10 !", &[2]),
+    ("$enddefinitions in a comment", "$comment $enddefinitions $end $var wire 16 ! $end $enddefinitions $end b1 !", &[1]),
+];
+
+/// Whole texts that are refused with 432 at the mark ^.
+const UNDEFINED: &[(&str, &str)] = &[
+    ("the empty text", "^"),
+    ("blanks", " \t\r\n^"),
+    ("no $enddefinitions", "$var wire 16 ! $end^"),
+    ("no $enddefinitions after a blank", "$var wire 16 ! $end ^"),
+    ("$enddefinitions without an end", "$var wire 16 ! $end $enddefinitions ^"),
+    ("$enddefinitions with words and without an end", "$var wire 16 ! $end $enddefinitions b1 ! ^"),
+    ("a change first", "^b1 !"),
+    ("a time among declarations", "$var wire 16 ! $end ^#0 $enddefinitions $end"),
+    ("a dump among declarations", "$var wire 16 ! $end ^$dumpvars $end $enddefinitions $end"),
+    ("$end first", "^$end"),
+    ("$end twice", "$var wire 16 ! $end ^$end $enddefinitions $end"),
+    ("a word after $end", "$var wire 16 ! $end ^x $enddefinitions $end"),
+    ("a keyword in upper case", "^$VAR wire 16 ! $end"),
+    ("a keyword with a byte more", "$var wire 16 ! $end ^$enddefinitionsx $end"),
+    ("a keyword that is cut", "$var wire 16 ! $end ^$enddefinition $end"),
+    ("a byte order mark", "^\u{feff}$var wire 16 ! $end $enddefinitions $end"),
+    ("a NUL at the end", "$var wire 16 ! $end $enddefinitions $end ^\0"),
+    ("$end for a type", "$var ^$end wire 16 ! $end $enddefinitions $end"),
+    ("$end for a size", "$var wire ^$end ! $end $enddefinitions $end"),
+    ("$end for a code", "$var wire 16 ^$end $end $enddefinitions $end"),
+    ("a byte that no code has", "$var wire 16 ^!\x7f $end $var wire 16 ! $end $enddefinitions $end"),
+    ("a vertical tab in a code", "$var wire 16 ^\x0b! $end $enddefinitions $end"),
+    ("$var alone", "$var^"),
+    ("$var without a code", "$var wire 16 ^"),
+    ("$var without an end", "$var wire 16 ! block ^"),
+    ("no declaration", "^$enddefinitions $end b1 !"),
+    ("another code declared", "$var wire 16 \" $end ^$enddefinitions $end b1 !"),
+    ("a longer code declared", "$var wire 16 !! $end ^$enddefinitions $end b1 !"),
+    ("the code for a size", "$var wire ! \" ! $end ^$enddefinitions $end"),
+    ("the code for a name", "$var wire 16 \" ! $end ^$enddefinitions $end"),
+    ("$var in a comment", "$comment $var wire 16 ! $end ^$enddefinitions $end"),
+    ("$var in $enddefinitions", "^$enddefinitions $var wire 16 ! $end b1 !"),
+    ("$var after $enddefinitions", "^$enddefinitions $end $var wire 16 ! $end"),
+    ("undeclared, and a text that ends too soon", "^$enddefinitions"),
+];
+
+/// A text with a mark, without it, and the place of the mark.
+fn marked_text(text: &str) -> (Vec<u8>, u32) {
+    let place = text.find('^').expect("a mark");
+    (text.replacen('^', "", 1).into_bytes(), place as u32)
+}
+
+/// A text with blanks after it.
+fn padded(text: &str, length: usize) -> String {
+    format!("{text}{}", " ".repeat(length - text.len()))
+}
+
+/// A recording of the vector "!".
+fn dump(text: impl Into<Vec<u8>>, places: usize) -> Dump {
+    Dump { text: text.into(), code: b"!".to_vec(), places }
+}
+
+fn dumped(t: &mut Tester) {
+    let tables = straight(2);
+    let texts = DUMPED.iter().map(|(name, commands, values)| (*name, format!("{DECLARED}{commands}"), *values));
+    for (name, text, values) in texts.chain(DEFINED.iter().map(|(name, text, values)| (*name, text.to_string(), *values))) {
+        // values are not compared with the number of blocks
+        for places in values.len()..values.len() + 3 {
+            t.vcd(&format!("dumped: {name}, {places} places"), &tables, &dump(&text[..], places), Ok(values));
+        }
+        t.vcd(&format!("dumped: {name}, 1,024 blocks"), &straight(1024), &dump(&text[..], values.len()), Ok(values));
+        let cut = text.trim_end();
+        t.vcd(&format!("dumped: {name}, without blanks at the end"), &tables, &dump(cut, values.len()), Ok(values));
+    }
+    let texts = UNDUMPED.iter().map(|(name, commands)| (*name, format!("{DECLARED}{commands}")));
+    for (name, text) in texts.chain(UNDEFINED.iter().map(|(name, text)| (*name, text.to_string()))) {
+        let (text, place) = marked_text(&text);
+        for places in [2, 9] {
+            t.vcd(&format!("dumped: {name}, {places} places"), &tables, &dump(&text[..], places), Err((432, place)));
+        }
+    }
+    // routine A's walk with the greatest cost
+    let walk = [0, 1, 2, 1, 2, 1, 2, 1, 3];
+    let text = format!("{DECLARED}{}", walk.map(|block| format!("#{block} b{block:b} !\n")).concat());
+    t.vcd("dumped: a walk of routine A", &a(|_| ()), &dump(text, 9), Ok(&walk));
+}
+
+/// Codes of all kinds: what a text declares is read, and no text can declare some.
+fn dumped_codes(t: &mut Tester) {
+    let long = "!".repeat(20_000);
+    let codes = ["\"", "~", "!!", "!\"", "0", "b", "b1", "r", "#", "#1", "$", "$en", "$endx", "x$end", "$END", "$var", "$comment", "$enddefinitions", "$dumpvars"];
+    for code in codes.into_iter().chain([&long[..]]) {
+        let text = format!("$var wire 16 {code} $end $enddefinitions $end b1 {code} b10 !x b11 {code}");
+        t.vcd(&format!("dumped: the code {code}"), &straight(2), &Dump { code: code.into(), ..dump(text, 9) }, Ok(&[1, 3]));
+    }
+    // the same code but for its last, its first or one byte more
+    for other in [&long[1..], &format!("{long}!"), &format!("{}\"", &long[1..]), &format!("\"{}", &long[1..])] {
+        let (text, place) = marked_text(&format!("$var wire 16 {other} $end ^$enddefinitions $end b1 {other}"));
+        t.vcd("dumped: a long code near another", &straight(2), &Dump { code: long.clone().into(), ..dump(text, 9) }, Err((432, place)));
+        let text = format!("{DECLARED}b1 ! b10 {other} 0{other} b11 !");
+        t.vcd("dumped: a long code beside the vector's", &straight(2), &dump(text, 9), Ok(&[1, 3]));
+    }
+    for code in [&b""[..], b"$end", b" ", b"! ", b" !", b"!\"\n!", b"\x00", b"!\x1f", b"\x7f", b"!\x80", b"\xff"] {
+        let name = format!("dumped: the code {code:?}, which no text can declare");
+        let (text, place) = marked_text(&DECLARED.replace("$enddef", "^$enddef"));
+        t.vcd(&name, &straight(2), &Dump { code: code.to_vec(), ..dump(text, 9) }, Err((432, place)));
+        t.vcd(&format!("{name}, no text"), &straight(2), &Dump { code: code.to_vec(), ..dump("", 9) }, Err((432, 0)));
+    }
+}
+
+/// Which refusal comes first: 201 to 207, 431, 101, and of 432 and 433 the one at the lowest byte.
+fn dumped_order(t: &mut Tester) {
+    // the mark is at 433, where the buffer has so many places
+    let full: &[(&str, &str, usize)] = &[
+        ("no place at all", "^b1 !", 0),
+        ("one place", "b1 ! ^b10 !", 1),
+        ("two places", "b1 ! b10 ! ^b1 !", 2),
+        ("a value again", "b1 ! b01 ! ^b10 ! b10 !", 1),
+        ("a value in a dump", "b1 ! $dumpall b1 ! ^b10 ! $end", 1),
+        ("432 by the next word", "b1 ! ^b10 ! bx !", 1),
+        ("432 by a later word", "^b1 ! #1 #2 $end", 0),
+        ("the text ends too soon later", "$dumpvars ^b1 !", 0),
+    ];
+    for (name, commands, places) in full {
+        let (text, place) = marked_text(&format!("{DECLARED}{commands}"));
+        t.vcd(&format!("dumped: {name}"), &straight(2), &dump(text, *places), Err((433, place)));
+    }
+    // the mark is at 432, where a value has no place either
+    let wrong: &[(&str, &str, usize)] = &[
+        ("a value that is too large, and no place", "^b1111111111111111 !", 0),
+        ("an x digit, and no place", "b1 ! ^bx !", 1),
+        ("432 before a value without a place", "b1 ! ^bx ! b10 !", 1),
+        ("a value without a place and without a code", "b1 ^", 0),
+        ("a value without a place, $end for its code", "b1 ^$end b1 !", 0),
+        ("a value again, and then $end", "b1 ! b1 ! ^$end", 1),
+        ("a value of another code, and then $end", "b1 ! b10 \" ^$end b10 !", 1),
+    ];
+    for (name, commands, places) in wrong {
+        let (text, place) = marked_text(&format!("{DECLARED}{commands}"));
+        t.vcd(&format!("dumped: {name}"), &straight(2), &dump(text, *places), Err((432, place)));
+    }
+    let good = format!("{DECLARED}b1 !");
+    let long = padded(&good, MOST_BYTES + 1);
+    let texts = [("a good text", &good[..], 1), ("no place", &good[..], 0), ("a word that is not allowed", "x", 1), ("a text that is too long", &long[..], 1)];
+    let both = [(1, "first"), (2, "second")].map(|(u, name)| (name, { let mut x = free(4, ways("0123"), &[]); (u..3).for_each(|v| x.blocks.second[v] = v as u16); x }, u));
+    for (text_name, text, places) in texts {
+        for (name, tables, number, place) in broken_tables() {
+            t.vcd(&format!("dumped: {name}, {text_name}"), &tables, &dump(text, places), Err((number, place)));
+        }
+        for (name, tables, place) in &both {
+            t.vcd(&format!("dumped: the {name} block names itself, {text_name}"), tables, &dump(text, places), Err((431, *place as u32)));
+        }
+        for (rows, loops, place) in [("0112", &[(0, 1, &[][..])][..], 1), ("0122 23", &[(0, 2, &[])], 2), ("03 11 123", &[], 1)] {
+            let tables = free(4, ways(rows), loops);
+            t.vcd(&format!("dumped: a block names itself in {rows}, {text_name}"), &tables, &dump(text, places), Err((431, place)));
+        }
+    }
+    for (name, text, places) in [("a good text", "", 1), ("no place", "", 0), ("a word that is not allowed", "x", 1)] {
+        let text = padded(&format!("{text}{good}"), MOST_BYTES + 1);
+        t.vcd(&format!("dumped: {name}, too long"), &straight(2), &dump(text, places), Err((101, 0)));
+    }
+    // 208 and 209 are not asked
+    let rounds: &[u16] = &[0, 1, 2, 1, 2, 3];
+    let text = format!("{DECLARED}{}", rounds.iter().map(|block| format!("b{block:b} ! ")).collect::<String>());
+    t.vcd("dumped: where 209 is not kept", &free(4, ways("0121 23"), &[]), &dump(&text[..], 6), Ok(rounds));
+    t.vcd("dumped: where 208 is not kept", &a(|x| x.blocks.figure[0] = 27), &dump(&text[..], 6), Ok(rounds));
+}
+
+/// Texts at the limit of their length, with the most values and the longest words.
+fn dumped_sizes(t: &mut Tester) {
+    let tables = straight(2);
+    let declared = "$var 0 0 ! $end $enddefinitions $end ";
+    let count = (MOST_BYTES + 1 - declared.len()) / 5;
+    let values: Vec<u16> = (0..count).map(|k| (k % 2) as u16).collect();
+    let text = format!("{declared}{}", values.iter().map(|value| format!("b{value} ! ")).collect::<String>());
+    let last = (text.trim_end().len() - 4) as u32;
+    let text = padded(text.trim_end(), MOST_BYTES);
+    for places in [count, count + 1, 13_107, 65_536] {
+        t.vcd(&format!("dumped: {count} values, {places} places"), &tables, &dump(&text[..], places), Ok(&values));
+    }
+    t.vcd("dumped: one place short of the most", &tables, &dump(&text[..], count - 1), Err((433, last)));
+    t.vcd("dumped: no place for the most", &tables, &dump(&text[..], 0), Err((433, declared.len() as u32)));
+    t.vcd("dumped: the most values and a byte more", &tables, &dump(format!("{text} "), count), Err((101, 0)));
+    t.vcd("dumped: one value written 13,000 times", &tables, &dump(text.replace("b0", "b1"), 1), Ok(&[1]));
+    let wide = format!("{DECLARED}{}", (0..4000).map(|k| format!("b{:b} !\n", 32_768 + k)).collect::<String>());
+    t.vcd("dumped: 4,000 wide values are too long", &tables, &dump(wide, 13_107), Err((101, 0)));
+    // the longest words, and the most of them: what stands in the middle is repeated up to the limit
+    let cases: &[(&str, &str, &str, &str, Result<&[u16], ()>)] = &[
+        ("blanks", "$var 0 0 ! $end $enddefinitions $end", " ", "", Ok(&[])),
+        ("zeros", "$var 0 0 ! $end $enddefinitions $end b", "0", "101 !", Ok(&[5])),
+        ("digits of a time", "$var 0 0 ! $end $enddefinitions $end #", "9", " b1 !", Ok(&[1])),
+        ("a comment", "$comment ", "x", " $end $var 0 0 ! $end $enddefinitions $end b1 !", Ok(&[1])),
+        ("a comment of short words", "$var 0 0 ! $end $enddefinitions $end $comment", " x", " $end b1 !", Ok(&[1])),
+        ("a real", "$var 0 0 ! $end $enddefinitions $end r", "1", " \" b1 !", Ok(&[1])),
+        ("a vector of another code", "$var 0 0 ! $end $enddefinitions $end b", "x", " \" b1 !", Ok(&[1])),
+        ("another code", "$var 0 0 ! $end $enddefinitions $end b1 ", "!", " b1 !", Ok(&[1])),
+        ("a name", "$var 0 0 ! ", "n", " $end $enddefinitions $end b1 !", Ok(&[1])),
+        ("scalars", "$var 0 0 ! $end $enddefinitions $end", " 0\"", "  b1 !", Ok(&[1])),
+        ("a value at the end", "$var 0 0 ! $end $enddefinitions $end", " ", "b1 !", Ok(&[1])),
+        ("a number that is too large", "$var 0 0 ! $end $enddefinitions $end ^b", "1", " !", Err(())),
+        ("letters after b", "$var 0 0 ! $end $enddefinitions $end ^", "b", "", Err(())),
+        ("a comment without an end", "$var 0 0 ! $end $enddefinitions $end $comment ", "x", "^", Err(())),
+        ("a missing code", "$var 0 0 ! $end $enddefinitions $end", "\n", "b1^", Err(())),
+        ("a wrong word at the end", "$var 0 0 ! $end $enddefinitions $end", "\t", "^x", Err(())),
+        ("one word", "^", "$", "", Err(())),
+    ];
+    for (name, before, middle, after, wanted) in cases {
+        let marks = usize::from(wanted.is_err());
+        let repeated: String = middle.chars().cycle().take(MOST_BYTES + marks - before.len() - after.len()).collect();
+        let text = format!("{before}{repeated}{after}");
+        let (text, place) = if wanted.is_err() { marked_text(&text) } else { (text.into_bytes(), 0) };
+        t.vcd(&format!("dumped: {} bytes, {name}", text.len()), &tables, &dump(&text[..], 9), wanted.map_err(|()| (432, place)));
+        let longer = [&text[..], b" "].concat();
+        t.vcd(&format!("dumped: {} bytes, {name}", longer.len()), &tables, &dump(longer, 9), Err((101, 0)));
+    }
+}
+
+/// Every text of some words after good declarations, for buffers of no place, one and many; and every text of some words of declarations.
+fn dumped_small_texts(t: &mut Tester) {
+    let commands = ["b0", "b1", "bx", "!", "\"", "$end", "$comment", "$dumpvars", "#1", "r1", "1!"];
+    let declarations = ["$var", "!", "$end", "$comment", "$enddefinitions"];
+    let tables = straight(2);
+    for (before, words, most, all_places) in [(DECLARED, &commands[..], 4, &[0, 1, 9][..]), ("", &declarations, 7, &[9])] {
+        for count in 0..=most {
+            for choice in 0..words.len().pow(count) {
+                let rest: Vec<&str> = (0..count).map(|k| words[choice / words.len().pow(k) % words.len()]).collect();
+                for places in all_places {
+                    let text = format!("{before}{}", rest.join(" "));
+                    let outcome = t.bench.vcd(&tables, &dump(&text[..], *places)).map(|_| ());
+                    t.score.test(&format!("dumped: \"{text}\", {places} places"), outcome);
+                }
+            }
         }
     }
 }

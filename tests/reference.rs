@@ -237,7 +237,7 @@ pub fn successors(blocks: &Blocks, u: usize) -> Vec<usize> {
 }
 
 /// The lowest place below `count` where `broken` holds is refused with `number`.
-fn lowest(number: u32, count: usize, broken: impl Fn(usize) -> bool) -> Result<(), Refusal> {
+pub fn lowest(number: u32, count: usize, broken: impl Fn(usize) -> bool) -> Result<(), Refusal> {
     match (0..count).find(|place| broken(*place)) {
         Some(place) => refuse(number, place),
         None => Ok(()),

@@ -251,9 +251,12 @@ fn damage_records(random: &mut Random, table: Table, header_row: bool, records: 
     }
 }
 
-/// One change to the bytes of a text.
-fn damage_bytes(random: &mut Random, text: &mut Vec<u8>) {
-    let byte = if random.once_in(4) { random.next() as u8 } else { random.pick(b"\"\"\",,\r\n\n\r-0019 \x00") };
+/// The bytes that matter in a table's text.
+const BYTES: &[u8] = b"\"\"\",,\r\n\n\r-0019 \x00";
+
+/// One change to the bytes of a text: new ones are most often some of these.
+pub fn damage_bytes(random: &mut Random, text: &mut Vec<u8>, bytes: &[u8]) {
+    let byte = if random.once_in(4) { random.next() as u8 } else { random.pick(bytes) };
     let at = random.below(text.len() + 1);
     match random.below(7) {
         0 | 1 if at < text.len() => text[at] = byte,
@@ -324,7 +327,7 @@ fn near_limit(random: &mut Random, table: Table) -> Case {
     }
     let mut text = join(&rows, &ends);
     if random.once_in(4) {
-        damage_bytes(random, &mut text);
+        damage_bytes(random, &mut text, BYTES);
     }
     Case { table, text, header_row: !random.once_in(8), lengths: [table.most() + random.below(3); 5] }
 }
@@ -358,7 +361,7 @@ pub fn case(random: &mut Random, table: Table) -> Case {
     let mut text = join(&records, &ends);
     if kind >= 8 || random.once_in(20) {
         for _ in 0..random.pick(&[1, 1, 1, 2, 4]) {
-            damage_bytes(random, &mut text);
+            damage_bytes(random, &mut text, BYTES);
         }
     }
     // the setting may be wrong for the text
