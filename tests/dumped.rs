@@ -7,10 +7,15 @@ use crate::graphs::Tables;
 use crate::named;
 use crate::random::Random;
 use crate::reference;
-use crate::{shorter, show_tables, show_text, Score, VCD};
+use crate::{shorter, show_tables, show_text, Score, TALLY, VCD};
 
 /// What is tried with values that are written.
-pub const TRIED: [&str; 4] = ["values read back", "no place for the last value", "a walk read back and tallied", "a walk that has an edge to itself"];
+pub const TRIED: [&str; 4] = [
+    "values read back",
+    "433 for the last value",
+    "an accepted walk read back and tallied",
+    "431 for an accepted walk, since a block names itself",
+];
 const VALUES: usize = 0;
 const NO_PLACE: usize = 1;
 const WALK: usize = 2;
@@ -141,7 +146,8 @@ pub fn any(bench: &mut Bench, score: &mut Score, random: &mut Random, tables: &T
     if text.len() <= dumps::MOST_BYTES {
         let places = values.len() + random.pick(&[0, 0, 1, 20]);
         let dump = Dump { text, code, places };
-        score.read_back[VALUES] += u64::from(vcd(bench, score, &plain, &dump, |answer| answer.as_ref().is_ok_and(|changes| changes.values == values)));
+        let is_written = |answer: &Answer| answer.as_ref().is_ok_and(|changes| changes.values == values);
+        score.read_back[VALUES] += u64::from(vcd(bench, score, &plain, &dump, is_written));
         if !values.is_empty() {
             let short = Dump { places: values.len() - 1, ..dump };
             let is_short = |answer: &Answer| answer.as_ref().is_err_and(|(refusal, _)| refusal.number == 433);
@@ -169,6 +175,6 @@ pub fn walk(bench: &mut Bench, score: &mut Score, random: &mut Random, tables: &
         let tallied = bench.tally(tables, list, [tables.loops.parent.len(); 2]).map(|(reply, _)| reply);
         let outcome = tallied.and_then(|reply| if reply.number == 0 { Ok(reply) } else { Err(format!("{reply:?}, where the walk is accepted")) });
         score.read_back[WALK] += u64::from(outcome.is_ok());
-        score.count(crate::TALLY, outcome, || format!("{}\n  walk {list:?}", show_tables(tables)));
+        score.count(TALLY, outcome, || format!("{}\n  walk {list:?}", show_tables(tables)));
     }
 }

@@ -20,14 +20,15 @@ const WORDS: [&[u8]; 34] = [
     b"wire", b"16", b"!", b"[15:0]", b"ns",
 ];
 /// Values of changes that the syntax does not allow, or not for the named vector.
-const WRONG_VALUES: [&[u8]; 22] = [
-    b"b", b"B", b"b2", b"b1_0", b"b-1", b"b+1", b"b 1", b"b1\x00", b"bx", b"BZ", b"b1X0", b"b0z", b"b1111111111111111", b"b01111111111111111",
+const WRONG_VALUES: [&[u8]; 21] = [
+    b"b", b"B", b"b2", b"b1_0", b"b-1", b"b+1", b"b1\x00", b"bx", b"BZ", b"b1X0", b"b0z", b"b1111111111111111", b"b01111111111111111",
     b"b10000000000000000", b"B100000000000000000000000000000001", b"b10000000000000000000000000000000000000000000000000000000000000001", b"r1", b"R",
     b"r\xff", b"1", b"c1",
 ];
+/// Words that are wrong in most places.
 const ODD_WORDS: [&[u8]; 26] = [
-    b"$end", b"$end", b"$end", b"$end", b"$enddefinitions", b"$enddefinitions", b"$comment", b"$var", b"$dumpall", b"$dumpoff", b"$dumpports", b"$vcdclose",
-    b"$END", b"#", b"#1", b"#1x", b"#-1", b"0", b"0$end", b"x!", b"b1", b"r", b"\x7f", b"\x80!", b"!\x0b", b"\xff",
+    b"$end", b"$end", b"$end", b"$end", b"$enddefinitions", b"$enddefinitions", b"$comment", b"$var", b"$dumpall", b"$dumpoff", b"$dumpports",
+    b"$vcdclose", b"$END", b"#", b"#1", b"#1x", b"#-1", b"0", b"0$end", b"x!", b"b1", b"r", b"\x7f", b"\x80!", b"!\x0b", b"\xff",
 ];
 /// The bytes that matter in a recording's text.
 const BYTES: &[u8] = b"  \t\r\n\x0b\x0c\x00\x7f!#$$01bBxXzZrRden";
@@ -261,7 +262,8 @@ fn damage_words(random: &mut Random, code: &[u8], words: &mut Vec<Word>) {
         9 => words.insert(at, [&[random.pick(b"01xXzZ")], code].concat()),
         _ => {
             // a wrong change of the vector, where the text has changes of it or between any two words
-            let changed: Vec<usize> = (1..words.len()).filter(|k| words[*k] == code && words[k - 1].first().is_some_and(|byte| b"bB".contains(byte))).collect();
+            let is_vector = |word: &Word| word.first().is_some_and(|byte| b"bB".contains(byte));
+            let changed: Vec<usize> = (1..words.len()).filter(|k| words[*k] == code && is_vector(&words[k - 1])).collect();
             let at = if changed.is_empty() { at } else { random.pick(&changed) + 1 };
             words.splice(at..at, [random.pick(&WRONG_VALUES).to_vec(), code.to_vec()]);
         }

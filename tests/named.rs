@@ -152,6 +152,7 @@ pub fn all(score: &mut Score) {
     dumped(&mut tester);
     dumped_codes(&mut tester);
     dumped_order(&mut tester);
+    dumped_tables(&mut tester);
     dumped_sizes(&mut tester);
     dumped_small_texts(&mut tester);
 }
@@ -1826,7 +1827,8 @@ const UNDUMPED: &[(&str, &str)] = &[
 const DEFINED: &[(&str, &str, &[u16])] = &[
     ("$var without a name", "$var wire 16 ! $end $enddefinitions $end b1 !", &[1]),
     ("blanks before", "\n\t $var wire 16 ! $end $enddefinitions $end b1 !", &[1]),
-    ("all declarations", "$date x $end $version $end $timescale 1 ns $end $scope module top $end $var reg 16 ! $end $upscope $end $comment $end $enddefinitions $end b1 !", &[1]),
+    ("scopes", "$timescale 1 ns $end $scope module top $end $var reg 16 ! $end $upscope $end $enddefinitions $end b1 !", &[1]),
+    ("the other declarations", "$date x $end $version $end $comment $end $var reg 16 ! $end $enddefinitions $end b1 !", &[1]),
     ("unbalanced scopes", "$upscope $end $var wire 16 ! $end $scope $end $scope $end $enddefinitions $end", &[]),
     ("a code declared twice", "$var wire 16 ! $end $var real 1 ! x $end $enddefinitions $end b1 !", &[1]),
     ("the code after others", "$var wire 16 \" $end $var wire 16 !! $end $var wire 1 ! $end $enddefinitions $end b1 !", &[1]),
@@ -1919,8 +1921,9 @@ fn dumped(t: &mut Tester) {
 /// Codes of all kinds: what a text declares is read, and no text can declare some.
 fn dumped_codes(t: &mut Tester) {
     let long = "!".repeat(20_000);
-    let codes = ["\"", "~", "!!", "!\"", "0", "b", "b1", "r", "#", "#1", "$", "$en", "$endx", "x$end", "$END", "$var", "$comment", "$enddefinitions", "$dumpvars"];
-    for code in codes.into_iter().chain([&long[..]]) {
+    let short = ["\"", "~", "!!", "!\"", "0", "b", "b1", "r", "#", "#1", "$", "$en", "$endx", "x$end", "$END"];
+    let keywords = ["$var", "$comment", "$enddefinitions", "$dumpvars"];
+    for code in short.into_iter().chain(keywords).chain([&long[..]]) {
         let text = format!("$var wire 16 {code} $end $enddefinitions $end b1 {code} b10 !x b11 {code}");
         t.vcd(&format!("dumped: the code {code}"), &straight(2), &Dump { code: code.into(), ..dump(text, 9) }, Ok(&[1, 3]));
     }
@@ -1939,7 +1942,7 @@ fn dumped_codes(t: &mut Tester) {
     }
 }
 
-/// Which refusal comes first: 201 to 207, 431, 101, and of 432 and 433 the one at the lowest byte.
+/// Of 432 and 433 the one at the lowest byte.
 fn dumped_order(t: &mut Tester) {
     // the mark is at 433, where the buffer has so many places
     let full: &[(&str, &str, usize)] = &[
@@ -1970,32 +1973,59 @@ fn dumped_order(t: &mut Tester) {
         let (text, place) = marked_text(&format!("{DECLARED}{commands}"));
         t.vcd(&format!("dumped: {name}"), &straight(2), &dump(text, *places), Err((432, place)));
     }
+}
+
+/// 201 to 207, then 431, then 101, whatever the text has. 208 and 209 are not asked.
+fn dumped_tables(t: &mut Tester) {
     let good = format!("{DECLARED}b1 !");
     let long = padded(&good, MOST_BYTES + 1);
-    let texts = [("a good text", &good[..], 1), ("no place", &good[..], 0), ("a word that is not allowed", "x", 1), ("a text that is too long", &long[..], 1)];
-    let both = [(1, "first"), (2, "second")].map(|(u, name)| (name, { let mut x = free(4, ways("0123"), &[]); (u..3).for_each(|v| x.blocks.second[v] = v as u16); x }, u));
+    let texts = [("a good text", &good[..], 1), ("no place", &good, 0), ("a word that is not allowed", "x", 1), ("a text that is too long", &long, 1)];
+    let itself = [
+        ("each of blocks 1 and 2", "011223", &[][..], 1),
+        ("block 2", "0122 23", &[], 2),
+        ("a header", "01123", &[(0, 1, &[][..])], 1),
+        ("an unreachable block", "03 122", &[], 2),
+        ("block 1 by its second edge", "0121 11 23", &[(0, 1, &[2])], 1),
+    ];
     for (text_name, text, places) in texts {
         for (name, tables, number, place) in broken_tables() {
             t.vcd(&format!("dumped: {name}, {text_name}"), &tables, &dump(text, places), Err((number, place)));
         }
-        for (name, tables, place) in &both {
-            t.vcd(&format!("dumped: the {name} block names itself, {text_name}"), tables, &dump(text, places), Err((431, *place as u32)));
-        }
-        for (rows, loops, place) in [("0112", &[(0, 1, &[][..])][..], 1), ("0122 23", &[(0, 2, &[])], 2), ("03 11 123", &[], 1)] {
-            let tables = free(4, ways(rows), loops);
-            t.vcd(&format!("dumped: a block names itself in {rows}, {text_name}"), &tables, &dump(text, places), Err((431, place)));
+        for (name, rows, loops, place) in itself {
+            let name = format!("dumped: {name} names itself, {text_name}");
+            t.vcd(&name, &free(4, ways(rows), loops), &dump(text, places), Err((431, place)));
         }
     }
     for (name, text, places) in [("a good text", "", 1), ("no place", "", 0), ("a word that is not allowed", "x", 1)] {
         let text = padded(&format!("{text}{good}"), MOST_BYTES + 1);
         t.vcd(&format!("dumped: {name}, too long"), &straight(2), &dump(text, places), Err((101, 0)));
     }
-    // 208 and 209 are not asked
     let rounds: &[u16] = &[0, 1, 2, 1, 2, 3];
     let text = format!("{DECLARED}{}", rounds.iter().map(|block| format!("b{block:b} ! ")).collect::<String>());
     t.vcd("dumped: where 209 is not kept", &free(4, ways("0121 23"), &[]), &dump(&text[..], 6), Ok(rounds));
     t.vcd("dumped: where 208 is not kept", &a(|x| x.blocks.figure[0] = 27), &dump(&text[..], 6), Ok(rounds));
 }
+
+/// The longest words and the most of them: what stands in the middle is repeated up to the limit. Then the values, or 432 at the mark ^.
+const LONGEST: &[(&str, &str, &str, &str, Result<&[u16], ()>)] = &[
+    ("blanks", "$var 0 0 ! $end $enddefinitions $end", " ", "", Ok(&[])),
+    ("zeros", "$var 0 0 ! $end $enddefinitions $end b", "0", "101 !", Ok(&[5])),
+    ("digits of a time", "$var 0 0 ! $end $enddefinitions $end #", "9", " b1 !", Ok(&[1])),
+    ("a comment", "$comment ", "x", " $end $var 0 0 ! $end $enddefinitions $end b1 !", Ok(&[1])),
+    ("a comment of short words", "$var 0 0 ! $end $enddefinitions $end $comment", " x", " $end b1 !", Ok(&[1])),
+    ("a real", "$var 0 0 ! $end $enddefinitions $end r", "1", " \" b1 !", Ok(&[1])),
+    ("a vector of another code", "$var 0 0 ! $end $enddefinitions $end b", "x", " \" b1 !", Ok(&[1])),
+    ("another code", "$var 0 0 ! $end $enddefinitions $end b1 ", "!", " b1 !", Ok(&[1])),
+    ("a name", "$var 0 0 ! ", "n", " $end $enddefinitions $end b1 !", Ok(&[1])),
+    ("scalars", "$var 0 0 ! $end $enddefinitions $end", " 0\"", "  b1 !", Ok(&[1])),
+    ("a value at the end", "$var 0 0 ! $end $enddefinitions $end", " ", "b1 !", Ok(&[1])),
+    ("a number that is too large", "$var 0 0 ! $end $enddefinitions $end ^b", "1", " !", Err(())),
+    ("letters after b", "$var 0 0 ! $end $enddefinitions $end ^", "b", "", Err(())),
+    ("a comment without an end", "$var 0 0 ! $end $enddefinitions $end $comment ", "x", "^", Err(())),
+    ("a missing code", "$var 0 0 ! $end $enddefinitions $end", "\n", "b1^", Err(())),
+    ("a wrong word at the end", "$var 0 0 ! $end $enddefinitions $end", "\t", "^x", Err(())),
+    ("one word", "^", "$", "", Err(())),
+];
 
 /// Texts at the limit of their length, with the most values and the longest words.
 fn dumped_sizes(t: &mut Tester) {
@@ -2015,27 +2045,7 @@ fn dumped_sizes(t: &mut Tester) {
     t.vcd("dumped: one value written 13,000 times", &tables, &dump(text.replace("b0", "b1"), 1), Ok(&[1]));
     let wide = format!("{DECLARED}{}", (0..4000).map(|k| format!("b{:b} !\n", 32_768 + k)).collect::<String>());
     t.vcd("dumped: 4,000 wide values are too long", &tables, &dump(wide, 13_107), Err((101, 0)));
-    // the longest words, and the most of them: what stands in the middle is repeated up to the limit
-    let cases: &[(&str, &str, &str, &str, Result<&[u16], ()>)] = &[
-        ("blanks", "$var 0 0 ! $end $enddefinitions $end", " ", "", Ok(&[])),
-        ("zeros", "$var 0 0 ! $end $enddefinitions $end b", "0", "101 !", Ok(&[5])),
-        ("digits of a time", "$var 0 0 ! $end $enddefinitions $end #", "9", " b1 !", Ok(&[1])),
-        ("a comment", "$comment ", "x", " $end $var 0 0 ! $end $enddefinitions $end b1 !", Ok(&[1])),
-        ("a comment of short words", "$var 0 0 ! $end $enddefinitions $end $comment", " x", " $end b1 !", Ok(&[1])),
-        ("a real", "$var 0 0 ! $end $enddefinitions $end r", "1", " \" b1 !", Ok(&[1])),
-        ("a vector of another code", "$var 0 0 ! $end $enddefinitions $end b", "x", " \" b1 !", Ok(&[1])),
-        ("another code", "$var 0 0 ! $end $enddefinitions $end b1 ", "!", " b1 !", Ok(&[1])),
-        ("a name", "$var 0 0 ! ", "n", " $end $enddefinitions $end b1 !", Ok(&[1])),
-        ("scalars", "$var 0 0 ! $end $enddefinitions $end", " 0\"", "  b1 !", Ok(&[1])),
-        ("a value at the end", "$var 0 0 ! $end $enddefinitions $end", " ", "b1 !", Ok(&[1])),
-        ("a number that is too large", "$var 0 0 ! $end $enddefinitions $end ^b", "1", " !", Err(())),
-        ("letters after b", "$var 0 0 ! $end $enddefinitions $end ^", "b", "", Err(())),
-        ("a comment without an end", "$var 0 0 ! $end $enddefinitions $end $comment ", "x", "^", Err(())),
-        ("a missing code", "$var 0 0 ! $end $enddefinitions $end", "\n", "b1^", Err(())),
-        ("a wrong word at the end", "$var 0 0 ! $end $enddefinitions $end", "\t", "^x", Err(())),
-        ("one word", "^", "$", "", Err(())),
-    ];
-    for (name, before, middle, after, wanted) in cases {
+    for (name, before, middle, after, wanted) in LONGEST {
         let marks = usize::from(wanted.is_err());
         let repeated: String = middle.chars().cycle().take(MOST_BYTES + marks - before.len() - after.len()).collect();
         let text = format!("{before}{repeated}{after}");

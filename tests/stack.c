@@ -12,6 +12,7 @@
 #include <inttypes.h>
 #include <stdio.h>
 #include <stdlib.h>
+#include <string.h>
 #include <sys/mman.h>
 #include <sys/wait.h>
 #include <ucontext.h>
@@ -23,8 +24,9 @@
 #define FIELD ROLKEYDA_MOST_FIELD_BYTES
 #define LENGTH ROLKEYDA_LONGEST_WALK
 
-/* The most that a reader may take, and the least headroom: a frame may reserve more than these inputs use. */
+/* The most that a reader of tables and the reader of recordings may take, and the least headroom: a frame may reserve more than these inputs use. */
 #define MOST_READER 40960u
+#define MOST_VCD 49152u
 #define HEADROOM 512u
 /* The stack of a measurement, its paint, and the guard below every stack. */
 #define LARGE (1u << 20)
@@ -33,6 +35,7 @@
 
 _Static_assert(ROLKEYDA_STACK_READ_BLOCKS <= MOST_READER, "a reader takes at most 40 KiB");
 _Static_assert(ROLKEYDA_STACK_READ_LOOPS <= MOST_READER, "a reader takes at most 40 KiB");
+_Static_assert(ROLKEYDA_STACK_VCD <= MOST_VCD, "the reader of recordings takes at most 48 KiB");
 
 /* The line ends of texts, each with what a reader says where record 1 ends in it; and the one that is in use. */
 static const struct line_end {
@@ -57,6 +60,10 @@ static uint32_t stays[LOOPS + 1], greatest[LOOPS + 1];
 static size_t stays_length, greatest_length;
 static uint8_t program[ROLKEYDA_MPS_MOST];
 static size_t program_length;
+static uint8_t code[BYTES];
+static size_t code_length;
+static uint16_t changed[ROLKEYDA_VCD_MOST];
+static size_t changed_length;
 static rolkeyda_reply reply;
 
 static void read_blocks(void)
@@ -96,6 +103,12 @@ static void tally(void)
         stays, stays_length, greatest, greatest_length);
 }
 
+static void vcd(void)
+{
+    reply = rolkeyda_vcd(cost, n, loops, n, first, n, second, n, figure, n, parent, m, header, m, limit, m, multiplier, m,
+        (const uint8_t *)text, text_length, code, code_length, changed, changed_length);
+}
+
 struct function {
     const char *name;
     void (*call)(void);
@@ -112,8 +125,9 @@ static struct function functions[] = {
     {"rolkeyda_solve", solve, ROLKEYDA_STACK_SOLVE, 0, 0},
     {"rolkeyda_mps", mps, ROLKEYDA_STACK_MPS, 0, 0},
     {"rolkeyda_tally", tally, ROLKEYDA_STACK_TALLY, 0, 0},
+    {"rolkeyda_vcd", vcd, ROLKEYDA_STACK_VCD, 0, 0},
 };
-enum { READ_BLOCKS, READ_LOOPS, CHECK, WALK, SOLVE, MPS, TALLY };
+enum { READ_BLOCKS, READ_LOOPS, CHECK, WALK, SOLVE, MPS, TALLY, VCD };
 
 /* What a process of a call hands back: the reply, and the stack of a first call and of the next. */
 static struct outcome {
@@ -469,10 +483,10 @@ static int64_t mps_bytes(void)
     return bytes;
 }
 
-/* Tables that are accepted: the reply is the bound, or the length of the text. */
+/* Tables that are accepted: the reply is the bound, the length of the text, or the count of values, for which the buffer has just enough places. */
 static void good_tables(int which, const char *name, int64_t bound)
 {
-    accepted(which, name, which == MPS ? mps_bytes() : bound, 0);
+    accepted(which, name, which == MPS ? mps_bytes() : which == VCD ? (int64_t)changed_length : bound, 0);
 }
 
 /* The largest tables, and with each of 201 to 207 broken at the last place where it can be. */
@@ -761,6 +775,91 @@ static void programs(void)
     refused(MPS, "no buffer", 411, 0);
 }
 
+#define DECLARED "$var 0 0 ! $end $enddefinitions $end"
+
+/* A recording of the vector '!' that is as long as can be: one part again and again, then its end. Gives the count of these parts. */
+static size_t longest_recording(const char *before, const char *part, const char *end)
+{
+    size_t count = 0;
+    code[0] = '!';
+    code_length = 1;
+    changed_length = ROLKEYDA_VCD_MOST;
+    text_length = 0;
+    add(before);
+    while (text_length + strlen(part) + strlen(end) <= BYTES) {
+        add(part);
+        count++;
+    }
+    add(end);
+    return count;
+}
+
+/* The same with two values by turns, and a place for each. */
+static void most_values(const char *before, const char *end)
+{
+    changed_length = 2 * longest_recording(before, " b0 ! b1 !", end);
+}
+
+/* The longest texts that are read. */
+static void read_recordings(void)
+{
+    most_values(DECLARED, "");
+    structures(VCD);
+    largest_tables();
+    accepted(VCD, "the most values", (int64_t)changed_length, 0);
+    most_values(DECLARED " $dumpvars", " $end");
+    accepted(VCD, "the most values in a dump", (int64_t)changed_length, 0);
+    longest_recording(DECLARED, " b1 !", "");
+    accepted(VCD, "one value again and again", 1, 0);
+    longest_recording(DECLARED " b", "0", "1 !");
+    accepted(VCD, "the longest number", 1, 0);
+    longest_recording(DECLARED " $comment", " $", " $end b1 !");
+    accepted(VCD, "the longest comment", 1, 0);
+    longest_recording(DECLARED, " #1 $dumpon 0\" r \" bx \" $end $comment $end", " b1 !");
+    accepted(VCD, "commands of all kinds", 1, 0);
+    longest_recording("", "$var 0 0 ! $end ", "$enddefinitions $end b1 !");
+    accepted(VCD, "the most declarations", 1, 0);
+    longest_recording("$var 0 0 ", "!", " $end $enddefinitions $end");
+    code_length = 0;
+    while (code_length < text_length && text[9 + code_length] == '!')
+        code[code_length++] = '!';
+    accepted(VCD, "the longest code", 0, 0);
+}
+
+static void refused_recordings(void)
+{
+    const uint32_t length = BYTES;
+    largest_tables();
+    most_values(DECLARED, "");
+    changed_length--;
+    refused(VCD, "a buffer that is one place short", 433, length - 4);
+    changed_length = 0;
+    refused(VCD, "no buffer", 433, sizeof DECLARED);
+    most_values(DECLARED, " x");
+    refused(VCD, "a wrong word after the most values", 432, (uint32_t)text_length - 1);
+    most_values(DECLARED, " bx !");
+    refused(VCD, "an x digit after the most values", 432, (uint32_t)text_length - 4);
+    most_values(DECLARED, " b1");
+    refused(VCD, "a value without a code after the most values", 432, (uint32_t)text_length);
+    most_values(DECLARED " $dumpall", "");
+    refused(VCD, "a dump without an end", 432, (uint32_t)text_length);
+    longest_recording("$var 0 0 ", "x", " $end $enddefinitions $end");
+    refused(VCD, "another code", 432, length - 20);
+    longest_recording(DECLARED " b", "1", " !");
+    refused(VCD, "too large a number", 432, sizeof DECLARED);
+    fill(' ', BYTES);
+    refused(VCD, "blanks", 432, length);
+    fill('$', BYTES);
+    refused(VCD, "one word", 432, 0);
+    fill(' ', BYTES + 1);
+    refused(VCD, "65,537 bytes", 101, 0);
+    second[BLOCKS - 2] = BLOCKS - 2;
+    refused(VCD, "65,537 bytes, and the last block but one names itself", 431, BLOCKS - 2);
+    fill(' ', 0);
+    largest_tables();
+    refused(VCD, "no text", 432, 0);
+}
+
 int main(void)
 {
     outcome = mmap(NULL, sizeof *outcome, PROT_READ | PROT_WRITE, MAP_SHARED | MAP_ANONYMOUS, -1, 0);
@@ -773,6 +872,8 @@ int main(void)
     solutions();
     programs();
     tallies();
+    read_recordings();
+    refused_recordings();
     for (size_t i = 0; i < sizeof functions / sizeof functions[0]; i++) {
         const struct function *function = &functions[i];
         printf("%-20s %6zu bytes of stack measured, %6zu at the first call, %6zu stated\n", function->name, function->again, function->first,
