@@ -1,6 +1,6 @@
 /*
- * Rolkeyda: the importer, the final checker, a solver, a writer of MPS and a tally of recordings for a worst-case execution time (WCET) analysis,
- * proved. For C11 and C++11.
+ * Rolkeyda: the importer, the final checker, a solver, a writer of MPS, a reader of VCD recordings and a tally of these, for a worst-case execution
+ * time (WCET) analysis, proved. For C11 and C++11.
  *
  * Every function takes any input, checks it and returns a rolkeyda_reply by value. No function allocates, keeps a pointer or fails in
  * another way. A column is a pointer to its first value and then its length, a count of values (of bytes for a text). A column or text that a
@@ -44,6 +44,9 @@ extern "C" {
 /* The greatest length of an MPS text: a buffer of so many bytes is proved to hold any, and some tables have a text of this length. */
 #define ROLKEYDA_MPS_MOST 250217u
 
+/* The most blocks that a VCD text can give, as a change takes five bytes of it: a buffer of so many blocks holds every recording. */
+#define ROLKEYDA_VCD_MOST 13107u
+
 /*
  * The stack that a call of each function needs, in bytes, with its arguments and some headroom. It includes what a dynamic linker takes at
  * the first call to bind memcpy and memset. Measured, not proved: tests/stack runs the largest and the most deeply quoted inputs on stacks
@@ -54,6 +57,7 @@ extern "C" {
 #define ROLKEYDA_STACK_CHECK 16384u
 #define ROLKEYDA_STACK_WALK 8192u
 #define ROLKEYDA_STACK_TALLY 8192u
+#define ROLKEYDA_STACK_VCD 49152u
 #define ROLKEYDA_STACK_SOLVE 81920u
 #define ROLKEYDA_STACK_MPS 16384u
 
@@ -62,10 +66,12 @@ extern "C" {
  *
  * number   0: accepted. Else the number of the first rule that is broken:
  *          101 to 106 and 108 for a text, 201 to 209 for a pair of tables, 301 to 303 and 311 to 314 for a walk, 401 to 403 for the solver,
- *          411 for an MPS text that does not fit, 421 for the columns of a tally. The rules for tables are checked in the order 201 to 207, 209, 208.
- * place    where: the record of a text (the first is 1), the block or loop of a table (0 for 201, 209, 402, 403, 411 and 421), the index in a
- *          walk. 0 when accepted.
- * value    when accepted: the count of rows, the bound, the cost, the length of the MPS text, or the steps of a walk that is tallied. Else 0.
+ *          411 for an MPS text that does not fit, 421 for the columns of a tally, 101 and 431 to 433 for a VCD recording. The rules for tables are
+ *          checked in the order 201 to 207, 209, 208.
+ * place    where: the record of a table's text (the first is 1), the block or loop of a table (0 for 201, 209, 402, 403, 411 and 421), the index in a
+ *          walk, the byte of a VCD text (the first is 0; for 431 the block). 0 when accepted, and for 101.
+ * value    when accepted: the count of rows, the bound, the cost, the length of the MPS text, the steps of a walk that is tallied, or the count of
+ *          blocks in a VCD recording. Else 0.
  * more     when a text is accepted: the line end of record 1, a header included (ROLKEYDA_CR_LF, ROLKEYDA_LF or ROLKEYDA_END_OF_TEXT).
  *          When rolkeyda_walk accepts: the walk's steps, the length less one. Else 0.
  */
@@ -164,6 +170,30 @@ rolkeyda_reply rolkeyda_tally(
     const uint16_t *blocks, size_t blocks_length,
     uint32_t *stays, size_t stays_length,
     uint32_t *greatest, size_t greatest_length);
+
+/*
+ * Reads a VCD text (value change dump, IEEE 1364, four-state syntax) into a walk, over tables that keep rules 201 to 207 (208 and 209 are not checked).
+ * `code` is the identifier code of the vector that has the block number: the third word after $var. Accepted: the first `value` places of `blocks` hold
+ * the changed values of that vector, the first included, in the order of the text, and later places keep their contents. They are not compared with the
+ * number of blocks: that is for rolkeyda_walk and rolkeyda_tally. A repeated value adds no block, so no block may have an edge to itself: 431 at the
+ * lowest that has one, after 207. Then 101 for a text over ROLKEYDA_MOST_TEXT_BYTES. 432 at a word that the syntax does not allow, at a change of the
+ * vector that is not in b or B form, has an x or z digit or is over 65,534 (the place is that of the value), at $enddefinitions where the code is not
+ * declared, and at the length of a text that ends too soon. 433 at a changed value for which there is no place; ROLKEYDA_VCD_MOST places are always
+ * enough. The lowest byte decides between 432 and 433, and 432 wins at one byte. Refused: `blocks` is not changed. Stack: ROLKEYDA_STACK_VCD.
+ */
+rolkeyda_reply rolkeyda_vcd(
+    const uint32_t *cost, size_t cost_length,
+    const uint16_t *loops, size_t loops_length,
+    const uint16_t *first, size_t first_length,
+    const uint16_t *second, size_t second_length,
+    const int64_t *figure, size_t figure_length,
+    const uint16_t *parent, size_t parent_length,
+    const uint16_t *header, size_t header_length,
+    const uint32_t *limit, size_t limit_length,
+    const uint64_t *multiplier, size_t multiplier_length,
+    const uint8_t *text, size_t text_length,
+    const uint8_t *code, size_t code_length,
+    uint16_t *blocks, size_t blocks_length);
 
 /*
  * Remakes the figures and the multipliers of a pair of tables that keep rules 201 to 207 and 209. The given ones must be in the ranges of 202 and
