@@ -4,27 +4,13 @@
  * input. For each loop there is a row: its stays, the greatest number of header visits in one stay, the limit in the table, and the limit to put in.
  * The exit status is 0 if the walk was tallied, 1 if something was refused, 2 where there is no reply.
  */
-#include "rolkeyda.h"
+#include "../tables.h"
 
 #include <ctype.h>
 #include <inttypes.h>
-#include <stdio.h>
-#include <stdlib.h>
 #include <string.h>
 
-static uint32_t cost[ROLKEYDA_MOST_BLOCKS];
-static uint16_t loops[ROLKEYDA_MOST_BLOCKS], first[ROLKEYDA_MOST_BLOCKS], second[ROLKEYDA_MOST_BLOCKS];
-static int64_t figure[ROLKEYDA_MOST_BLOCKS];
-
-static uint16_t parent[ROLKEYDA_MOST_LOOPS], header[ROLKEYDA_MOST_LOOPS];
-static uint32_t limit[ROLKEYDA_MOST_LOOPS];
-static uint64_t multiplier[ROLKEYDA_MOST_LOOPS];
-
-/* The rows that were read. Only these places of the columns are handed on. */
-static size_t n, m;
-
-/* A table and the walk. One byte and one block too many are read too: the library then says 101 and 301. */
-static uint8_t table[ROLKEYDA_MOST_TEXT_BYTES + 1];
+/* The walk. One block too many is read too: the library then says 301. */
 static uint16_t walk[ROLKEYDA_LONGEST_WALK + 1];
 
 /* What the tally fills. */
@@ -61,58 +47,17 @@ static const struct {
     {421, "a lent column has another length than the loop table"},
 };
 
-/* Ends the program where there is no reply. */
-static void stop(const char *what, const char *name)
-{
-    fprintf(stderr, "%s %s\n", what, name);
-    exit(2);
-}
-
 /* Gives the value of a reply that accepts; a refusal ends the program with the number, the place and what they mean. */
 static size_t accepted(const char *stage, rolkeyda_reply reply)
 {
     if (reply.number == 0)
         return (size_t)reply.value;
-    const char *text = "";
+    const char *meaning = "";
     for (size_t i = 0; i < sizeof meanings / sizeof meanings[0]; i++)
         if (meanings[i].number == reply.number)
-            text = meanings[i].text;
-    printf("refused %s %" PRIu32 " %" PRIu32 ": %s\n", stage, reply.number, reply.place, text);
+            meaning = meanings[i].text;
+    printf("refused %s %" PRIu32 " %" PRIu32 ": %s\n", stage, reply.number, reply.place, meaning);
     exit(1);
-}
-
-static FILE *open_in(const char *folder, const char *name)
-{
-    char path[4096];
-    int length = snprintf(path, sizeof path, "%s/%s", folder, name);
-    FILE *file = length > 0 && (size_t)length < sizeof path ? fopen(path, "rb") : NULL;
-    if (file == NULL)
-        stop("cannot open", name);
-    return file;
-}
-
-static size_t read_table(const char *folder, const char *name)
-{
-    FILE *file = open_in(folder, name);
-    size_t bytes = fread(table, 1, sizeof table, file);
-    if (ferror(file))
-        stop("cannot read", name);
-    fclose(file);
-    return bytes;
-}
-
-static void read_tables(const char *folder)
-{
-    size_t length = read_table(folder, "blocks.csv");
-    n = accepted("blocks", rolkeyda_read_blocks(
-        table, length, false,
-        cost, ROLKEYDA_MOST_BLOCKS, loops, ROLKEYDA_MOST_BLOCKS, first, ROLKEYDA_MOST_BLOCKS,
-        second, ROLKEYDA_MOST_BLOCKS, figure, ROLKEYDA_MOST_BLOCKS));
-    length = read_table(folder, "loops.csv");
-    m = accepted("loops", rolkeyda_read_loops(
-        table, length, false,
-        parent, ROLKEYDA_MOST_LOOPS, header, ROLKEYDA_MOST_LOOPS,
-        limit, ROLKEYDA_MOST_LOOPS, multiplier, ROLKEYDA_MOST_LOOPS));
 }
 
 /* Reads the walk and gives its length. A number over 65,534 is no block, and 65,535 can stand for it. */
@@ -151,12 +96,10 @@ static void print_row(size_t l)
 
 int main(int count, char **arguments)
 {
-    if (count != 2 && (count != 3 || strcmp(arguments[2], "-") != 0)) {
-        fprintf(stderr, "usage: limits FOLDER [-]\n");
-        return 2;
-    }
+    if (count != 2 && (count != 3 || strcmp(arguments[2], "-") != 0))
+        stop("usage: limits", "FOLDER [-]");
     read_tables(arguments[1]);
-    size_t length = read_walk(count == 3 ? stdin : open_in(arguments[1], "walk.txt"));
+    size_t length = read_walk(count == 3 ? stdin : open_file(in_folder(arguments[1], "walk.txt"), "rb"));
     rolkeyda_reply reply = rolkeyda_tally(
         cost, n, loops, n, first, n, second, n, figure, n,
         parent, m, header, m, limit, m, multiplier, m,
