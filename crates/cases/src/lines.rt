@@ -1,7 +1,7 @@
 // The fields of a case line, with a bar between them.
 use crate::parts::NONE;
-use crate::parts::part;
 use pieces::Digits;
+use pieces::part;
 use pieces::plus;
 use pieces::with_digit;
 

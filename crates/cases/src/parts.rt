@@ -1,4 +1,4 @@
-// Beginnings of columns, and of bytes any part.
+// Beginnings of columns and of bytes.
 ghost use Prim.Native.Nat.{_≤_};
 
 // No column is shorter than the others.
@@ -60,15 +60,4 @@ pub fn lent_i64(s: &mut [i64], room: usize, shorter: usize, c: usize) -> &mut [i
 pub fn lent_u8(s: &mut [u8], room: usize) -> &mut [u8] {
     let k = room_of(s.len(), room, NONE, 0);
     &mut s[0..k]
-}
-
-// The bytes from a on and below b, none where there are not so many.
-pub fn part(s: &[u8], a: usize, b: usize) -> &[u8] {
-    if b > s.len() {
-        return &s[0..0];
-    }
-    if a > b {
-        return &s[0..0];
-    }
-    &s[a..b]
 }

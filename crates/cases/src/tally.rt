@@ -1,9 +1,9 @@
 // What the cases gave: a line for each, and how many were wrong.
-use crate::parts::part;
 use libc::STDOUT_FILENO;
 use pieces::Verdict;
 use pieces::from_u32;
 use pieces::from_u64;
+use pieces::part;
 use pieces::push;
 use pieces::push_number;
 use pieces::push_signed;

@@ -1,5 +1,5 @@
-// What the second checker and the cases are both written with: replies, elements of columns as numbers of one width, digits, and bytes put into a
-// buffer. An index with no element reads 0, and writing there does nothing.
+// What the second checker, its reader of dumps and the cases are written with: replies, elements of columns as numbers of one width, parts of texts,
+// digits, and bytes put into a buffer. An index with no element reads 0, and writing there does nothing.
 
 // The rows that are read from a text: 7 numbers for each of 1,026 rows.
 pub type RowCells = [usize; 7182];
@@ -102,6 +102,17 @@ pub fn i64_at(a: &[i64], i: usize) -> i64 {
         return a[i];
     }
     0
+}
+
+// The bytes from a on and below b, none where there are not so many.
+pub fn part(s: &[u8], a: usize, b: usize) -> &[u8] {
+    if b > s.len() {
+        return &s[0..0];
+    }
+    if a > b {
+        return &s[0..0];
+    }
+    &s[a..b]
 }
 
 pub fn put_u8(a: &mut [u8], i: usize, v: u8) {

@@ -1,4 +1,4 @@
-// The rules 201 to 209 and the bound, written from documents 01 and 02 apart from the library: one rule after the other, one place after the
+// The rules 201 to 209 and 431, and the bound, written from documents 01 and 02 apart from the library: one rule after the other, one place after the
 // other, one edge at a time, and whether a block is inside a loop found by following parents.
 use pieces::MISSING;
 use pieces::Verdict;
@@ -222,6 +222,9 @@ fn edge_broken(
     if rule == 207 {
         return passes_header(b, l, m, u, v);
     }
+    if rule == 431 {
+        return u == v;
+    }
     inequality_broken(b, l, m, u, v)
 }
 
@@ -307,13 +310,21 @@ fn rule_at(i: u32) -> u32 {
     if i == 6 { 209 } else { 208 }
 }
 
+// The refusal by one rule; number 0 where it is kept.
+pub fn refusal_by(rule: u32, b: &BlockCells, l: &LoopCells, n: usize, m: usize) -> Verdict {
+    let place = first_broken(rule, b, l, n, m, places_of(rule, n, m));
+    if place < 2000 {
+        return refused(rule, place);
+    }
+    accepted(0, 0)
+}
+
 // The first broken one of the first `count` rules after 201; number 0 where none is.
 pub fn first_refusal(b: &BlockCells, l: &LoopCells, n: usize, m: usize, count: u32) -> Verdict {
     for i in 0..count {
-        let rule = rule_at(i);
-        let place = first_broken(rule, b, l, n, m, places_of(rule, n, m));
-        if place < 2000 {
-            return refused(rule, place);
+        let refusal = refusal_by(rule_at(i), b, l, n, m);
+        if refusal.number != 0 {
+            return refusal;
         }
     }
     accepted(0, 0)

@@ -10,12 +10,20 @@ use crate::rules::inside;
 use crate::rules::is_exit;
 use crate::rules::of_block;
 use crate::rules::of_loop;
+use crate::rules::refusal_by;
 use pieces::Verdict;
 use pieces::accepted;
 use pieces::impossible;
 use pieces::plus;
 use pieces::refused;
 use pieces::u16_at;
+
+// What the reply is to: a pair of tables, a walk over it, or what these must keep for a value change dump.
+pub const TABLES: u8 = 0;
+
+pub const WALK: u8 = 1;
+
+pub const DUMP: u8 = 2;
 
 // The count of loop k after the edge from u to v.
 fn counted(b: &BlockCells, l: &LoopCells, k: usize, u: usize, v: usize, count: usize) -> usize {
@@ -129,26 +137,23 @@ fn follow(b: &BlockCells, l: &LoopCells, n: usize, m: usize, blocks: &[u16]) -> 
     finish(n, blocks, sum)
 }
 
-fn judged(
-    b: &BlockCells,
-    l: &LoopCells,
-    n: usize,
-    m: usize,
-    walked: bool,
-    steps: &[u16],
-) -> Verdict {
-    let refusal = first_refusal(b, l, n, m, if walked { FOR_WALKS } else { FOR_TABLES });
+fn judged(b: &BlockCells, l: &LoopCells, n: usize, m: usize, to: u8, steps: &[u16]) -> Verdict {
+    let count = if to == TABLES { FOR_TABLES } else { FOR_WALKS };
+    let refusal = first_refusal(b, l, n, m, count);
     if refusal.number != 0 {
         return refusal;
     }
-    if walked {
-        follow(b, l, n, m, steps)
+    if to == WALK {
+        return follow(b, l, n, m, steps);
+    }
+    if to == DUMP {
+        refusal_by(431, b, l, n, m)
     } else {
         bound(b, n)
     }
 }
 
-// The reply to a pair of tables, or to a walk over it.
+// The reply to a pair of tables, or to a walk over it; for a dump the tables' first refusal, number 0 where there is none.
 pub fn reply(
     cost: &[u32],
     inner: &[u16],
@@ -159,7 +164,7 @@ pub fn reply(
     header: &[u16],
     limit: &[u32],
     multiplier: &[u64],
-    walked: bool,
+    to: u8,
     steps: &[u16],
 ) -> Verdict {
     let mut b = [0usize; 5125];
@@ -180,5 +185,5 @@ pub fn reply(
     if !fit {
         return refused(201, 0);
     }
-    judged(&b, &l, cost.len(), parent.len(), walked, steps)
+    judged(&b, &l, cost.len(), parent.len(), to, steps)
 }

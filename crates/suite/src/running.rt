@@ -31,11 +31,11 @@ use cases::parts::lent_u8;
 use cases::parts::lent_u16;
 use cases::parts::lent_u32;
 use cases::parts::lent_u64;
-use cases::parts::part;
 use cases::tally::Answers;
 use cases::tally::of_columns;
 use pieces::Verdict;
 use pieces::count_of;
+use pieces::part;
 use replies::Reply;
 use second::reading;
 use second::recording;
@@ -166,7 +166,7 @@ fn check_replies(
         header,
         limit,
         multiplier,
-        false,
+        stepping::TABLES,
         &no_walk,
     );
     let got = rolkeyda::rolkeyda_check(
@@ -206,7 +206,7 @@ fn walk_replies(
         header,
         limit,
         multiplier,
-        true,
+        stepping::WALK,
         steps,
     );
     let got = rolkeyda::rolkeyda_walk(

@@ -11,9 +11,9 @@ use cases::making::make_text;
 use cases::making::make_walk;
 use cases::parts::NONE;
 use cases::parts::first_u16;
-use cases::parts::part;
 use cases::tally::Answers;
 use cases::tally::Tally;
+use pieces::part;
 
 // The cases.
 pub type Cases = [u8; 131072];

@@ -15,14 +15,8 @@ loop-holds c = search needs
 rule-at-requires : tie.Need-rule-at-requires Inv-loop μ-loop
 rule-at-requires c κs = search needs
 
-places-of-requires : tie.Need-places-of-requires Inv-loop μ-loop
-places-of-requires c κs = search needs
-
-first-broken-requires : tie.Need-first-broken-requires Inv-loop μ-loop
-first-broken-requires c κs = search needs
-
-refused-requires : tie.Need-refused-requires Inv-loop μ-loop
-refused-requires c κs = search needs
+refusal-by-requires : tie.Need-refusal-by-requires Inv-loop μ-loop
+refusal-by-requires c κs = search needs
 
 returns : tie.Need-returns Inv-loop μ-loop
 returns c = search needs
@@ -50,9 +44,7 @@ first-refusal-spec =
     μ-loop
     loop-holds
     rule-at-requires
-    places-of-requires
-    first-broken-requires
-    refused-requires
+    refusal-by-requires
     returns
     add-i
     loop-less
