@@ -3,10 +3,12 @@ use crate::lines::field;
 use crate::lines::first_byte;
 use crate::lines::rest;
 use crate::lines::room_in;
+use crate::making::make_steps;
 use crate::making::make_text;
 use crate::making::push_columns;
 use crate::making::push_tallies;
 use crate::parts::NONE;
+use crate::parts::first_u16;
 use crate::parts::first_u32;
 use crate::parts::room_of;
 use crate::tally::Answers;
@@ -23,12 +25,16 @@ use pieces::refused;
 use pieces::row_cell;
 use pieces::same;
 use pieces::signed;
+use pieces::u16_at;
 
 // What stands in the columns before a text is read, and in a buffer before one is written.
 pub const OLD_U8: u8 = 170;
 
 // The room of a column that a recording fills.
 pub type Counts = [u32; 66];
+
+// The room of a buffer that a dump is read into: a text has at most 13,100 changed values.
+pub type Blocks = [u16; 13120];
 
 pub const OLD_U16: u16 = 43690;
 
@@ -264,4 +270,32 @@ pub fn compared(
         checked,
         bytes_kept(buffer, text) & is_wanted(line, text),
     )
+}
+
+// The block that must stand at a place of the buffer: one that the line wants, or the other reader's where it wants none; the old one behind them.
+fn due_block(i: usize, count: usize, wanted: &[u16], other: u16) -> usize {
+    if i >= count {
+        return from_u16(OLD_U16);
+    }
+    if wanted.len() == 0 {
+        return from_u16(other);
+    }
+    u16_at(wanted, i)
+}
+
+fn filled(buffer: &Blocks, other: &Blocks, count: usize, wanted: &[u16]) -> bool {
+    let mut kept = true;
+    for i in 0..13120 {
+        kept = kept & (from_u16(buffer[i]) == due_block(i, count, wanted, other[i]));
+    }
+    kept
+}
+
+// Whether the library and the second reader both filled so many places of their buffers, alike and as a line wants, and no other place.
+pub fn walk_kept(line: &[u8], count: usize, got: &Blocks, checked: &Blocks) -> bool {
+    let mut steps = [0u16; 512];
+    let k = make_steps(field(line, 8), &mut steps);
+    let wanted = first_u16(&steps, k, NONE, 0);
+    let counted = (k == 0) | (k == count);
+    counted & filled(got, checked, count, wanted) & filled(checked, got, count, wanted)
 }

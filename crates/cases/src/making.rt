@@ -67,9 +67,10 @@ pub fn push_columns(text: &mut [u8], figure: &[i64], multiplier: &[u64]) -> usiz
 }
 
 // Whether a letter stands for rows: R for rows that say nothing but their number, W for wide ones, which have about as many bytes as a row can
-// have, both with CR LF; r and w with LF; T for three rows each, a tower.
+// have, both with CR LF; r and w with LF; T for three rows each, a tower; C for changes of a vector.
 fn is_rows(what: u8) -> bool {
-    (what == b'R') | (what == b'W') | (what == b'r') | (what == b'w') | (what == b'T')
+    let of_tables = (what == b'R') | (what == b'W') | (what == b'r') | (what == b'w');
+    of_tables | (what == b'T') | (what == b'C')
 }
 
 // A byte of a row in which a, b, c and d stand for the block numbers from a on.
@@ -101,7 +102,18 @@ fn push_tower(text: &mut [u8], at: usize, i: usize, of_blocks: bool) -> usize {
     push_letters(text, at, a, b"a,0,a,65535,0;b,a,b,32769,0;c,b,c,32768,0;")
 }
 
+// Change i, of the shortest that there are: to block 0 and to block 1 in turn.
+fn push_change(text: &mut [u8], at: usize, i: usize) -> usize {
+    if i % 2 == 0 {
+        return push(text, at, b"b0 !\n");
+    }
+    push(text, at, b"b1 !\n")
+}
+
 fn push_row(text: &mut [u8], at: usize, i: usize, what: u8, of_blocks: bool) -> usize {
+    if what == b'C' {
+        return push_change(text, at, i);
+    }
     if what == b'T' {
         return push_tower(text, at, i, of_blocks);
     }
@@ -250,28 +262,28 @@ impl Maker {
     }
 }
 
-// The byte that a letter after a backslash stands for: CR, LF, 0, 255 and the three bytes of a byte order mark.
+// The byte that a letter after a backslash stands for: CR, LF, 0, 255 and the three bytes of a byte order mark; tab, vertical tab, form feed, 127
+// and a bar. Any other byte stands for itself.
 fn escaped(b: u8) -> u8 {
-    if b == b'r' {
-        return 13;
+    match b {
+        b'r' => 13,
+        b'n' => 10,
+        b'z' => 0,
+        b'f' => 255,
+        b'a' => 239,
+        b'b' => 187,
+        b'c' => 191,
+        b't' => 9,
+        b'v' => 11,
+        b'l' => 12,
+        b'd' => 127,
+        b'p' => 124,
+        _ => b,
     }
-    if b == b'n' {
-        return 10;
-    }
-    if b == b'z' {
-        return 0;
-    }
-    if b == b'f' {
-        return 255;
-    }
-    if b == b'a' {
-        return 239;
-    }
-    if b == b'b' { 187 } else { 191 }
 }
 
 // The text that is written in a case, and its length: `;` is CR LF, `%1024R` is 1,024 rows, `%1024W` rows of more bytes, `%1024r` and `%1024w` the
-// same with LF, `%16T` 16 towers from row 1 on, and `%64*x` a byte 64 times.
+// same with LF, `%16T` 16 towers from row 1 on, `%16C` 16 changes, and `%64*x` a byte 64 times.
 pub fn make_text(written: &[u8], of_blocks: bool, text: &mut [u8]) -> usize {
     let mut s = Maker {
         state: OUTSIDE,
@@ -312,7 +324,7 @@ fn with_step(s: Steps, b: u8, steps: &mut [u16]) -> Steps {
 }
 
 // The walk that is written in a case, each block with a blank after it, and its length.
-fn make_steps(written: &[u8], steps: &mut [u16]) -> usize {
+pub fn make_steps(written: &[u8], steps: &mut [u16]) -> usize {
     let mut s = Steps { count: 0, value: 0 };
     for i in 0..written.len() {
         s = with_step(s, written[i], steps);
