@@ -13,7 +13,7 @@ fn read_cases(text: &mut Cases) -> usize {
 }
 
 fn main() {
-    let mut text = [0u8; 131072];
+    let mut text = [0u8; 262144];
     let n = read_cases(&mut text);
     let t = script::run(&text, n);
     say_number(t.cases);

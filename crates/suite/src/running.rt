@@ -12,6 +12,7 @@ use cases::keeping::confirmed;
 use cases::keeping::counts_kept;
 use cases::keeping::loops_kept;
 use cases::keeping::places;
+use cases::keeping::walk_kept;
 use cases::lines::field;
 use cases::lines::has_texts;
 use cases::lines::kind_of;
@@ -477,6 +478,127 @@ fn tally_replies(
     of_columns(got.got, checked.checked, got.kept & checked.kept)
 }
 
+// The second checker's reply to a value change dump over a pair of tables.
+fn dump_checked(
+    text: &[u8],
+    code: &[u8],
+    blocks: &mut [u16],
+    cost: &[u32],
+    inner: &[u16],
+    first: &[u16],
+    second: &[u16],
+    figure: &[i64],
+    parent: &[u16],
+    header: &[u16],
+    limit: &[u32],
+    multiplier: &[u64],
+) -> Verdict {
+    let no_walk = [0u16; 1];
+    let refusal = stepping::reply(
+        cost,
+        inner,
+        first,
+        second,
+        figure,
+        parent,
+        header,
+        limit,
+        multiplier,
+        stepping::DUMP,
+        &no_walk,
+    );
+    if refusal.number != 0 {
+        return refusal;
+    }
+    dumps::read(text, code, blocks)
+}
+
+// A value change dump over a pair of tables, read into two buffers.
+fn dump_read(
+    line: &[u8],
+    text: &[u8],
+    code: &[u8],
+    cost: &[u32],
+    inner: &[u16],
+    first: &[u16],
+    second: &[u16],
+    figure: &[i64],
+    parent: &[u16],
+    header: &[u16],
+    limit: &[u32],
+    multiplier: &[u64],
+) -> Answers {
+    let mut blocks = [OLD_U16; 13120];
+    let mut others = [OLD_U16; 13120];
+    let room = number_or(line, 7, 13120);
+    let checked = dump_checked(
+        text,
+        code,
+        lent_u16(&mut others, room, NONE, 0),
+        cost,
+        inner,
+        first,
+        second,
+        figure,
+        parent,
+        header,
+        limit,
+        multiplier,
+    );
+    let got = verdict_of(rolkeyda::rolkeyda_vcd(
+        cost,
+        inner,
+        first,
+        second,
+        figure,
+        parent,
+        header,
+        limit,
+        multiplier,
+        text,
+        code,
+        lent_u16(&mut blocks, room, NONE, 0),
+    ));
+    of_columns(
+        got,
+        checked,
+        walk_kept(line, count_of(checked), &blocks, &others),
+    )
+}
+
+// The same, with the text and the code that a line says.
+fn dump_replies(
+    line: &[u8],
+    cost: &[u32],
+    inner: &[u16],
+    first: &[u16],
+    second: &[u16],
+    figure: &[i64],
+    parent: &[u16],
+    header: &[u16],
+    limit: &[u32],
+    multiplier: &[u64],
+) -> Answers {
+    let mut text = [0u8; 65600];
+    let mut code = [0u8; 512];
+    let n = make_text(field(line, 5), true, &mut text);
+    let k = make_text(field(line, 6), true, &mut code);
+    dump_read(
+        line,
+        part(&text, 0, n),
+        part(&code, 0, k),
+        cost,
+        inner,
+        first,
+        second,
+        figure,
+        parent,
+        header,
+        limit,
+        multiplier,
+    )
+}
+
 // What the kind of the line says is run on a pair of tables.
 fn replies(
     line: &[u8],
@@ -495,6 +617,20 @@ fn replies(
     if (kind == b'w') | (kind == b'r') {
         return walk_replies(
             steps,
+            cost,
+            inner,
+            first,
+            second,
+            figure,
+            parent,
+            header,
+            limit,
+            multiplier,
+        );
+    }
+    if kind == b'd' {
+        return dump_replies(
+            line,
             cost,
             inner,
             first,

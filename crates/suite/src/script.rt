@@ -16,7 +16,7 @@ use cases::tally::Tally;
 use pieces::part;
 
 // The cases.
-pub type Cases = [u8; 131072];
+pub type Cases = [u8; 262144];
 // A text that is read as a table: up to 64 bytes more than it may have.
 type Text = [u8; 65600];
 // A walk: up to one block more than it may have.
