@@ -1,11 +1,11 @@
 -- The digits of a vector's change, and codes. Assumes nothing.
 use mathlib.Core.Path.{_≡_, refl, sym, ap, _∙_}
-use mathlib.Core.Bool.{Bool, true, false, cond, _&&_, and-false, true≢false}
+use mathlib.Core.Bool.{Bool, true, false, cond, _&&_, _||_, and-false, true≢false}
 use mathlib.Core.List.{List, [], _∷_}
 use mathlib.Core.Option.{Option, none, some}
 use Prim.Native.Nat.{ℕ, zero, suc, _+_, _-_, _*_, _<_, _≤_}
 use native.Mathlib.Omega.{arith}
-use borrow.Author.Tests.{eq-eqb, ne-eqb, eqb-true, eqb-false, lt-leb, leb-true, leb-false, lt-ltb, le-ltb}
+use borrow.Author.Tests.{eq-eqb, ne-eqb, eqb-true, eqb-false, lt-leb, leb-true, leb-false, lt-ltb, le-ltb, ltb-true, ltb-false}
 use lib.ListN.{length, take, drop, getD}
 use lib.Dec.{eqb, leb, ltb}
 use Rattle.lists.specs.Bytes.{bytes, same}
@@ -56,7 +56,7 @@ value-cap : (m : ℕ) (w : List ℕ) → valueFrom (cap m) w ≡ valueFrom m w
 value-cap m w = go (ltb 65535 m) refl
   where
     go : (t : Bool) → ltb 65535 m ≡ t → valueFrom (cond t 65535 m) w ≡ valueFrom m w
-    go true e = beyond 65535 w (omega arith) ∙ sym (beyond m w (omega (arith, borrow.Author.Tests.ltb-true 65535 m e)))
+    go true e = beyond 65535 w (omega arith) ∙ sym (beyond m w (omega (arith, ltb-true 65535 m e)))
     go false e = refl
 
 pub cap-over : (n : ℕ) → 65535 < n → 65535 ≡ cap n
@@ -70,7 +70,7 @@ cap-small n = go (ltb 65535 n) refl
   where
     go : (t : Bool) → ltb 65535 n ≡ t → cond t 65535 n ≤ 65535
     go true e = omega arith
-    go false e = omega (arith, borrow.Author.Tests.ltb-false 65535 n e)
+    go false e = omega (arith, ltb-false 65535 n e)
 
 -- the bits of a word, at the turn i, whose number so far is n
 pub record BitsSoFar (s : List ℕ) (at i n : ℕ) : Type 0 where
@@ -108,10 +108,6 @@ module _ (s : List ℕ) (at : ℕ) where
 
 -- ---- digits
 
-states-none : (s : List ℕ) (at : ℕ) → oneOrMore isState (wordOf (drop at s)) ≡ false → NoDigits ≡ statesAt s at
-unfolding statesAt
-states-none s at e = rw e
-
 module _ (s : List ℕ) (at : ℕ) {to : ℕ} (q : to ≡ wordIn (inClass State) s at) where
   pub states-bad : to ≡ at → NoDigits ≡ statesAt s at
   unfolding statesAt
@@ -132,7 +128,7 @@ unfolding all
 bits-states [] e = refl
 bits-states (b ∷ w) e = go (eqb b 48) (eqb b 49) refl refl (bits-states w) e
   where
-    go : (x y : Bool) → eqb b 48 ≡ x → eqb b 49 ≡ y → (all isBit w ≡ true → all isState w ≡ true) → ((mathlib.Core.Bool._||_ x y) && all isBit w) ≡ true → all isState (b ∷ w) ≡ true
+    go : (x y : Bool) → eqb b 48 ≡ x → eqb b 49 ≡ y → (all isBit w ≡ true → all isState w ≡ true) → ((x || y) && all isBit w) ≡ true → all isState (b ∷ w) ≡ true
     go true y p q ih e = rw p (ih e)
     go false true p q ih e = rw (p, q) (ih e)
     go false false p q ih e = absurd (true≢false (sym e))
@@ -257,20 +253,22 @@ module _ (named s : List ℕ) (at : ℕ) {c : Code} (q : c ≡ codeAt named s at
       go true false f = absurd (let z : _≡_ {A = ℕ} 0 1 = cc in omega arith)
       go false u f = refl
 
-  pub coded-named : (to : ℕ) → c ≡ Named to → Coded named s at true to
+  -- the named code, or another
+  coded : (of : Bool) (to : ℕ) → c ≡ cond of (Named to) (Other to) → Coded named s at of to
   unfolding codeAt
-  coded-named to e = go (isCode (wordOf (drop at s))) (same (wordOf (drop at s)) named) refl refl (sym e ∙ q)
+  coded of to e = go of (isCode (wordOf (drop at s))) (same (wordOf (drop at s)) named) refl refl (sym e ∙ q)
     where
-      go : (t u : Bool) → isCode (wordOf (drop at s)) ≡ t → same (wordOf (drop at s)) named ≡ u → Named to ≡ cond t (cond u (Named (afterWord s at)) (Other (afterWord s at))) NoCode → Coded named s at true to
-      go true true f g h = record { is-code = f; is-named = g; after = cc }
-      go true false f g h = absurd (let z : _≡_ {A = ℕ} 0 1 = cc in omega arith)
-      go false u f g h = absurd (let z : _≡_ {A = ℕ} 0 1 = cc in omega arith)
+      go : (of t u : Bool) → isCode (wordOf (drop at s)) ≡ t → same (wordOf (drop at s)) named ≡ u
+          → cond of (Named to) (Other to) ≡ cond t (cond u (Named (afterWord s at)) (Other (afterWord s at))) NoCode → Coded named s at of to
+      go true true true f g h = record { is-code = f; is-named = g; after = cc }
+      go false true false f g h = record { is-code = f; is-named = g; after = cc }
+      go true true false f g h = absurd (let z : _≡_ {A = ℕ} 0 1 = cc in omega arith)
+      go false true true f g h = absurd (let z : _≡_ {A = ℕ} 0 1 = cc in omega arith)
+      go true false u f g h = absurd (let z : _≡_ {A = ℕ} 0 1 = cc in omega arith)
+      go false false u f g h = absurd (let z : _≡_ {A = ℕ} 0 1 = cc in omega arith)
+
+  pub coded-named : (to : ℕ) → c ≡ Named to → Coded named s at true to
+  coded-named to e = coded true to e
 
   pub coded-other : (to : ℕ) → c ≡ Other to → Coded named s at false to
-  unfolding codeAt
-  coded-other to e = go (isCode (wordOf (drop at s))) (same (wordOf (drop at s)) named) refl refl (sym e ∙ q)
-    where
-      go : (t u : Bool) → isCode (wordOf (drop at s)) ≡ t → same (wordOf (drop at s)) named ≡ u → Other to ≡ cond t (cond u (Named (afterWord s at)) (Other (afterWord s at))) NoCode → Coded named s at false to
-      go true true f g h = absurd (let z : _≡_ {A = ℕ} 0 1 = cc in omega arith)
-      go true false f g h = record { is-code = f; is-named = g; after = cc }
-      go false u f g h = absurd (let z : _≡_ {A = ℕ} 0 1 = cc in omega arith)
+  coded-other to e = coded false to e

@@ -9,6 +9,7 @@ use native.Mathlib.Omega.{arith}
 use borrow.Author.Tests.{leb-true, ne-eqb}
 use lib.Dec.{leb}
 use lib.ListN.{length, length-append}
+use Rattle.lists.proofs.Bytes.{apart}
 use Rattle.lists.specs.Search.{if_then_else_}
 use Rattle.lists.specs.Bytes.{bytes, same}
 use Rattle.lists.proofs.Tests.{and-true, both}
@@ -16,7 +17,7 @@ use Rattle.vcd.specs.Words.{is}
 use Rattle.vcd.specs.Syntax.{all, oneOrMore, isGraphic, isCode}
 use Rattle.vcd.specs.Writing.{IsWord, Spaced, Declarations, Binary, Change, Commands, recording, Written}
 use Rattle.vcd.specs.Claim.{UpTo, CanBeWritten}
-use Rattle.vcd.proofs.Writing.{apart, inWord, some-all, digits-pass}
+use Rattle.vcd.proofs.Writing.{inWord, some-all, digits-pass}
 
 -- k + 1 digits do for each number below 2 to the power of k + 1
 digits : (k v : ℕ) → v < 2 ^ suc k → (s : List ℕ) × Binary v s × (length s ≤ suc k)

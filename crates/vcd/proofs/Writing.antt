@@ -14,8 +14,8 @@ use lib.ListN.{length, length-map, drop-of-length-le}
 use lib.Seq.{take-append-seam}
 use Rattle.limits.specs.Limits.{mostTextBytes}
 use Rattle.lists.specs.Bytes.{bytes, same}
-use Rattle.lists.proofs.Bytes.{same-refl, same-true}
-use Rattle.lists.proofs.Tests.{and-true, both, either, or-left, or-right}
+use Rattle.lists.proofs.Bytes.{same-refl, same-true, differs}
+use Rattle.lists.proofs.Tests.{and-true, both, either, by-test, or-left, or-right}
 use Rattle.wcet.specs.Rules.{accepted, structureRules}
 use Rattle.wcet.specs.Claim.{AllHold}
 use Rattle.wcet.proofs.Replies.{all-append, append-all, all-pass}
@@ -100,21 +100,6 @@ module _ (named : List ℕ) where
           rw p (does n (x .at) vs xs (cc) (h (x .at)))
 
 -- ---- tests of words and bytes
-
--- words that differ, and the test
-differs : (s t : List ℕ) → s ≢ t → same s t ≡ false
-differs s t ne = go (same s t) refl
-  where
-    go : (x : Bool) → same s t ≡ x → same s t ≡ false
-    go true e = absurd (ne (same-true s t e))
-    go false e = e
-
-pub apart : (s t : List ℕ) → same s t ≡ false → s ≢ t
-apart s t h e = true≢false (sym (same-refl t) ∙ rw e at h)
-
--- what follows from each of two tests, of which one is passed
-by-test : {A : Type 0} (a b : Bool) → (a ≡ true → A) → (b ≡ true → A) → (a || b) ≡ true → A
-by-test a b f g e = ⊎-elim f g (either a b e)
 
 by-byte : (P : ℕ → Type 0) (b c : ℕ) → P c → eqb b c ≡ true → P b
 by-byte P b c p e = rw (eqb-true b c e) p

@@ -1,6 +1,6 @@
 -- The bytes between words, the bytes of a word and those of one class, passed one by one. Assumes nothing.
 use mathlib.Core.Path.{_≡_, refl, sym, ap, _∙_}
-use mathlib.Core.Bool.{Bool, true, false, and-false, true≢false}
+use mathlib.Core.Bool.{Bool, true, false, not, and-false, true≢false}
 use mathlib.Core.List.{List, [], _∷_}
 use Prim.Native.Nat.{ℕ, zero, suc, _+_, _-_, _<_, _≤_}
 use native.Mathlib.Nat.{add-zero}
@@ -21,31 +21,30 @@ use Rattle.words.specs.declared.Class.the-variants.{Graphic, State, Deci
 pub next-byte : (s : List ℕ) (at : ℕ) → at < length s → drop at s ≡ getD s at 0 ∷ drop (at + 1) s
 next-byte s at h = rw (add-one, drop-cons s at 0)
 
--- the bytes between words, and the bytes of a word: at the end of the text, at a byte that ends them, at one that does not
-module _ (s : List ℕ) (i : ℕ) {t : ℕ} where
-  pub gap-over : length s ≤ i → t ≡ i + gap (drop i s) → i ≡ t
-  unfolding gap
-  gap-over h e = sym (e ∙ rw (drop-of-length-le s h, add-zero))
+-- f counts bytes up to the first that parts words (`stop` is true), or that parts none
+pub record Counts (f : List ℕ → ℕ) (stop : Bool) : Type 0 where
+  pub none : f [] ≡ 0
+  pub last : (b : ℕ) (s : List ℕ) → parting b ≡ stop → f (b ∷ s) ≡ 0
+  pub more : (b : ℕ) (s : List ℕ) → parting b ≡ not stop → f (b ∷ s) ≡ suc (f s)
 
-  pub gap-stops : {f : Bool} → i < length s → f ≡ parting (getD s i 0) → f ≡ false → t ≡ i + gap (drop i s) → i ≡ t
-  unfolding gap
-  gap-stops h p q e = sym (e ∙ rw (next-byte s i h, sym p ∙ q, add-zero))
+pub counts-gap : Counts gap false
+unfolding gap
+counts-gap = record { none = refl; last = λ b s e. rw e; more = λ b s e. rw e }
 
-  pub gap-on : {f : Bool} → i < length s → f ≡ parting (getD s i 0) → f ≡ true → t ≡ i + gap (drop i s) → t ≡ i + 1 + gap (drop (i + 1) s)
-  unfolding gap
-  gap-on h p q e = e ∙ rw (next-byte s i h, sym p ∙ q) (omega arith)
+pub counts-word : Counts size true
+unfolding size
+counts-word = record { none = refl; last = λ b s e. rw e; more = λ b s e. rw e }
 
-  pub size-over : length s ≤ i → t ≡ i + size (drop i s) → i ≡ t
-  unfolding size
-  size-over h e = sym (e ∙ rw (drop-of-length-le s h, add-zero))
+-- counting from the turn i on: at the end of the text, at a byte that ends the count, at one that does not
+module _ (f : List ℕ → ℕ) (stop : Bool) (c : Counts f stop) (s : List ℕ) (i : ℕ) {t : ℕ} where
+  pub count-over : length s ≤ i → t ≡ i + f (drop i s) → i ≡ t
+  count-over h e = sym (e ∙ rw (drop-of-length-le s h, c .none, add-zero))
 
-  pub size-stops : {f : Bool} → i < length s → f ≡ parting (getD s i 0) → f ≡ true → t ≡ i + size (drop i s) → i ≡ t
-  unfolding size
-  size-stops h p q e = sym (e ∙ rw (next-byte s i h, sym p ∙ q, add-zero))
+  pub count-stops : {g : Bool} → i < length s → g ≡ parting (getD s i 0) → g ≡ stop → t ≡ i + f (drop i s) → i ≡ t
+  count-stops h p q e = sym (e ∙ rw (next-byte s i h, c .last (getD s i 0) (drop (i + 1) s) (sym p ∙ q), add-zero))
 
-  pub size-on : {f : Bool} → i < length s → f ≡ parting (getD s i 0) → f ≡ false → t ≡ i + size (drop i s) → t ≡ i + 1 + size (drop (i + 1) s)
-  unfolding size
-  size-on h p q e = e ∙ rw (next-byte s i h, sym p ∙ q) (omega arith)
+  pub count-on : {g : Bool} → i < length s → g ≡ parting (getD s i 0) → g ≡ not stop → t ≡ i + f (drop i s) → t ≡ i + 1 + f (drop (i + 1) s)
+  count-on h p q e = e ∙ rw (next-byte s i h, c .more (getD s i 0) (drop (i + 1) s) (sym p ∙ q)) (omega arith)
 
 -- a word of no bytes: at the end of the text, and at a byte that parts words
 pub none-over : (s : List ℕ) (i : ℕ) → length s ≤ i → size (drop i s) ≡ 0

@@ -1,7 +1,8 @@
+use mathlib.Core.Bool.{false}
 use Prim.Native.Nat.{_+_, _-_, _≤_}
 use mathlib.Core.Path.{_≡_}
 use lib.ListN.{length, drop}
-use Rattle.words.proofs.Runs.{gap-over, gap-stops, gap-on}
+use Rattle.words.proofs.Runs.{counts-gap, count-over, count-stops, count-on}
 use Rattle.words.specs.Places.{gap}
 use borrow.Author.Needs.{needs}
 use Rattle.words.proofs.gap_end.Statement.{statement}
@@ -32,13 +33,13 @@ loop-less : tie.Need-loop-less Inv-loop μ-loop
 loop-less c = search needs
 
 loop-again : tie.Need-loop-again Inv-loop μ-loop
-loop-again c = search gap-on
+loop-again c = search (count-on gap false counts-gap)
 
 returns : tie.Need-returns Inv-loop μ-loop
-returns c = search gap-stops
+returns c = search (count-stops gap false counts-gap)
 
 returns-2 : tie.Need-returns-2 Inv-loop μ-loop
-returns-2 c = search gap-over
+returns-2 c = search (count-over gap false counts-gap)
 
 pub gap-end-spec : {M : Type 1} → statement M
 gap-end-spec =

@@ -1,7 +1,8 @@
+use mathlib.Core.Bool.{true}
 use Prim.Native.Nat.{_+_, _-_, _≤_}
 use mathlib.Core.Path.{_≡_}
 use lib.ListN.{length, drop}
-use Rattle.words.proofs.Runs.{size-over, size-stops, size-on}
+use Rattle.words.proofs.Runs.{counts-word, count-over, count-stops, count-on}
 use Rattle.vcd.specs.Words.{size}
 use borrow.Author.Needs.{needs}
 use Rattle.words.proofs.word_end.Statement.{statement}
@@ -26,7 +27,7 @@ is-parting-requires : tie.Need-is-parting-requires Inv-loop μ-loop
 is-parting-requires c κs = search needs
 
 returns : tie.Need-returns Inv-loop μ-loop
-returns c = search size-stops
+returns c = search (count-stops size true counts-word)
 
 add-i : tie.Need-add-i Inv-loop μ-loop
 add-i c = search needs
@@ -35,10 +36,10 @@ loop-less : tie.Need-loop-less Inv-loop μ-loop
 loop-less c = search needs
 
 loop-again : tie.Need-loop-again Inv-loop μ-loop
-loop-again c = search size-on
+loop-again c = search (count-on size true counts-word)
 
 returns-2 : tie.Need-returns-2 Inv-loop μ-loop
-returns-2 c = search size-over
+returns-2 c = search (count-over size true counts-word)
 
 pub word-end-spec : {M : Type 1} → statement M
 word-end-spec =
