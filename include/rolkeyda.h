@@ -44,7 +44,7 @@ extern "C" {
 /* The greatest length of an MPS text: a buffer of so many bytes is proved to hold any, and some tables have a text of this length. */
 #define ROLKEYDA_MPS_MOST 250217u
 
-/* The most blocks that a VCD text can give, as a change takes five bytes of it: a buffer of so many blocks holds every recording. */
+/* A buffer of so many blocks is proved to hold every VCD recording: a change takes four bytes of the text and one that parts it from the next. */
 #define ROLKEYDA_VCD_MOST 13107u
 
 /*
@@ -57,7 +57,7 @@ extern "C" {
 #define ROLKEYDA_STACK_CHECK 16384u
 #define ROLKEYDA_STACK_WALK 8192u
 #define ROLKEYDA_STACK_TALLY 8192u
-#define ROLKEYDA_STACK_VCD 49152u
+#define ROLKEYDA_STACK_VCD 40960u
 #define ROLKEYDA_STACK_SOLVE 81920u
 #define ROLKEYDA_STACK_MPS 16384u
 
