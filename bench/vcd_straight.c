@@ -9,7 +9,7 @@
 #include <string.h>
 
 #define LONGEST 65536u
-#define MOST_CHANGES 13107 /* a change takes five bytes */
+#define MOST_CHANGES 13107 /* a change takes four bytes and one that parts it from the next */
 #define UNFIT 65535u       /* a value that the named vector may not take: over 65,534, with an x or a z, or real */
 
 /* The text up to its end and the code of the named vector. `place` is that of a refusal. */

@@ -1,5 +1,5 @@
 /*
- * Rolkeyda: the importer, the final checker, a solver, a writer of MPS, a reader of VCD recordings and a tally of these, for a worst-case execution
+ * Rolkeyda: the importer, the final checker, a solver, a writer of MPS, a reader of VCD recordings and a tally of walks, for a worst-case execution
  * time (WCET) analysis, proved. For C11 and C++11.
  *
  * Every function takes any input, checks it and returns a rolkeyda_reply by value. No function allocates, keeps a pointer or fails in
@@ -65,14 +65,14 @@ extern "C" {
  * The reply of every function (`Reply` in the crate `replies`).
  *
  * number   0: accepted. Else the number of the first rule that is broken:
- *          101 to 106 and 108 for a text, 201 to 209 for a pair of tables, 301 to 303 and 311 to 314 for a walk, 401 to 403 for the solver,
+ *          101 to 106 and 108 for a table's text, 201 to 209 for a pair of tables, 301 to 303 and 311 to 314 for a walk, 401 to 403 for the solver,
  *          411 for an MPS text that does not fit, 421 for the columns of a tally, 101 and 431 to 433 for a VCD recording. The rules for tables are
  *          checked in the order 201 to 207, 209, 208.
  * place    where: the record of a table's text (the first is 1), the block or loop of a table (0 for 201, 209, 402, 403, 411 and 421), the index in a
  *          walk, the byte of a VCD text (the first is 0; for 431 the block). 0 when accepted, and for 101.
  * value    when accepted: the count of rows, the bound, the cost, the length of the MPS text, the steps of a walk that is tallied, or the count of
  *          blocks in a VCD recording. Else 0.
- * more     when a text is accepted: the line end of record 1, a header included (ROLKEYDA_CR_LF, ROLKEYDA_LF or ROLKEYDA_END_OF_TEXT).
+ * more     when a table's text is accepted: the line end of record 1, a header included (ROLKEYDA_CR_LF, ROLKEYDA_LF or ROLKEYDA_END_OF_TEXT).
  *          When rolkeyda_walk accepts: the walk's steps, the length less one. Else 0.
  */
 typedef struct rolkeyda_reply {

@@ -39,7 +39,7 @@ pub enum Command {
     Ended,
 }
 
-// No number is kept that is over 65,535.
+// A number over 65,535 becomes 65,535.
 fn capped(n: u32) -> u32
     ensures { λ r. ⌜ r ≡ cap n ⌝ }
 {

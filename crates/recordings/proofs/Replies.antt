@@ -35,7 +35,7 @@ use Rattle.recordings.specs.declared.VcdReply.the-variants.{Structure, S
 
 -- an edge to itself, by the two successors
 module _ (first second : List ℕ) (u : ℕ) (h : u < 65535) where
-  pub itself-first : {f : Bool} → f ≡ eqb (getD first u 0) u → f ≡ true → true ≡ edge (edgeColumns first first second) u u
+  pub itself-first : {f : Bool} → f ≡ eqb (getD first u 0) u → f ≡ true → true ≡ edge (edgeColumns [] first second) u u
   unfolding edge someEdge
   itself-first {f} p q = let e : getD first u 0 ≡ u = eqb-true (getD first u 0) u (sym p ∙ q) in rw (e, ne-eqb u 65535 (λ z. omega arith), eq-eqb u u refl)
 
@@ -47,30 +47,30 @@ module _ (first second : List ℕ) (u : ℕ) (h : u < 65535) where
       go true e = rw (ne-eqb x 65535 (λ z. omega (arith, eqb-true x u e)))
       go false e = and-false (not (eqb x 65535))
 
-  pub itself-second : {f g : Bool} → f ≡ eqb (getD first u 0) u → f ≡ false → g ≡ eqb (getD second u 0) u → g ≡ edge (edgeColumns first first second) u u
+  pub itself-second : {f g : Bool} → f ≡ eqb (getD first u 0) u → f ≡ false → g ≡ eqb (getD second u 0) u → g ≡ edge (edgeColumns [] first second) u u
   unfolding edge someEdge
   itself-second p n q = q ∙ rw (present (getD first u 0), sym p ∙ n, present (getD second u 0))
 
 -- the search, at its turn u: no block below u has an edge to itself
 pub record NoneBelow (first second : List ℕ) (u : ℕ) : Type 0 where
   pub turn : u ≤ length first
-  pub none : Kept (λ x. edge (edgeColumns first first second) x x) u
+  pub none : Kept (λ x. edge (edgeColumns [] first second) x x) u
 
 pub self-start : (first second : List ℕ) → NoneBelow first second 0
 self-start first second = record { turn = omega arith; none = λ k h. absurd (omega arith) }
 
 module _ (first second : List ℕ) (u : ℕ) (k : NoneBelow first second u) where
-  module _ {f : Bool} (p : f ≡ edge (edgeColumns first first second) u u) (h : u < length first) where
+  module _ {f : Bool} (p : f ≡ edge (edgeColumns [] first second) u u) (h : u < length first) where
     pub self-stops : f ≡ true → placeOf (At u) ≡ firstSelfEdge first second
     unfolding firstSelfEdge
-    self-stops q = stops (λ x. edge (edgeColumns first first second) x x) (length first) u h (k .none) (sym p ∙ q)
+    self-stops q = stops (λ x. edge (edgeColumns [] first second) x x) (length first) u h (k .none) (sym p ∙ q)
 
     pub self-on : f ≡ false → NoneBelow first second (u + 1)
     self-on q = record { turn = omega arith; none = below-more _ u (k .none) (sym p ∙ q) }
 
   pub self-clear : length first ≤ u → placeOf Nowhere ≡ firstSelfEdge first second
   unfolding firstSelfEdge
-  self-clear h = clear (λ x. edge (edgeColumns first first second) x x) (length first) u h (k .none)
+  self-clear h = clear (λ x. edge (edgeColumns [] first second) x x) (length first) u h (k .none)
 
 -- the routine of the two columns has the same edges
 self-edges : (t : Routine) → length (t .firsts) ≡ blockCount t → firstSelfEdge (t .firsts) (t .seconds) ≡ firstBelow (blockCount t) (λ u. edge t u u)

@@ -2,7 +2,7 @@
 use Prim.Native.Nat.{ℕ, _≤_, _<_}
 use mathlib.Core.Path.{_≡_}
 use mathlib.Core.Bool.{false}
-use mathlib.Core.List.{List}
+use mathlib.Core.List.{List, []}
 use mathlib.Core.Option.{Option}
 use lib.ListN.{length, take}
 use Rattle.limits.specs.Limits.{mostTextBytes}
@@ -31,7 +31,7 @@ vcdMeaning (NoPlace p) = refused 433 p
 
 -- 431, by the two columns of successors
 unfoldable pub firstSelfEdge : (firsts seconds : List ℕ) → Option ℕ
-firstSelfEdge firsts seconds = firstBelow (length firsts) (λ u. edge (edgeColumns firsts firsts seconds) u u)
+firstSelfEdge firsts seconds = firstBelow (length firsts) (λ u. edge (edgeColumns [] firsts seconds) u u)
 
 -- the commands begin at this place of a text within its limit, and there is a place for each value
 pub record Begins (named s : List ℕ) (at : ℕ) (found : List ℕ) : Type 0 where

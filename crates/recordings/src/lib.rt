@@ -1,6 +1,6 @@
 // The walk that a recording of a logic analyser gives (document 02, §8): the changed values of one vector, in a lent buffer.
 ghost use mathlib.Core.Path.{_≡_};
-ghost use mathlib.Core.List.{_++_};
+ghost use mathlib.Core.List.{[], _++_};
 ghost use Prim.Native.Nat.{_≤_, _<_};
 ghost use lib.Dec.{eqb};
 ghost use lib.ListN.{length, drop};
@@ -33,7 +33,7 @@ pub enum Gathered {
     NoPlace(usize),
 }
 
-// A text of 65,536 bytes has no more values: a change takes four bytes and one that parts it from the next.
+// A text of 65,536 bytes has no more values: a change takes at least four bytes and one that parts it from the next.
 const MOST_CHANGES: usize = 13107;
 
 // ---- 431
@@ -48,7 +48,7 @@ fn leads_to(v: u16, u: usize) -> bool
 // Whether a block is one of its own successors.
 fn names_itself(first: &[u16], second: &[u16], u: usize) -> bool
     requires { ⌜ (u < length (now first)) × (u < length (now second)) × (u < 65535) ⌝ }
-    ensures { λ r. ⌜ r ≡ edge (edgeColumns (now (first .entry)) (now (first .entry)) (now (second .entry))) u u ⌝ }
+    ensures { λ r. ⌜ r ≡ edge (edgeColumns [] (now (first .entry)) (now (second .entry))) u u ⌝ }
 {
     if leads_to(first[u], u) {
         return true;
@@ -143,7 +143,7 @@ fn read_text(text: &[u8], code: &[u8], blocks: &mut [u16], found: &mut [u16]) ->
     }
 }
 
-// The same, with a place for each value until the text is found whole.
+// The same, with an array that keeps the values until the whole text is accepted.
 fn read_recording(text: &[u8], code: &[u8], blocks: &mut [u16]) -> VcdReply
     requires { ⌜ length (now text) ≤ mostTextBytes ⌝ }
     ensures { λ r. ⌜ TextRecorded (now (text .entry)) (now (code .entry)) (now (blocks .entry)) (vcdMeaning r) (now (blocks .exit)) ⌝ }

@@ -1,4 +1,5 @@
--- What is claimed of the texts of Writing.antt, and proved in proofs/: what is written reads back, walks among it, and all of it can be written.
+-- What is claimed of the texts of Writing.antt, and proved in proofs/: what is written reads back, accepted walks too, and every list of values up to 65,534
+-- can be written.
 use Prim.Native.Nat.{ℕ, _+_, _*_, _≤_}
 use mathlib.Core.Path.{_≡_}
 use mathlib.Core.Logic.{_≢_}

@@ -75,7 +75,7 @@ pub fn read_start<'a>(r: Reader<'a>) -> Start
     start_at(r.text, r.at)
 }
 
-// The same for callers that hold the text and the place apart.
+// The next word from a place on, by a reader that is made there. The loops above hold slice and number, which the toolchain covers.
 pub fn next_start(text: &[u8], at: usize) -> Start
     ensures { λ r. ⌜ r ≡ nextStart (now (text .entry)) at ⌝ }
 {
@@ -153,7 +153,7 @@ fn in_class(class: Class, b: u8) -> bool
     }
 }
 
-// Where the bytes of a class end that stand at a place.
+// Where the run of bytes of a class that begins at a place ends.
 fn run_end(class: Class, text: &[u8], at: usize) -> usize
     ensures { λ r. ⌜ RunEnds (inClass class) (now (text .entry)) at r ⌝ }
 {
