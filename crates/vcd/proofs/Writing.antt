@@ -101,7 +101,7 @@ module _ (named : List ℕ) where
 
 -- ---- tests of words and bytes
 
-by-byte : (P : ℕ → Type 0) (b c : ℕ) → P c → eqb b c ≡ true → P b
+pub by-byte : (P : ℕ → Type 0) (b c : ℕ) → P c → eqb b c ≡ true → P b
 by-byte P b c p e = rw (eqb-true b c e) p
 
 by-word : (P : List ℕ → Type 0) (w : List ℕ) (k : String) → P (bytes k) → is w k ≡ true → P w

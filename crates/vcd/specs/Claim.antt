@@ -1,5 +1,5 @@
--- What is claimed of the texts of Writing.antt, and proved in proofs/: what is written reads back, accepted walks too, and every list of values up to 65,534
--- can be written.
+-- What is claimed of the texts of Writing.antt, and proved in proofs/: what is written reads back, accepted walks too; no other text is read without a 432;
+-- and every list of values up to 65,534 can be written.
 use Prim.Native.Nat.{ℕ, _+_, _*_, _≤_}
 use mathlib.Core.Path.{_≡_}
 use mathlib.Core.Logic.{_≢_}
@@ -33,6 +33,10 @@ pub record ReadAs (r : Reading) (vs : List ℕ) : Type 0 where
 -- What is written is read, value for value.
 abbrev pub Reads : Type 0
 Reads = (named vs s : List ℕ) → Written named vs s → ReadAs (readingOf named s) vs
+
+-- Every text that is read without a 432 was written so, with these values.
+abbrev pub ReadsOnlyWritten : Type 0
+ReadsOnlyWritten = (named s : List ℕ) → readingOf named s .refusal ≡ none → Written named (valuesIn (readingOf named s .values)) s
 
 -- the tables keep 201 to 207 and 431
 abbrev pub Given : Routine → Type 0
