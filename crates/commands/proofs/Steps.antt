@@ -13,7 +13,7 @@ use Rattle.lists.specs.Bytes.{bytes, same}
 use Rattle.vcd.specs.Words.{parting, size, wordOf}
 use Rattle.vcd.specs.Syntax.{oneOrMore, isState, isDecimal, isCode, valueOf, isDump, Due, remark, command, code, Step, on, bad, taken, codeStep, scalarStep, vectorStep, timeStep, keywordStep, commandBy, stepOf, after, Reading, reading}
 use Rattle.vcd.proofs.Words.{word-byte, size-byte, size-within}
-use Rattle.words.specs.Places.{nextStart, inClass, wordIn, wordsFrom, afterEnd, TextEnds, ended, missing}
+use Rattle.words.specs.Places.{nextStart, inClass, wordIn, TextEnds}
 use Rattle.words.specs.declared.Class.the-variants.{Decimal}
 use Rattle.words.specs.declared.Start.{Start}
 use Rattle.words.specs.declared.Start.the-variants.{Word as WordAt, Nothing}
@@ -21,7 +21,7 @@ use Rattle.words.specs.declared.AfterEnd.{AfterEnd}
 use Rattle.words.specs.declared.AfterEnd.the-variants.{To, Missing}
 use Rattle.words.proofs.Runs.{next-byte, class-dark, in-none, in-some}
 use Rattle.words.proofs.Starts.{Begins, no-more, word-starts}
-use Rattle.words.proofs.Skips.{resumed, skipped}
+use Rattle.words.proofs.Skips.{skipped-at, end-within}
 use Rattle.commands.specs.Reads.{fitted, offered, afterWord, digitsAt, codeAt, readingFrom, readingBy, follows, Moves, Follows, takenBy, ChangeRead, VectorRead, RealRead, ScalarRead, TimeRead, CommentRead, KeywordRead, endBy, CommandRead}
 use Rattle.commands.specs.declared.Digits.{Digits}
 use Rattle.commands.specs.declared.Digits.the-variants.{Value as Value16, Bad as NoDigits}
@@ -161,16 +161,10 @@ module _ (s : List ℕ) (from : ℕ) (dump : Bool) where
 
 module _ (s : List ℕ) (at : ℕ) {r : AfterEnd} (t : TextEnds s at r) where
   pub comment-ends : (to : ℕ) → r ≡ To to → CommentRead s at (Passed to false)
-  comment-ends to e = go (rw e at t)
-    where
-      go : TextEnds s at (To to) → CommentRead s at (Passed to false)
-      go (ended h l q) named = record { reads = skipped named (length s) remark (command false) (λ a w. refl) refl (wordsFrom s at) ∙ rw q; moves = (h, l) }
+  comment-ends to e named = record { reads = skipped-at named s at remark (command false) (λ a w. refl) refl t ∙ rw e; moves = end-within s at to (rw e at t) }
 
   pub comment-missing : r ≡ Missing → CommentRead s at (Bad (length s))
-  comment-missing e = go (rw e at t)
-    where
-      go : TextEnds s at Missing → CommentRead s at (Bad (length s))
-      go (missing q) named = record { reads = skipped named (length s) remark (command false) (λ a w. refl) refl (wordsFrom s at) ∙ rw q; moves = tt }
+  comment-missing e named = record { reads = skipped-at named s at remark (command false) (λ a w. refl) refl t ∙ rw e; moves = tt }
 
 -- a keyword from its first byte to its end
 module _ (s : List ℕ) (from : ℕ) (dump : Bool) (h : from < length s) (n : 0 < size (drop from s)) (to : ℕ) (t : to ≡ afterWord s from) where

@@ -9,13 +9,13 @@ use lib.Dec.{eqb}
 use Rattle.lists.specs.Bytes.{bytes, same}
 use Rattle.vcd.specs.Words.{size, wordOf, words}
 use Rattle.vcd.specs.Syntax.{isCode, isDeclaration, Due, declaration, variable, text, remark, command, Step, on, bad, declarationStep, variableStep, stepOf, after, Reading, stopped, reading, readingOf}
-use Rattle.words.specs.Places.{nextStart, wordsFrom, afterEnd, TextEnds, ended, missing}
+use Rattle.words.specs.Places.{nextStart, TextEnds}
 use Rattle.words.specs.declared.Start.{Start}
 use Rattle.words.specs.declared.Start.the-variants.{Word as WordAt, Nothing}
 use Rattle.words.specs.declared.AfterEnd.{AfterEnd}
 use Rattle.words.specs.declared.AfterEnd.the-variants.{To as EndsAt, Missing}
 use Rattle.words.proofs.Starts.{no-more, part-ends, part-moves, word-then, Begins, word-starts}
-use Rattle.words.proofs.Skips.{resumed, skipped}
+use Rattle.words.proofs.Skips.{resumedAt, skipped-at, end-within}
 use Rattle.commands.specs.Reads.{readingFrom, codeAt}
 use Rattle.commands.specs.declared.Code.{Code as CodeAnswer}
 use Rattle.commands.specs.declared.Code.the-variants.{Named, Other, Bad as NoCode}
@@ -96,30 +96,24 @@ moves-sooner s low high (BodyAt to) h m = (omega (arith, m .0), m .1)
 moves-sooner s low high (Bad place) h m = tt
 
 module _ (s : List ℕ) (at : ℕ) (declared : Bool) {r : AfterEnd} (t : TextEnds s at r) where
+  text-then : (named : List ℕ) → readingFrom named s (text declared) at ≡ resumedAt named s (declaration declared) r
+  text-then named = skipped-at named s at (text declared) (declaration declared) (λ a w. refl) refl t
+
   pub text-ends : (to : ℕ) → r ≡ EndsAt to → TextRead s at declared (On to declared)
-  text-ends to e = go (rw e at t)
-    where
-      go : TextEnds s at (EndsAt to) → TextRead s at declared (On to declared)
-      go (ended h l q) named = record { reads = skipped named (length s) (text declared) (declaration declared) (λ a w. refl) refl (wordsFrom s at) ∙ rw q; moves = (h, l) }
+  text-ends to e named = record { reads = text-then named ∙ rw e; moves = end-within s at to (rw e at t) }
 
   pub text-missing : r ≡ Missing → TextRead s at declared (Bad (length s))
-  text-missing e = go (rw e at t)
-    where
-      go : TextEnds s at Missing → TextRead s at declared (Bad (length s))
-      go (missing q) named = record { reads = skipped named (length s) (text declared) (declaration declared) (λ a w. refl) refl (wordsFrom s at) ∙ rw q; moves = tt }
+  text-missing e named = record { reads = text-then named ∙ rw e; moves = tt }
 
   module _ (from : ℕ) (d : declared ≡ true) where
+    body-then : (named : List ℕ) → readingFrom named s remark at ≡ resumedAt named s (command false) r
+    body-then named = skipped-at named s at remark (command false) (λ a w. refl) refl t
+
     pub definitions-end : (to : ℕ) → r ≡ EndsAt to → DefinitionsEnd s from at declared (BodyAt to)
-    definitions-end to e = go (rw e at t)
-      where
-        go : TextEnds s at (EndsAt to) → DefinitionsEnd s from at declared (BodyAt to)
-        go (ended h l q) named = record { reads = rw d (skipped named (length s) remark (command false) (λ a w. refl) refl (wordsFrom s at) ∙ rw q); moves = (h, l) }
+    definitions-end to e named = record { reads = rw d (body-then named ∙ rw e); moves = end-within s at to (rw e at t) }
 
     pub definitions-missing : r ≡ Missing → DefinitionsEnd s from at declared (Bad (length s))
-    definitions-missing e = go (rw e at t)
-      where
-        go : TextEnds s at Missing → DefinitionsEnd s from at declared (Bad (length s))
-        go (missing q) named = record { reads = rw d (skipped named (length s) remark (command false) (λ a w. refl) refl (wordsFrom s at) ∙ rw q); moves = tt }
+    definitions-missing e named = record { reads = rw d (body-then named ∙ rw e); moves = tt }
 
 pub undeclared : (s : List ℕ) (from at : ℕ) (declared : Bool) → declared ≡ false → DefinitionsEnd s from at declared (Bad from)
 undeclared s from at declared d named = record { reads = rw d; moves = tt }
