@@ -6,24 +6,14 @@ use mathlib.Core.List.{List, _∷_}
 use lib.IntN.{ℤ, pos}
 use lib.ListN.{length, getD}
 use lib.Signed.{_≤ℤ_}
-use Rattle.wcet.specs.Table.{Routine, blockCount, loopCount, exit, figure, multiplier, edge}
+use Rattle.wcet.specs.Table.{Routine, withNumbers, blockCount, loopCount, exit, figure, multiplier, edge}
 use Rattle.wcet.specs.Rules.{edgeHolds}
 use Rattle.wcet.specs.Run.{path}
 use Rattle.optimum.specs.Rounds.{GreatestRound}
 
 -- t with these columns in place of its figures and multipliers: the same blocks, edges, costs, nesting and limits
 abbrev pub withColumns : Routine → List ℤ → List ℕ → Routine
-withColumns t fs ks = record {
-  costs = t .costs;
-  loops = t .loops;
-  firsts = t .firsts;
-  seconds = t .seconds;
-  figures = fs;
-  parents = t .parents;
-  headers = t .headers;
-  limits = t .limits;
-  multipliers = ks;
-}
+withColumns t fs ks = withNumbers t (t .costs) fs (t .limits) ks
 
 -- t's figures meet "all inequalities with those multipliers", and "The exit's figure is 0"
 pub record Feasible (t : Routine) : Type 0 where

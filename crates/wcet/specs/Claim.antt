@@ -1,4 +1,5 @@
--- What is claimed of the definitions, and proved in proofs/: demand 3, acceptance in other words, accepted walks, negative bounds.
+-- What is claimed of the definitions, and proved in proofs/: demand 3, acceptance in other words, accepted walks, negative bounds, trimmed
+-- tables.
 use Prim.Native.Nat.{ℕ, suc, _-_, _≤_, _<_}
 use mathlib.Core.Path.{_≡_}
 use mathlib.Core.Logic.{_↔_}
@@ -13,6 +14,7 @@ use Rattle.wcet.specs.Cycles.{ClosedWalk, undeclaredLoop}
 use Rattle.wcet.specs.Rules.{Reply, accepted, refused, Rule, structureRules, tableRules, bound, tableReply}
 use Rattle.wcet.specs.Run.{countedRun, runCost}
 use Rattle.wcet.specs.Walk.{Walked, walked, walkReply}
+use Rattle.wcet.specs.Trimming.{Trimmed}
 
 -- ---- demand 3
 
@@ -85,3 +87,14 @@ pub record WalkChecked (t : Routine) (w : List ℕ) (r : Reply Walked) : Type 0 
 -- "It may be negative; then no finished counted run exists."
 abbrev pub NegativeBound : Routine → Type 0
 NegativeBound t = (b : ℤ) → tableReply t ≡ accepted b → b <ℤ pos 0 → (w : List ℕ) → FinishedRun t w → ⊥
+
+-- ---- trimmed tables
+
+-- Document 02, §9, of tables and all their trimmed tables: "an accepted table stays accepted .., and .. its bound then is not greater. Every
+-- counted run of the trimmed table is a counted run of the old one, at no lower cost there." And the same of the replies to a walk, where the
+-- old tables keep 201 to 207.
+pub record StaysChecked (old : Routine) : Type 0 where
+  pub accepts : (new : Routine) → Trimmed old new → (b : ℤ) → tableReply old ≡ accepted b → (c : ℤ) × (tableReply new ≡ accepted c) × (c ≤ℤ b)
+  pub runs : (new : Routine) → Trimmed old new → (w : List ℕ) → countedRun new w ≡ true → (countedRun old w ≡ true) × (runCost new w ≤ runCost old w)
+  pub walks : (new : Routine) → Trimmed old new → AllHold (structureRules old) → (w : List ℕ) (x : Walked) → walkReply new w ≡ accepted x
+      → (y : Walked) × (walkReply old w ≡ accepted y) × (x .total ≤ y .total) × (x .steps ≡ y .steps)

@@ -4,6 +4,7 @@ pub mod Cycles
 pub mod Rules
 pub mod Run
 pub mod Walk
+pub mod Trimming
 pub mod Claim
 pub mod Cases
 pub mod Stays

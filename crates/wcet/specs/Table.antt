@@ -18,6 +18,20 @@ pub record Routine : Type 0 where
   pub limits : List ℕ
   pub multipliers : List ℕ
 
+-- the same blocks, edges and loop nesting, with other numbers: costs, figures, limits and multipliers
+abbrev pub withNumbers : Routine → (costs : List ℕ) (figures : List ℤ) (limits multipliers : List ℕ) → Routine
+withNumbers t costs figures limits multipliers = record {
+  costs = costs;
+  loops = t .loops;
+  firsts = t .firsts;
+  seconds = t .seconds;
+  figures = figures;
+  parents = t .parents;
+  headers = t .headers;
+  limits = limits;
+  multipliers = multipliers;
+}
+
 -- "There are n blocks, 0 to n−1 .. There are m loops, 0 to m−1", "n and m are their lengths"
 abbrev pub blockCount : Routine → ℕ
 blockCount t = length (t .costs)

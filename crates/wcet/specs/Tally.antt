@@ -7,7 +7,7 @@ use mathlib.Core.List.{List, [], _∷_, _++_, map}
 use lib.Dec.{eqb}
 use lib.ListN.{length, getD, take, set}
 use Rattle.lists.specs.Search.{if_then_else_, greatestBelow, tabulate}
-use Rattle.wcet.specs.Table.{Routine, loopCount, exit, edge, inside}
+use Rattle.wcet.specs.Table.{Routine, withNumbers, loopCount, exit, edge, inside}
 use Rattle.wcet.specs.Rules.{Reply, accepted, refused, Rule, check, sized, structureRules}
 use Rattle.wcet.specs.Walk.{Walked, walked, lengthRule, atBlock, walkReply}
 use Rattle.wcet.specs.Stays.{stayVisits}
@@ -75,17 +75,7 @@ greatestAfter t w before (refused number place) = before
 
 -- the tables with other limits
 abbrev pub withLimits : Routine → List ℕ → Routine
-withLimits t limits = record {
-  costs = t .costs;
-  loops = t .loops;
-  firsts = t .firsts;
-  seconds = t .seconds;
-  figures = t .figures;
-  parents = t .parents;
-  headers = t .headers;
-  limits = limits;
-  multipliers = t .multipliers;
-}
+withLimits t limits = withNumbers t (t .costs) (t .figures) limits (t .multipliers)
 
 -- "put in as limits, with 1 in place of 0"
 abbrev pub asLimits : List ℕ → List ℕ
