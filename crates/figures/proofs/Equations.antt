@@ -20,7 +20,7 @@ use Rattle.wcet.specs.Table.{Routine, blockCount, loopCount, exit, missing, loo
 use Rattle.wcet.specs.Cycles.{backEdge, undeclaredLoop}
 use Rattle.wcet.specs.Rules.{structureRules}
 use Rattle.wcet.specs.Claim.{AllHold}
-use Rattle.wcet.proofs.Nesting.{Nested, nested}
+use Rattle.wcet.proofs.Nesting.{Nested, nested, first-edge, second-edge}
 use Rattle.loopsets.specs.Sets.{setsAround}
 use Rattle.nesting.specs.Columns.{Headed}
 use Rattle.nesting.proofs.Stages.{headed}
@@ -29,7 +29,7 @@ use Rattle.optimum.specs.Remade.{AllPaths}
 use Rattle.optimum.specs.Tails.{weight}
 use Rattle.optimum.specs.Columns.{tails, remadeMultipliers, remultiplied, remadeFigures}
 use Rattle.optimum.specs.Replies.{multiplierOver}
-use Rattle.optimum.proofs.Structure.{first-edge, second-edge, target-loop, back-to}
+use Rattle.optimum.proofs.Structure.{target-loop, back-to}
 use Rattle.optimum.proofs.Filled.{figure-least}
 use Rattle.optimum.proofs.Remade.{remultiplied-nested, made-figure}
 use Rattle.optimum.proofs.Edges.{asks, figure-exit, figure-most, figure-attained}

@@ -21,7 +21,7 @@ use Rattle.wcet.specs.Table.{Routine, blockCount, loopCount, exit, missing, cos
 use Rattle.wcet.specs.Cycles.{undeclaredLoop}
 use Rattle.wcet.specs.Rules.{structureRules, figureOutside}
 use Rattle.wcet.specs.Claim.{AllHold}
-use Rattle.wcet.proofs.Nesting.{Nested, nested}
+use Rattle.wcet.proofs.Nesting.{Nested, nested, first-edge, second-edge}
 use Rattle.loopsets.specs.Sets.{setsAround}
 use Rattle.nesting.specs.Columns.{Ranged}
 use Rattle.nesting.proofs.Stages.{headed}
@@ -29,7 +29,7 @@ use Rattle.order.specs.Ordering.{Topological}
 use Rattle.optimum.specs.Remade.{PathToExit, AllPaths}
 use Rattle.optimum.specs.Columns.{remadeFigures, remade}
 use Rattle.optimum.specs.Replies.{figureOver}
-use Rattle.optimum.proofs.Structure.{first-edge, second-edge, target-loop, back-to}
+use Rattle.optimum.proofs.Structure.{target-loop, back-to}
 use Rattle.optimum.proofs.Paths.{exit-path, path-on}
 use Rattle.optimum.proofs.Remade.{figured-path}
 use Rattle.tails.specs.Words.{greaterOf}

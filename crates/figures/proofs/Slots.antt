@@ -15,14 +15,13 @@ use Rattle.wcet.specs.Table.{Routine, blockCount, loopCount, exit, missing, loo
 use Rattle.wcet.specs.Cycles.{backEdge, forwardEdge}
 use Rattle.wcet.specs.Rules.{structureRules}
 use Rattle.wcet.specs.Claim.{AllHold}
-use Rattle.wcet.proofs.Nesting.{Nested, nested}
+use Rattle.wcet.proofs.Nesting.{Nested, nested, first-edge, second-edge}
 use Rattle.loopsets.specs.Sets.{setsAround}
 use Rattle.loopsets.proofs.Laws.{member-around}
 use Rattle.nesting.specs.Columns.{Headed}
 use Rattle.nesting.proofs.Stages.{headed}
 use Rattle.order.specs.Edges.{backBySets}
 use Rattle.order.specs.Ordering.{Topological}
-use Rattle.optimum.proofs.Structure.{first-edge, second-edge}
 use Rattle.tails.specs.Slots.{nowhere, slotBySets, SlotsOf}
 use Rattle.figures.specs.Columns.{Forward}
 

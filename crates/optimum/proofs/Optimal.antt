@@ -1,8 +1,8 @@
 -- Columns that are made locally are optimal (`optimal`): the multipliers are the greatest rounds' costs, and the figures are the smallest.
 -- The table is accepted with its bound (`accepted-made`), no accepted certificate of a routine gives less than one of its finished counted
 -- runs costs (`no-less`), and no other columns are optimal (`same-multipliers`, `same-figures`). Assumes nothing.
-use mathlib.Core.Path.{_≡_, refl, sym, _∙_}
-use mathlib.Core.Bool.{false, not}
+use mathlib.Core.Path.{_≡_, sym}
+use mathlib.Core.Bool.{false}
 use mathlib.Core.List.{List, [], _∷_, _++_}
 use mathlib.Core.Logic.{inl, inr}
 use Prim.Native.Nat.{ℕ, _≤_, _<_}
@@ -13,21 +13,21 @@ use lib.ListN.{getD}
 use lib.Signed.{_≤ℤ_}
 use Rattle.integers.proofs.Laws.{ints}
 use Rattle.wcet.specs.Table.{Routine, blockCount, loopCount, loopOf, figure, header, multiplier, someEdge, edge, inside}
-use Rattle.wcet.specs.Rules.{accepted, edgeHolds, inequalityBroken, structureRules, inequalityRule, undeclaredRule, tableRules, bound, tableReply}
+use Rattle.wcet.specs.Rules.{accepted, edgeHolds, structureRules, bound, tableReply}
 use Rattle.wcet.specs.Cycles.{undeclaredLoop}
 use Rattle.wcet.specs.Run.{runCost}
 use Rattle.wcet.specs.Claim.{AllHold, FinishedRun}
-use Rattle.wcet.proofs.Replies.{append-all, replies-exactly}
-use Rattle.wcet.proofs.Bound.{finished-bounded}
+use Rattle.wcet.proofs.Bound.{accepted-by, finished-bounded}
 use Rattle.wcet.proofs.Nesting.{Nested, nested}
+use Rattle.wcet.proofs.OtherNumbers.{same-cost}
 use Rattle.optimum.specs.Rounds.{GreatestRound}
 use Rattle.optimum.specs.Remade.{withColumns, Optimal}
 use Rattle.optimum.proofs.Local.{LocallyMade, Ranked}
-use Rattle.optimum.proofs.Structure.{no-edge-at, target-loop}
+use Rattle.optimum.proofs.Structure.{target-loop}
 use Rattle.optimum.proofs.Figures.{feasible, smallest}
 use Rattle.optimum.proofs.Rounds.{greatest-round, no-round-0}
 use Rattle.optimum.proofs.Attained.{round-attained}
-use Rattle.optimum.proofs.Columns.{same-cost, same-run, same-round, nested-too}
+use Rattle.optimum.proofs.Columns.{run-too, round-too, nested-too}
 
 pub optimal : (t : Routine) → Nested t → LocallyMade t → Ranked t → Optimal t
 optimal t N L K = record { rounds = λ l m. rounds l m (ℕ-discrete l 0); figures = smallest t N L K }
@@ -38,15 +38,7 @@ optimal t N L K = record { rounds = λ l m. rounds l m (ℕ-discrete l 0); figur
 
 -- "The result must be accepted, the reply is its bound"
 pub accepted-made : (t : Routine) → AllHold (structureRules t) → undeclaredLoop t ≡ false → LocallyMade t → tableReply t ≡ accepted (bound t)
-unfolding tableRules inequalityBroken
-accepted-made t h declared L =
-    replies-exactly t .accepts (bound t) .1 (
-      append-all (structureRules t) (undeclaredRule t ∷ inequalityRule t ∷ []) h (
-        λ p b. declared,
-        (λ u b. no-edge-at t u (λ v. not (edgeHolds t u v)) (λ v e. rw (feasible t (nested t h) L .holds u v b e)), tt),
-      ),
-      refl,
-    )
+accepted-made t h declared L = accepted-by t h declared (feasible t (nested t h) L .holds)
 
 module _ (t : Routine) (fs : List ℤ) (ks : List ℕ) where
   abbrev t′ : Routine
@@ -54,12 +46,12 @@ module _ (t : Routine) (fs : List ℤ) (ks : List ℕ) where
 
   -- "so no certificate gives less"
   pub no-less : (w : List ℕ) → FinishedRun t w → (b : ℤ) → tableReply (withColumns t fs ks) ≡ accepted b → pos (runCost t w) ≤ℤ b
-  no-less w r b e = rw (← same-cost t fs ks w) (finished-bounded t′ b e w (record { counted = same-run t fs ks w ∙ r .counted; at-exit = r .at-exit }))
+  no-less w r b e = rw (← same-cost t fs (t .limits) ks w) (finished-bounded t′ b e w (record { counted = run-too t fs ks w (r .counted); at-exit = r .at-exit }))
 
   -- greatest rounds, and with the same multipliers smallest figures, are no greater in the one than in the other
   rounds-le : (l a b : ℕ) → GreatestRound t l a → GreatestRound t′ l b → a ≤ b
   rounds-le l a b G G′ = elim (G .attained) [
-    | inl p ↦ omega (arith, G′ .most (p .0) (same-round t fs ks l (p .0) (p .1)), same-cost t fs ks (p .0 ++ header t l ∷ []), p .2)
+    | inl p ↦ omega (arith, G′ .most (p .0) (round-too t fs ks l (p .0) (p .1)), same-cost t fs (t .limits) ks (p .0 ++ header t l ∷ []), p .2)
     | inr p ↦ omega (arith, p .0)
   ]
 
@@ -75,7 +67,7 @@ module _ (t : Routine) (fs : List ℤ) (ks : List ℕ) where
 -- loop 0's multiplier is 0 (202), since it has no round
 pub loop0-optimal : (t : Routine) → Nested t → (fs : List ℤ) (ks : List ℕ) → Optimal (withColumns t fs ks) → getD ks 0 0 ≡ 0
 loop0-optimal t N fs ks M = elim (M .rounds 0 (N .some-loop) .attained) [
-  | inl p ↦ absurd (no-round-0 t N (p .0) (same-round (withColumns t fs ks) (t .figures) (t .multipliers) 0 (p .0) (p .1)))
+  | inl p ↦ absurd (no-round-0 t N (p .0) (round-too (withColumns t fs ks) (t .figures) (t .multipliers) 0 (p .0) (p .1)))
   | inr p ↦ p .0
 ]
 

@@ -9,25 +9,26 @@ use Prim.Native.Nat.{ℕ, zero, suc, _*_, _^_, _≤_, _<_}
 use native.Mathlib.Omega.{arith}
 use lib.Dec.{ltb}
 use borrow.Author.Tests.{ltb-false}
-use lib.IntN.{ℤ, pos, _+ℤ_}
+use lib.IntN.{ℤ, pos, negℤ, _+ℤ_}
 use lib.ListN.{length, getD}
 use lib.Seq.{ext-getD}
-use lib.Signed.{_≤ℤ_}
+use lib.Signed.{ltZ, _≤ℤ_}
 use Rattle.limits.specs.Limits.{mostBlocks, mostLoops}
-use Rattle.lists.proofs.Tests.{or-false}
+use Rattle.lists.proofs.Tests.{or-false, neither}
 use Rattle.lists.proofs.Search.{tabulate-at, tabulate-length}
 use Rattle.integers.proofs.Laws.{ints, sum}
 use Rattle.wcet.specs.Table.{Routine, blockCount, loopCount, header, inside}
 use Rattle.wcet.specs.Cycles.{backEdge, undeclaredLoop}
-use Rattle.wcet.specs.Rules.{accepted, outOfRange, sizesWrong, structureRules, bound, tableReply}
+use Rattle.wcet.specs.Rules.{accepted, outOfRange, sizesWrong, figureOutside, structureRules, bound, tableReply}
 use Rattle.wcet.specs.Run.{runCost}
 use Rattle.wcet.specs.Claim.{AllHold, FinishedRun}
 use Rattle.wcet.proofs.Nesting.{Nested}
+use Rattle.wcet.proofs.OtherNumbers.{same-path, same-cost, undeclared-kept, counted-too, Fitting, fitting, rules-kept}
 use Rattle.optimum.specs.Remade.{withColumns, Optimal, RemadeColumns, PathToExit}
 use Rattle.optimum.specs.Tails.{weight, via, tailAt}
 use Rattle.optimum.specs.Columns.{orDefault, tails, remadeMultipliers, turn, figureBy, remultiplied, remadeFigures, remade}
 use Rattle.optimum.proofs.Local.{Tailed, LocallyMade, Ranked, HasFigure}
-use Rattle.optimum.proofs.Columns.{Fitting, same-path, same-cost, same-run, rules-kept, nested-too, ranked-too, undeclared-kept}
+use Rattle.optimum.proofs.Columns.{nested-too, ranked-too}
 use Rattle.optimum.proofs.Ranks.{ranked, tails-step}
 use Rattle.optimum.proofs.Multipliers.{multiplier-count, loop0-multiplier, made-multiplier}
 use Rattle.optimum.proofs.Filled.{filled-made, figure-least}
@@ -60,7 +61,7 @@ module _ (t : Routine) (N : Nested t) (declared : undeclaredLoop t ≡ false) wh
   remultiplied-nested = nested-too t [] ks N (loop0-multiplier t N)
 
   pub remultiplied-tailed : Tailed (remultiplied t) (tails (remultiplied t))
-  remultiplied-tailed = tails-step t′ remultiplied-nested (undeclared-kept t [] ks declared)
+  remultiplied-tailed = tails-step t′ remultiplied-nested (undeclared-kept t (t .costs) [] (t .limits) ks refl declared)
 
   pub remade-nested : Nested (remade t)
   unfolding remade
@@ -70,7 +71,7 @@ module _ (t : Routine) (N : Nested t) (declared : undeclaredLoop t ≡ false) wh
   pub figured-path : (x : ℕ) → x < blockCount t → (f : ℤ) → figureBy (remultiplied t) (tails (remultiplied t)) (loopCount t) x ≡ some f → PathToExit t x
   figured-path x b f e =
       let p : PathToExit t′ x = figure-path t′ remultiplied-nested (tails t′) remultiplied-tailed (ranked-too t [] ks (ranked t N declared .0)) x b (f, e) in
-      record { blocks = p .blocks; follows = sym (same-path t [] ks (p .blocks) x) ∙ p .follows; at-exit = p .at-exit }
+      record { blocks = p .blocks; follows = sym (same-path t (t .costs) [] (t .limits) ks (p .blocks) x) ∙ p .follows; at-exit = p .at-exit }
 
   -- where each block has a path to the exit
   module _ (paths : (x : ℕ) → x < blockCount t → PathToExit t x) where
@@ -78,7 +79,7 @@ module _ (t : Routine) (N : Nested t) (declared : undeclaredLoop t ≡ false) wh
     has x b =
         let p : PathToExit t x = paths x b in
         path-figure t′ remultiplied-nested (tails t′) remultiplied-tailed x b
-        (record { blocks = p .blocks; follows = same-path t [] ks (p .blocks) x ∙ p .follows; at-exit = p .at-exit })
+        (record { blocks = p .blocks; follows = same-path t (t .costs) [] (t .limits) ks (p .blocks) x ∙ p .follows; at-exit = p .at-exit })
 
     pub made-figure : (x : ℕ) → x < blockCount t → figureBy (remultiplied t) (tails (remultiplied t)) (loopCount t) x ≡ some (getD (remadeFigures t) x (pos 0))
     unfolding remadeFigures orDefault
@@ -113,7 +114,7 @@ module _ (t : Routine) (N : Nested t) (declared : undeclaredLoop t ≡ false) wh
     unfolding remade
     remade-run =
         let R : (w : List ℕ) × FinishedRun (remade t) w × (pos (runCost (remade t) w) ≡ bound (remade t)) = run-made (remade t) remade-nested remade-local remade-ranked in
-        (R .0, record { counted = sym (same-run t fs ks (R .0)) ∙ R .1 .counted; at-exit = R .1 .at-exit }, rw (← same-cost t fs ks (R .0)) (R .2))
+        (R .0, record { counted = counted-too t (t .costs) fs (t .limits) ks (λ l b. omega arith) (R .0) (R .1 .counted); at-exit = R .1 .at-exit }, rw (← same-cost t fs (t .limits) ks (R .0)) (R .2))
 
     -- the columns of one table that are optimal with as many entries are these
     pub only-remade : (fs′ : List ℤ) (ks′ : List ℕ) → RemadeColumns t fs′ ks′ → (fs′ ≡ remadeFigures t) × (ks′ ≡ remadeMultipliers t)
@@ -134,19 +135,22 @@ module _ (t : Routine) (N : Nested t) (declared : undeclaredLoop t ≡ false) wh
           let p : (outOfRange 2 mostBlocks (blockCount t) ≡ false) × (outOfRange 1 mostLoops (loopCount t) ≡ false) = or-false _ _ (or-false _ _ (or-false _ _ (h .0 0 (omega arith)) .0) .0) in
           ltb-false mostLoops (loopCount t) (or-false (ltb (loopCount t) 1) _ (p .1) .1)
 
-      pub remade-fits : Fitting t (remadeFigures t) (remadeMultipliers t)
+      figure-within : (x : ℕ) → x < blockCount t → figureOutside (getD (remadeFigures t) x (pos 0)) ≡ false
+      figure-within x b =
+          let f : ℤ = getD fs x (pos 0) in
+          let p : pos 0 ≤ℤ (f +ℤ pos (2 ^ 40 * loopCount t)) = figure-least t′ remultiplied-nested (tails t′) (2 ^ 40) low (loopCount t) x f (omega arith) b (made-figure x b) in
+          let least : ltZ f (negℤ (pos (2 ^ 60))) ≡ false = omega (ints, few-loops, sum f (pos (2 ^ 40 * loopCount t))) in
+          let most : ltZ (pos (2 ^ 60)) f ≡ false = omega (ints, high x b) in
+          neither least most
+
+      remade-fits : Fitting t (t .costs) (remadeFigures t) (t .limits) (remadeMultipliers t)
       remade-fits = record {
-        figure-count = figure-count t;
-        multiplier-count = multiplier-count t;
-        loop0-multiplier = loop0-multiplier t N;
-        multiplier-most = low;
-        figure-least = λ x b.
-            let f : ℤ = getD fs x (pos 0) in
-            let p : pos 0 ≤ℤ (f +ℤ pos (2 ^ 40 * loopCount t)) = figure-least t′ remultiplied-nested (tails t′) (2 ^ 40) low (loopCount t) x f (omega arith) b (made-figure x b) in
-            omega (ints, few-loops, sum f (pos (2 ^ 40 * loopCount t)));
-        figure-most = high;
+        costs = fitting t h .costs;
+        figures = record { count = figure-count t; range = figure-within };
+        limits = fitting t h .limits;
+        multipliers = record { count = multiplier-count t; loop0 = loop0-multiplier t N; most = λ l z. low l };
       }
 
       pub remade-accepted : tableReply (remade t) ≡ accepted (bound (remade t))
       unfolding remade
-      remade-accepted = accepted-made (remade t) (rules-kept t fs ks h remade-fits) (undeclared-kept t fs ks declared) remade-local
+      remade-accepted = accepted-made (remade t) (rules-kept t h (t .costs) fs (t .limits) ks remade-fits) (undeclared-kept t (t .costs) fs (t .limits) ks refl declared) remade-local

@@ -14,11 +14,11 @@ use lib.ListN.{getD}
 use Rattle.lists.specs.Search.{if_then_else_}
 use Rattle.wcet.specs.Table.{Routine, blockCount, loopCount, missing, cost, loopOf, first, second, header, limit, multiplier, edge, inside, isHeader}
 use Rattle.wcet.specs.Cycles.{backEdge, forwardEdge}
-use Rattle.wcet.proofs.Nesting.{Nested}
+use Rattle.wcet.proofs.Nesting.{Nested, first-edge, second-edge}
 use Rattle.optimum.specs.Remade.{withColumns}
 use Rattle.optimum.specs.Tails.{more, weight, via, tailAt, tailBy}
 use Rattle.optimum.proofs.Local.{Tailed, Ranked}
-use Rattle.optimum.proofs.Structure.{first-edge, second-edge, target-loop, enters-above}
+use Rattle.optimum.proofs.Structure.{target-loop, enters-above}
 
 -- two functions agree where x's tail of loop l reads them
 abbrev pub Agree : {A : Type 0} → Routine → ℕ → ℕ → (ℕ → A) → (ℕ → A) → Type 0

@@ -1,15 +1,15 @@
 -- The loops around a block, of which loop 0 is one and the innermost the highest; and where a back edge leads, and a forward edge.
 -- Assumes nothing.
 use mathlib.Core.Path.{_≡_, refl, sym, _∙_, ap}
-use mathlib.Core.Bool.{Bool, true, false, not, _&&_, _||_, or-true, true≢false}
+use mathlib.Core.Bool.{Bool, true, false, _||_, or-true, true≢false}
 use Prim.Native.Nat.{ℕ, zero, suc, _≤_, _<_}
 use native.Mathlib.Decide.{ℕ-discrete, decLe}
 use native.Mathlib.Omega.{arith}
 use lib.Dec.{eqb}
 use borrow.Author.Tests.{eqb-true, eq-eqb}
 use lib.ListN.{List·getD-eq-default}
-use Rattle.lists.proofs.Tests.{neither, and-true}
-use Rattle.wcet.specs.Table.{Routine, blockCount, loopCount, missing, loopOf, first, second, parent, header, someEdge, edge, around, inside, isHeader}
+use Rattle.lists.proofs.Tests.{and-true}
+use Rattle.wcet.specs.Table.{Routine, blockCount, loopCount, loopOf, parent, header, edge, around, inside, isHeader}
 use Rattle.wcet.specs.Cycles.{backEdge}
 use Rattle.wcet.proofs.Nesting.{Nested}
 use Rattle.wcet.proofs.Around.{around-above, around-trans, header-of}
@@ -61,27 +61,6 @@ module _ (t : Routine) (N : Nested t) where
       go : (x : Bool) → inside t u l ≡ x → x ≡ true
       go true q = refl
       go false q = absurd (ne (sym (N .at-header u v l b e m i q)))
-
--- ---- the edges out of a block
-
-module _ (t : Routine) (u : ℕ) where
-  -- a successor that is there is at the end of an edge
-  pub first-edge : eqb (first t u) missing ≡ false → edge t u (first t u) ≡ true
-  unfolding someEdge edge
-  first-edge e = rw (e, eq-eqb (first t u) (first t u) refl)
-
-  pub second-edge : eqb (second t u) missing ≡ false → edge t u (second t u) ≡ true
-  unfolding someEdge edge
-  second-edge e = rw (e, eq-eqb (second t u) (second t u) refl) (or-true (not (eqb (first t u) missing) && eqb (first t u) (second t u)))
-
-  -- a test that fails at each edge holds at none
-  pub no-edge-at : (p : ℕ → Bool) → ((v : ℕ) → edge t u v ≡ true → p v ≡ false) → someEdge t u p ≡ false
-  unfolding someEdge
-  no-edge-at p h = neither (go (eqb (first t u) missing) (first t u) refl (λ e. h (first t u) (first-edge e))) (go (eqb (second t u) missing) (second t u) refl (λ e. h (second t u) (second-edge e)))
-    where
-      go : (m : Bool) (v : ℕ) → eqb v missing ≡ m → (eqb v missing ≡ false → p v ≡ false) → (not m && p v) ≡ false
-      go true v q k = refl
-      go false v q k = k q
 
 -- ---- back edges and forward edges
 

@@ -12,11 +12,10 @@ use Rattle.lists.specs.Search.{if_then_else_}
 use Rattle.lists.proofs.Tests.{neither, and-true}
 use Rattle.wcet.specs.Table.{Routine, blockCount, loopCount, exit, missing, cost, first, second, header, someEdge, edge, inside}
 use Rattle.wcet.specs.Cycles.{backEdge, forwardEdge}
-use Rattle.wcet.proofs.Nesting.{no-edge, Nested}
+use Rattle.wcet.proofs.Nesting.{no-edge, Nested, first-edge, second-edge}
 use Rattle.wcet.proofs.Counts.{header-inside}
 use Rattle.optimum.specs.Tails.{best, more, weight, via, tailAt}
 use Rattle.optimum.proofs.Local.{Tailed, Ranked}
-use Rattle.optimum.proofs.Structure.{first-edge, second-edge}
 
 -- ---- the greater of two
 

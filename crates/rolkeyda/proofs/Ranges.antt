@@ -13,7 +13,7 @@ use Rattle.lists.specs.Search.{if_then_else_, firstBelow}
 use Rattle.lists.proofs.Search.{Lowest, not-found, found-lowest}
 use Rattle.lists.proofs.Tests.{or-false}
 use Rattle.integers.proofs.Laws.{ints}
-use Rattle.wcet.specs.Table.{Routine, blockCount, exit, cost, edge}
+use Rattle.wcet.specs.Table.{Routine, blockCount, exit, edge}
 use Rattle.wcet.specs.Rules.{Reply as Answer, accepted, refused, Rule, refusedAt, check, sizesWrong, structureRules, undeclaredRule, tableRules, bound, tableReply}
 use Rattle.wcet.specs.Run.{State, start, next, passesLimit, runCost}
 use Rattle.limits.specs.Limits.{mostBlocks, mostTextBytes, longestWalk}
@@ -21,7 +21,7 @@ use Rattle.wcet.specs.Walk.{Walked, walked, lengthRule, walkFrom, walkBlocks, w
 use Rattle.wcet.specs.Claim.{AllHold, FinishedRun}
 use Rattle.wcet.proofs.Replies.{decides, hands-on, all-append, passes}
 use Rattle.wcet.specs.Tally.{columnsRule, recordingFrom, recordingBlocks, tallyReply}
-use Rattle.wcet.proofs.Walks.{unrefused, finishes, walks-exactly}
+use Rattle.wcet.proofs.Walks.{unrefused, finishes, accepted-walk}
 use Rattle.optimum.specs.Columns.{remade}
 use Rattle.optimum.specs.Replies.{givenRules, solveRules, solveReply}
 use Rattle.mps.specs.Text.{mpsText}
@@ -183,13 +183,10 @@ pub record Finished (t : Routine) (w : List ℕ) (x : Walked) : Type 0 where
   pub most : x .total ≤ longestWalk * 1000000
 
 pub walk-finished : (t : Routine) (w : List ℕ) (x : Walked) → walkReply t w ≡ accepted x → Finished t w x
-unfolding walkReply
 walk-finished t w x e =
-    let h = all-append (structureRules t) (lengthRule w ∷ []) (passes (structureRules t ++ lengthRule w ∷ []) _ x e .0) in
-    let few : length w ≤ longestWalk = length-kept w (h .1) in
-    let q : FinishedRun t w × (walked t w ≡ x) = walks-exactly t w (h .0) few x .0 e in
-    let total : runCost t w ≡ x .total = ap (λ (y : Walked). y .total) (q .1) in
-    record { run = q .0; same = sym (q .1); most = omega (arith, run-most t (headed t (h .0) .ranged) w) }
+    let a = accepted-walk t w x e in
+    let total : runCost t w ≡ x .total = ap (λ (y : Walked). y .total) (a .result) in
+    record { run = a .finished; same = sym (a .result); most = omega (arith, a .short, run-most t (headed t (a .rules) .ranged) w) }
 
 -- ---- recordings
 

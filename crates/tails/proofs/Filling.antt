@@ -17,7 +17,7 @@ use Rattle.lists.specs.Search.{if_then_else_}
 use Rattle.lists.proofs.Tests.{and-true}
 use Rattle.wcet.specs.Table.{Routine, blockCount, loopCount, exit, missing, cost, loopOf, first, second, header, edge, inside, isHeader}
 use Rattle.wcet.specs.Cycles.{backEdge, forwardEdge}
-use Rattle.wcet.proofs.Nesting.{Nested}
+use Rattle.wcet.proofs.Nesting.{Nested, first-edge, second-edge}
 use Rattle.wcet.proofs.Around.{header-of}
 use Rattle.loopsets.specs.Sets.{Parents}
 use Rattle.order.specs.Ordering.{Topological}
@@ -26,7 +26,7 @@ use Rattle.levels.proofs.Laws.{around-own, depth-root, depth-least, depth-one, 
 use Rattle.optimum.specs.Tails.{best, more, weight, via, tailAt}
 use Rattle.optimum.specs.Columns.{tails}
 use Rattle.optimum.proofs.Local.{Tailed, Ranked}
-use Rattle.optimum.proofs.Structure.{inside-whole, first-edge, second-edge, back-to, enters-above}
+use Rattle.optimum.proofs.Structure.{inside-whole, back-to, enters-above}
 use Rattle.optimum.proofs.Steps.{enough-steps}
 use Rattle.tails.specs.Words.{mostTail, wordOf, greaterOf, cap, moreCapped}
 use Rattle.tails.specs.Slots.{nowhere, slotBySets}

@@ -2,35 +2,24 @@
 -- (`walks-read-back`): its blocks follow edges, so no block comes twice in a row. Assumes nothing.
 use mathlib.Core.Path.{_≡_}
 use mathlib.Core.Bool.{true, false≢true}
-use mathlib.Core.List.{List, [], _∷_, _++_}
+use mathlib.Core.List.{List, [], _∷_}
 use Prim.Native.Nat.{ℕ, _≤_, _<_}
 use native.Mathlib.Omega.{arith}
 use borrow.Author.Tests.{eqb-true, ltb-false}
 use lib.Dec.{eqb, ltb}
-use lib.ListN.{length}
-use Rattle.limits.specs.Limits.{mostBlocks, longestWalk}
+use Rattle.limits.specs.Limits.{mostBlocks}
 use Rattle.lists.proofs.Tests.{or-false, and-true}
 use Rattle.wcet.specs.Table.{Routine, blockCount, edge}
-use Rattle.wcet.specs.Rules.{accepted, sizesWrong, structureRules}
+use Rattle.wcet.specs.Rules.{sizesWrong, structureRules}
 use Rattle.wcet.specs.Run.{path, run, start, keepsLimits, countedRun}
-use Rattle.wcet.specs.Walk.{Walked, walked, lengthRule, walkBlocks, walkReply}
 use Rattle.wcet.specs.Claim.{AllHold, Holds, FinishedRun}
-use Rattle.wcet.proofs.Replies.{passes, all-append}
+use Rattle.wcet.proofs.Replies.{all-append}
 use Rattle.wcet.proofs.Nesting.{Nested, nested}
-use Rattle.wcet.proofs.Walks.{walks-exactly}
+use Rattle.wcet.proofs.Walks.{accepted-walk}
 use Rattle.vcd.specs.Recording.{selfEdgeRule}
 use Rattle.vcd.specs.Claim.{NoRepeatAfter, NoRepeat, WalksReadBack, UpTo, WalksCanBeWritten}
 use Rattle.vcd.proofs.Writing.{reads-back}
 use Rattle.vcd.proofs.Writable.{can-be-written}
-
--- an accepted walk is a counted run over tables that keep 201 to 207
-accepted-run : (t : Routine) (w : List ℕ) (x : Walked) → walkReply t w ≡ accepted x → AllHold (structureRules t) × FinishedRun t w
-unfolding walkReply
-accepted-run t w x e =
-    let p = passes (structureRules t ++ lengthRule w ∷ []) (walkBlocks t w (accepted (walked t w))) x e in
-    let q : AllHold (structureRules t) × AllHold (lengthRule w ∷ []) = all-append (structureRules t) (lengthRule w ∷ []) (p .0) in
-    let high : length w ≤ longestWalk = ltb-false longestWalk (length w) (or-false (ltb (length w) 1) _ (q .1 .0 0 (omega arith)) .1) in
-    (q .0, walks-exactly t w (q .0) high x .0 e .0)
 
 few-blocks : (t : Routine) → AllHold (structureRules t) → blockCount t ≤ mostBlocks
 unfolding structureRules sizesWrong
@@ -65,12 +54,12 @@ pub walks-read-back : WalksReadBack
 walks-read-back t named w s room x given e written short l =
     let q : AllHold (structureRules t) × AllHold (selfEdgeRule t ∷ []) = all-append (structureRules t) (selfEdgeRule t ∷ []) given in
     let N : Nested t = nested t (q .0) in
-    let apart : NoRepeat w = of-run NoRepeat t w (λ v u z p. path-apart t N (q .1 .0) v u (omega (arith, N .two-blocks)) p) (accepted-run t w x e .1) in
+    let apart : NoRepeat w = of-run NoRepeat t w (λ v u z p. path-apart t N (q .1 .0) v u (omega (arith, N .two-blocks)) p) (accepted-walk t w x e .finished) in
     reads-back t named w s room given written apart short l
 
 pub walks-can-be-written : WalksCanBeWritten
 walks-can-be-written t named w x e k =
-    let q = accepted-run t w x e in
-    let N : Nested t = nested t (q .0) in
-    let most : blockCount t ≤ mostBlocks = few-blocks t (q .0) in
-    can-be-written named w k (of-run (UpTo 65534) t w (λ v u z p. path-blocks t N 65534 v u (omega arith) (omega (arith, N .two-blocks)) p) (q .1))
+    let a = accepted-walk t w x e in
+    let N : Nested t = nested t (a .rules) in
+    let most : blockCount t ≤ mostBlocks = few-blocks t (a .rules) in
+    can-be-written named w k (of-run (UpTo 65534) t w (λ v u z p. path-blocks t N 65534 v u (omega arith) (omega (arith, N .two-blocks)) p) (a .finished))

@@ -1,7 +1,7 @@
 -- Demand 3: an accepted pair of tables bounds every counted run (`wcet-bound`), so demand 3 holds of a checker whose reply is that of
 -- the rules (`checked`). A negative bound says that no counted run is finished (`none-finished`). Assumes nothing.
-use mathlib.Core.Path.{_≡_, sym, _∙_, ap}
-use mathlib.Core.Bool.{true, not, _&&_, false≢true}
+use mathlib.Core.Path.{_≡_, refl, sym, _∙_, ap}
+use mathlib.Core.Bool.{true, false, not, _&&_, false≢true}
 use mathlib.Core.List.{List, [], _∷_}
 use Prim.Native.Nat.{ℕ, _+_, _-_, _≤_, _<_}
 use native.Mathlib.Nat.{mul-le-mul-left}
@@ -17,11 +17,12 @@ use Rattle.integers.specs.Parts.{up, dn}
 use Rattle.integers.proofs.Laws.{ints, sum, diff, times, leZ-le}
 use Rattle.integers.proofs.Direction.{atMost}
 use Rattle.wcet.specs.Table.{Routine, blockCount, exit, cost, figure, limit, multiplier, edge}
+use Rattle.wcet.specs.Cycles.{undeclaredLoop}
 use Rattle.wcet.specs.Rules.{Reply, accepted, inequality, edgeHolds, inequalityBroken, inequalityRule, undeclaredRule, structureRules, tableRules, bound, tableReply}
 use Rattle.wcet.specs.Run.{path, run, State, start, next, after, passesLimit, keepsLimits, countedRun, runCost}
 use Rattle.wcet.specs.Claim.{Holds, AllHold, BoundedAt, WcetBound, Checked, FinishedRun, NegativeBound}
-use Rattle.wcet.proofs.Replies.{all-append, replies-exactly}
-use Rattle.wcet.proofs.Nesting.{no-edge, Nested, nested}
+use Rattle.wcet.proofs.Replies.{all-append, append-all, replies-exactly}
+use Rattle.wcet.proofs.Nesting.{no-edge, no-edge-at, Nested, nested}
 use Rattle.wcet.proofs.Potential.{Certificate, remaining, Sound}
 use Rattle.wcet.proofs.Path.{AllSound, at-end, whole-run, after-block}
 use Rattle.wcet.proofs.Entry.{stepCost, potential-start, weight-cost}
@@ -38,6 +39,13 @@ remaining-left k b c h = omega (ints, times k (pos b -ℤ pos c), mul-le-mul-lef
     less : dn (pos b -ℤ pos c) ≤ up (pos b -ℤ pos c)
     less = omega (ints, diff (pos b) (pos c))
 
+-- and with a higher limit more is left
+pub remaining-mono : (k a b c : ℕ) → a ≤ b → remaining k a c ≤ℤ remaining k b c
+remaining-mono k a b c h = omega (ints, times k (pos a -ℤ pos c), times k (pos b -ℤ pos c), mul-le-mul-left k less)
+  where
+    less : up (pos a -ℤ pos c) + dn (pos b -ℤ pos c) ≤ up (pos b -ℤ pos c) + dn (pos a -ℤ pos c)
+    less = omega (ints, diff (pos a) (pos c), diff (pos b) (pos c))
+
 -- what acceptance gives: 201 to 207 by name, and each edge's inequality
 pub record Facts (t : Routine) : Type 0 where
   pub nesting : Nested t
@@ -52,6 +60,19 @@ unfolding tableRules
 facts t h =
     let q : AllHold (structureRules t) × AllHold (undeclaredRule t ∷ inequalityRule t ∷ []) = all-append (structureRules t) (undeclaredRule t ∷ inequalityRule t ∷ []) h in
     facts-by t (q .0) (q .1 .1 .0)
+
+-- and what acceptance takes: 201 to 207, 209, and each edge's inequality
+pub accepted-by : (t : Routine) → AllHold (structureRules t) → undeclaredLoop t ≡ false → ((u v : ℕ) → u < blockCount t → edge t u v ≡ true → edgeHolds t u v ≡ true)
+    → tableReply t ≡ accepted (bound t)
+unfolding tableRules inequalityBroken
+accepted-by t h declared holds =
+    replies-exactly t .accepts (bound t) .1 (
+      append-all (structureRules t) (undeclaredRule t ∷ inequalityRule t ∷ []) h (
+        λ p b. declared,
+        (λ u b. no-edge-at t u (λ v. not (edgeHolds t u v)) (λ v e. rw (holds u v b e)), tt),
+      ),
+      refl,
+    )
 
 module _ (t : Routine) (F : Facts t) where
   open Nested (F .nesting) using (two-blocks, loop0-multiplier, innermost, target, own, at-header)

@@ -13,5 +13,6 @@ pub mod Counts
 pub mod Around
 pub mod Steps
 pub mod Tallies
-pub mod OtherLimits
+pub mod OtherNumbers
 pub mod Recordings
+pub mod Trimming

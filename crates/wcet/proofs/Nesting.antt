@@ -1,13 +1,13 @@
 -- What 201 to 207 say of the edges and the loops, by name. Assumes nothing.
 use mathlib.Core.Path.{_≡_, refl}
-use mathlib.Core.Bool.{Bool, true, false, not, _&&_, _||_, false≢true}
+use mathlib.Core.Bool.{Bool, true, false, not, _&&_, _||_, or-true, false≢true}
 use Prim.Native.Nat.{ℕ, _≤_, _<_}
 use native.Mathlib.Decide.{ℕ-discrete}
 use native.Mathlib.Omega.{arith}
 use lib.Dec.{eqb, ltb}
-use borrow.Author.Tests.{eqb-true, eqb-false, ltb-true, ltb-false, not-false, ne-eqb}
+use borrow.Author.Tests.{eqb-true, eqb-false, ltb-true, ltb-false, not-false, eq-eqb, ne-eqb}
 use Rattle.limits.specs.Limits.{mostBlocks, mostLoops}
-use Rattle.lists.proofs.Tests.{or-false, and-true}
+use Rattle.lists.proofs.Tests.{or-false, neither, and-true}
 use Rattle.lists.proofs.Search.{none-of}
 use Rattle.wcet.specs.Table.{Routine, blockCount, loopCount, exit, missing, cost, loopOf, first, second, parent, header, limit, multiplier, someEdge, edge, inside}
 use Rattle.wcet.specs.Rules.{outOfRange, sizesWrong, loopWrong, blockWrong, headerElsewhere, entryOrExitEdge, pastHeader, entersPastHeader, structureRules}
@@ -27,6 +27,25 @@ no-edge t u v p e h = go (eqb (first t u) missing) (eqb (second t u) missing) (e
     go false true false es qf qs none some = absurd (false≢true some)
     go true false ef false qf qs none some = absurd (false≢true some)
     go true true ef es qf qs none some = absurd (false≢true some)
+
+module _ (t : Routine) (u : ℕ) where
+  -- a successor that is there is at the end of an edge
+  pub first-edge : eqb (first t u) missing ≡ false → edge t u (first t u) ≡ true
+  unfolding someEdge edge
+  first-edge e = rw (e, eq-eqb (first t u) (first t u) refl)
+
+  pub second-edge : eqb (second t u) missing ≡ false → edge t u (second t u) ≡ true
+  unfolding someEdge edge
+  second-edge e = rw (e, eq-eqb (second t u) (second t u) refl) (or-true (not (eqb (first t u) missing) && eqb (first t u) (second t u)))
+
+  -- a test that fails at each edge holds at none
+  pub no-edge-at : (p : ℕ → Bool) → ((v : ℕ) → edge t u v ≡ true → p v ≡ false) → someEdge t u p ≡ false
+  unfolding someEdge
+  no-edge-at p h = neither (go (eqb (first t u) missing) (first t u) refl (λ e. h (first t u) (first-edge e))) (go (eqb (second t u) missing) (second t u) refl (λ e. h (second t u) (second-edge e)))
+    where
+      go : (m : Bool) (v : ℕ) → eqb v missing ≡ m → (eqb v missing ≡ false → p v ≡ false) → (not m && p v) ≡ false
+      go true v q k = refl
+      go false v q k = k q
 
 pub record Nested (t : Routine) : Type 0 where
   -- 201

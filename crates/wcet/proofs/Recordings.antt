@@ -29,7 +29,7 @@ use Rattle.wcet.proofs.Nesting.{Nested, nested}
 use Rattle.wcet.proofs.Walks.{unrefused, finishes, start-kept, walks-exactly}
 use Rattle.wcet.proofs.Counts.{counts-exactly}
 use Rattle.wcet.proofs.Tallies.{each-most, most-each, never-seen}
-use Rattle.wcet.proofs.OtherLimits.{same-path, same-visits, same-cost, kept-rules}
+use Rattle.wcet.proofs.OtherNumbers.{same-path, same-visits, same-cost, LimitsFit, fitting, rules-kept}
 
 -- ---- an accepted recording
 
@@ -202,16 +202,28 @@ module _ (t : Routine) (rules : AllHold (structureRules t)) (w : List ℕ) (shor
   root-limit : getD limits 0 0 ≡ 1
   root-limit = limit-at 0 some-loop ∙ omega (arith, root-once t (nested t rules) w follows)
 
+  is-path : (ls : List ℕ) → path (withLimits t ls) 0 w ≡ true
+  is-path ls = same-path t (t .costs) (t .figures) ls (t .multipliers) w 0 ∙ follows
+
   is-run : (ls : List ℕ) → run (withLimits t ls) (0 ∷ w) ≡ true
   unfolding run
-  is-run ls = same-path t ls w 0 ∙ follows
+  is-run ls = is-path ls
+
+  visits-are : (ls : List ℕ) (l : ℕ) (w : List ℕ) → stayVisits (withLimits t ls) l w ≡ stayVisits t l w
+  visits-are ls = same-visits t (t .costs) (t .figures) ls (t .multipliers)
+
+  -- other limits in their range
+  limited-rules : (ls : List ℕ) → LimitsFit t ls → AllHold (structureRules (withLimits t ls))
+  limited-rules ls L =
+      let own = fitting t rules in
+      rules-kept t rules (t .costs) (t .figures) ls (t .multipliers) (record { costs = own .costs; figures = own .figures; limits = L; multipliers = own .multipliers })
 
   module _ (most : (l : ℕ) → l < loopCount t → greatest t l (0 ∷ w) ≤ 65535) where
     pub enough : walkReply (withLimits t limits) (0 ∷ w) ≡ accepted (walked t (0 ∷ w))
-    enough = walks-exactly (withLimits t limits) (0 ∷ w) kept short (walked t (0 ∷ w)) .1 (record { counted = counted; at-exit = at-end }, rw (same-cost t limits (0 ∷ w)))
+    enough = walks-exactly (withLimits t limits) (0 ∷ w) kept short (walked t (0 ∷ w)) .1 (record { counted = counted; at-exit = at-end }, rw (same-cost t (t .figures) limits (t .multipliers) (0 ∷ w)))
       where
         kept : AllHold (structureRules (withLimits t limits))
-        kept = kept-rules t limits rules sized-limits root-limit (λ l b. (omega (arith, limit-at l b), omega (arith, limit-at l b, most l b)))
+        kept = limited-rules limits (record { count = sized-limits; loop0 = root-limit; range = λ l z b. (omega (arith, limit-at l b), omega (arith, limit-at l b, most l b)) })
 
         at-end : getD (0 ∷ w) (length (0 ∷ w) - 1) 0 ≡ exit t
         at-end = let last : length (0 ∷ w) - 1 ≡ length w = omega arith in rw last at-exit
@@ -219,7 +231,7 @@ module _ (t : Routine) (rules : AllHold (structureRules t)) (w : List ℕ) (shor
         counted : countedRun (withLimits t limits) (0 ∷ w) ≡ true
         counted =
             counts-exactly (withLimits t limits) kept .counted (0 ∷ w) .1
-            (is-run limits, λ k l b c. omega (arith, same-visits t limits l (take (suc k) (0 ∷ w)), each-most t l (0 ∷ w) k b, limit-at l c))
+            (is-run limits, λ k l b c. omega (arith, visits-are limits l (take (suc k) (0 ∷ w)), each-most t l (0 ∷ w) k b, limit-at l c))
 
     module _ (l c : ℕ) (below : l < loopCount t) (some : 1 ≤ c) (less : c < greatest t l (0 ∷ w)) where
       abbrev lowered : List ℕ
@@ -229,7 +241,7 @@ module _ (t : Routine) (rules : AllHold (structureRules t)) (w : List ℕ) (shor
       lower-at = getD-set-same limits l c 0 (omega (arith, sized-limits))
 
       lowered-rules : AllHold (structureRules (withLimits t lowered))
-      lowered-rules = kept-rules t lowered rules (length-set limits l c ∙ sized-limits) first range
+      lowered-rules = limited-rules lowered (record { count = length-set limits l c ∙ sized-limits; loop0 = first; range = range })
         where
           not-0 : l ≡ 0 → ⊥
           not-0 z = omega (arith, root-once t (nested t rules) w follows, ap (λ (x : ℕ). greatest t x (0 ∷ w)) z)
@@ -237,8 +249,8 @@ module _ (t : Routine) (rules : AllHold (structureRules t)) (w : List ℕ) (shor
           first : getD lowered 0 0 ≡ 1
           first = getD-set-other limits l 0 c 0 (λ z. not-0 (sym z)) ∙ root-limit
 
-          range : (j : ℕ) → j < loopCount t → (1 ≤ getD lowered j 0) × (getD lowered j 0 ≤ 65535)
-          range j b = go (ℕ-discrete j l)
+          range : (j : ℕ) → 0 < j → j < loopCount t → (1 ≤ getD lowered j 0) × (getD lowered j 0 ≤ 65535)
+          range j z b = go (ℕ-discrete j l)
             where
               go : Dec (j ≡ l) → (1 ≤ getD lowered j 0) × (getD lowered j 0 ≤ 65535)
               go (yes e) = rw (e, lower-at) (some, omega (arith, most l below))
@@ -247,13 +259,13 @@ module _ (t : Routine) (rules : AllHold (structureRules t)) (w : List ℕ) (shor
       not-kept : countedRun (withLimits t lowered) (0 ∷ w) ≡ true → ⊥
       not-kept e =
           let visited : (k : ℕ) → k < length (0 ∷ w) → stayVisits t l (take (suc k) (0 ∷ w)) ≤ c
-          = λ k b. omega (arith, counts-exactly (withLimits t lowered) lowered-rules .counted (0 ∷ w) .0 e .1 k l b below, same-visits t lowered l (take (suc k) (0 ∷ w)), lower-at) in
+          = λ k b. omega (arith, counts-exactly (withLimits t lowered) lowered-rules .counted (0 ∷ w) .0 e .1 k l b below, visits-are lowered l (take (suc k) (0 ∷ w)), lower-at) in
           omega (arith, less, most-each t l (0 ∷ w) c visited)
 
       pub needed : (i : ℕ) × (walkReply (withLimits t lowered) (0 ∷ w) ≡ refused 313 i)
       unfolding walkReply walkBlocks countedRun start
       needed = ⊎-elim (λ k. absurd (not-kept (both (is-run lowered) k))) (λ r. (r .0, checked ∙ rw (lt-ltb 0 (blockCount t) (some-block t (nested t rules))) (r .1)))
-          (over-limit (withLimits t lowered) M w start 1 (accepted (walked (withLimits t lowered) (0 ∷ w))) (start-kept (withLimits t lowered) M) (some-block t (nested t rules)) (same-path t lowered w 0 ∙ follows))
+          (over-limit (withLimits t lowered) M w start 1 (accepted (walked (withLimits t lowered) (0 ∷ w))) (start-kept (withLimits t lowered) M) (some-block t (nested t rules)) (is-path lowered))
         where
           M : Nested (withLimits t lowered)
           M = nested (withLimits t lowered) lowered-rules

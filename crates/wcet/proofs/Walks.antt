@@ -101,15 +101,21 @@ module _ (t : Routine) (N : Nested t) where
       let block : 0 < blockCount t = omega (arith, N .two-blocks) in
       rw (z, lt-ltb 0 (blockCount t) block) (from-accepted w start 1 passed block (rw z at (q .1)) (p .1) (sym (last-block t w) ∙ rw z at (f .at-exit)))
 
--- what an accepted reply says of the walk
-walk-run : (t : Routine) (w : List ℕ) (r : Walked) → walkReply t w ≡ accepted r → FinishedRun t w × (walked t w ≡ r)
+-- what an accepted reply says of the tables and of the walk
+pub record AcceptedWalk (t : Routine) (w : List ℕ) (r : Walked) : Type 0 where
+  pub rules : AllHold (structureRules t)
+  pub short : length w ≤ longestWalk
+  pub finished : FinishedRun t w
+  pub result : walked t w ≡ r
+
+pub accepted-walk : (t : Routine) (w : List ℕ) (r : Walked) → walkReply t w ≡ accepted r → AcceptedWalk t w r
 unfolding walkReply
-walk-run t w r e =
+accepted-walk t w r e =
     let p = passes (structureRules t ++ lengthRule w ∷ []) (walkBlocks t w (accepted (walked t w))) r e in
     let q : AllHold (structureRules t) × AllHold (lengthRule w ∷ []) = all-append (structureRules t) (lengthRule w ∷ []) (p .0) in
-    let some : 0 < length w = ltb-false (length w) 1 (or-false (ltb (length w) 1) _ (q .1 .0 0 (omega arith)) .0) in
-    let f = accepted-run t (nested t (q .0)) w (accepted (walked t w)) r some (p .1) in
-    (f .0, cc (f .1))
+    let size = or-false (ltb (length w) 1) (ltb longestWalk (length w)) (q .1 .0 0 (omega arith)) in
+    let f = accepted-run t (nested t (q .0)) w (accepted (walked t w)) r (ltb-false (length w) 1 (size .0)) (p .1) in
+    record { rules = q .0; short = ltb-false longestWalk (length w) (size .1); finished = f .0; result = cc (f .1) }
 
 -- a finished run is a list of one block or more
 run-some : (t : Routine) (w : List ℕ) → FinishedRun t w → 0 < length w
@@ -120,7 +126,7 @@ run-some t (v ∷ w) f = omega arith
 pub walks-exactly : (t : Routine) (w : List ℕ) → AcceptsExactly t w (walkReply t w)
 unfolding walkReply
 walks-exactly t w h high r = (
-  walk-run t w r,
+  λ e. let a = accepted-walk t w r e in (a .finished, a .result),
   λ f.
       let length-rule : (p : ℕ) → p < 1 → lengthRule w .broken p ≡ false
       = λ p b. neither (le-ltb (length w) 1 (run-some t w (f .0))) (le-ltb longestWalk (length w) high) in
@@ -135,4 +141,4 @@ walk-checked t w r e = record { replied = e; accepts = λ h k x. rw e (walks-exa
 
 -- an accepted walk over an accepted pair of tables
 pub walk-bounded : (t : Routine) (b : ℤ) (w : List ℕ) (r : Walked) → tableReply t ≡ accepted b → walkReply t w ≡ accepted r → pos (r .total) ≤ℤ b
-walk-bounded t b w r e q = let f = walk-run t w r q in rw (← f .1) (finished-bounded t b e w (f .0))
+walk-bounded t b w r e q = let a = accepted-walk t w r q in rw (← a .result) (finished-bounded t b e w (a .finished))

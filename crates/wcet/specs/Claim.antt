@@ -90,11 +90,15 @@ NegativeBound t = (b : ℤ) → tableReply t ≡ accepted b → b <ℤ pos 0 →
 
 -- ---- trimmed tables
 
--- Document 02, §9, of tables and all their trimmed tables: "an accepted table stays accepted .., and .. its bound then is not greater. Every
--- counted run of the trimmed table is a counted run of the old one, at no lower cost there." And the same of the replies to a walk, where the
--- old tables keep 201 to 207.
-pub record StaysChecked (old : Routine) : Type 0 where
-  pub accepts : (new : Routine) → Trimmed old new → (b : ℤ) → tableReply old ≡ accepted b → (c : ℤ) × (tableReply new ≡ accepted c) × (c ≤ℤ b)
-  pub runs : (new : Routine) → Trimmed old new → (w : List ℕ) → countedRun new w ≡ true → (countedRun old w ≡ true) × (runCost new w ≤ runCost old w)
-  pub walks : (new : Routine) → Trimmed old new → AllHold (structureRules old) → (w : List ℕ) (x : Walked) → walkReply new w ≡ accepted x
+-- Document 02, §9: "an accepted table stays accepted .., and .. its bound then is not greater. Every counted run of the trimmed table is a
+-- counted run of the old one, at no lower cost there." And in replies: a walk that is accepted over the trimmed tables is accepted over the
+-- old ones, where these keep 201 to 207, with as many steps and at no lower cost.
+pub record StaysChecked (old new : Routine) : Type 0 where
+  pub accepts : (b : ℤ) → tableReply old ≡ accepted b → (c : ℤ) × (tableReply new ≡ accepted c) × (c ≤ℤ b)
+  pub runs : (w : List ℕ) → countedRun new w ≡ true → (countedRun old w ≡ true) × (runCost new w ≤ runCost old w)
+  pub walks : AllHold (structureRules old) → (w : List ℕ) (x : Walked) → walkReply new w ≡ accepted x
       → (y : Walked) × (walkReply old w ≡ accepted y) × (x .total ≤ y .total) × (x .steps ≡ y .steps)
+
+-- the one claim: it holds of all tables and all their trimmed tables
+abbrev pub TrimmedStaysChecked : Type 0
+TrimmedStaysChecked = (old new : Routine) → Trimmed old new → StaysChecked old new

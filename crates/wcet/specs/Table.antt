@@ -18,7 +18,7 @@ pub record Routine : Type 0 where
   pub limits : List ℕ
   pub multipliers : List ℕ
 
--- the same blocks, edges and loop nesting, with other numbers: costs, figures, limits and multipliers
+-- t with other costs, figures, limits and multipliers: the same edges and loop nesting
 abbrev pub withNumbers : Routine → (costs : List ℕ) (figures : List ℤ) (limits multipliers : List ℕ) → Routine
 withNumbers t costs figures limits multipliers = record {
   costs = costs;

@@ -1,13 +1,13 @@
--- Document 02, §9, "Once checked, cheaper is still checked": when tables are trimmed tables of others. What is claimed of them is
--- `StaysChecked`, in `Claim.antt`.
+-- Document 02, §9, "Once checked, cheaper is still checked": what a trimmed pair of tables is. What is claimed of it is `StaysChecked`, in
+-- `Claim.antt`.
 use Prim.Native.Nat.{ℕ, _≤_, _<_}
 use mathlib.Core.Path.{_≡_}
 use lib.ListN.{length}
 use Rattle.wcet.specs.Table.{Routine, withNumbers, blockCount, loopCount, cost, limit}
 
 -- The tables `new` are the tables `old`, trimmed: "with the same figures and multipliers if any costs go down and any limits of loops from 1 up
--- go down, never below 1". Any of these numbers may stay as well, and everything else does: the other columns, the length of each column and
--- the limit of loop 0.
+-- go down, never below 1". A cost or limit may stay as well; everything else does: the other columns, the length of each column and the limit
+-- of loop 0.
 pub record Trimmed (old new : Routine) : Type 0 where
   pub others : new ≡ withNumbers old (new .costs) (old .figures) (new .limits) (old .multipliers)
   pub cost-count : length (new .costs) ≡ length (old .costs)
