@@ -40,14 +40,14 @@ module _ (t : Routine) (cs ls : List ℕ) (T : Trimmed t (withNumbers t cs (t .f
     where
       go : Dec (blockCount t ≤ u) → cost t′ u ≤ cost t u
       go (yes h) = let past : length cs ≤ u = omega (arith, T .cost-count) in rw (List·getD-eq-default cs 0 past) (omega arith)
-      go (no h) = T .cheaper u (omega arith)
+      go (no h) = omega (arith, T .cheaper u (omega arith))
 
   no-looser : (l : ℕ) → l < loopCount t → limit t′ l ≤ limit t l
   no-looser l b = go (ℕ-discrete l 0)
     where
       go : Dec (l ≡ 0) → limit t′ l ≤ limit t l
       go (yes z) = rw z (omega (arith, T .loop0-limit))
-      go (no ne) = T .tighter l (omega arith) b .1
+      go (no ne) = omega (arith, T .tighter l (omega arith) b .1)
 
   -- ---- acceptance
 
@@ -59,8 +59,8 @@ module _ (t : Routine) (cs ls : List ℕ) (T : Trimmed t (withNumbers t cs (t .f
         figures = own .figures;
         limits = record {
           count = T .limit-count ∙ own .limits .count;
-          loop0 = T .loop0-limit ∙ own .limits .loop0;
-          range = λ l z b. (T .tighter l z b .0, omega (arith, T .tighter l z b .1, own .limits .range l z b .1));
+          loop0 = omega (arith, T .loop0-limit, own .limits .loop0);
+          range = λ l z b. (omega (arith, T .tighter l z b .0), omega (arith, T .tighter l z b .1, own .limits .range l z b .1));
         };
         multipliers = own .multipliers;
       })

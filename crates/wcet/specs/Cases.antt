@@ -1,12 +1,13 @@
 -- Document 01, "One routine in full": the marked cases (*), as one list, with the replies that they have since document 02, §2 and §6.
--- `proofs/Cases.antt` computes them.
+-- `proofs/Cases.antt` computes them. And one case of document 02, §9.
 use Prim.Native.Nat.{ℕ}
 use mathlib.Core.List.{List, [], _∷_, map}
 use mathlib.Core.Path.{_≡_}
 use lib.IntN.{ℤ, pos, negℤ}
-use Rattle.wcet.specs.Table.{Routine, missing}
+use Rattle.wcet.specs.Table.{Routine, withNumbers, missing}
 use Rattle.wcet.specs.Rules.{Reply, accepted, refused, tableReply}
 use Rattle.wcet.specs.Walk.{Walked, walkReply}
+use Rattle.wcet.specs.Trimming.{Trimmed}
 
 -- what a marked case asks for: the reply to a pair of tables, or to a walk over it
 pub data Question : Type 0 where
@@ -95,3 +96,11 @@ markedCases =
 -- the one claim: the definitions give each marked case the reply that the papers give it
 abbrev pub MarkedCasesHold : Type 0
 MarkedCasesHold = map (λ c. answer (c .asked)) markedCases ≡ map (λ c. c .reply) markedCases
+
+-- Document 02, §9: routine A trimmed. Blocks 0 and 2 cost 1 and 4, one less each, and loop 1 has the limit 3. The bound falls by what block 0
+-- saves, from 30 to 29.
+abbrev pub trimmedA : Routine
+trimmedA = withNumbers A (1 ∷ 3 ∷ 4 ∷ 1 ∷ []) (A .figures) (1 ∷ 3 ∷ []) (A .multipliers)
+
+abbrev pub TrimmedCaseHolds : Type 0
+TrimmedCaseHolds = Trimmed A trimmedA × (tableReply trimmedA ≡ accepted (pos 29))
