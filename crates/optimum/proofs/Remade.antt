@@ -13,16 +13,16 @@ use lib.IntN.{ℤ, pos, negℤ, _+ℤ_}
 use lib.ListN.{length, getD}
 use lib.Seq.{ext-getD}
 use lib.Signed.{ltZ, _≤ℤ_}
-use Rattle.limits.specs.Limits.{mostBlocks, mostLoops}
+use Rattle.limits.specs.Limits.{mostLoops}
 use Rattle.lists.proofs.Tests.{or-false, neither}
 use Rattle.lists.proofs.Search.{tabulate-at, tabulate-length}
 use Rattle.integers.proofs.Laws.{ints, sum}
 use Rattle.wcet.specs.Table.{Routine, blockCount, loopCount, header, inside}
 use Rattle.wcet.specs.Cycles.{backEdge, undeclaredLoop}
-use Rattle.wcet.specs.Rules.{accepted, outOfRange, sizesWrong, figureOutside, structureRules, bound, tableReply}
+use Rattle.wcet.specs.Rules.{accepted, figureOutside, structureRules, bound, tableReply}
 use Rattle.wcet.specs.Run.{runCost}
 use Rattle.wcet.specs.Claim.{AllHold, FinishedRun}
-use Rattle.wcet.proofs.Nesting.{Nested}
+use Rattle.wcet.proofs.Nesting.{sizes-at, Nested}
 use Rattle.wcet.proofs.OtherNumbers.{same-path, same-cost, undeclared-kept, counted-too, Fitting, fitting, rules-kept}
 use Rattle.optimum.specs.Remade.{withColumns, Optimal, RemadeColumns, PathToExit}
 use Rattle.optimum.specs.Tails.{weight, via, tailAt}
@@ -130,10 +130,7 @@ module _ (t : Routine) (N : Nested t) (declared : undeclaredLoop t ≡ false) wh
     module _ (h : AllHold (structureRules t)) (low : (l : ℕ) → l < loopCount t → getD (remadeMultipliers t) l 0 ≤ 2 ^ 40)
         (high : (x : ℕ) → x < blockCount t → getD (remadeFigures t) x (pos 0) ≤ℤ pos (2 ^ 60)) where
       few-loops : loopCount t ≤ mostLoops
-      unfolding structureRules sizesWrong
-      few-loops =
-          let p : (outOfRange 2 mostBlocks (blockCount t) ≡ false) × (outOfRange 1 mostLoops (loopCount t) ≡ false) = or-false _ _ (or-false _ _ (or-false _ _ (h .0 0 (omega arith)) .0) .0) in
-          ltb-false mostLoops (loopCount t) (or-false (ltb (loopCount t) 1) _ (p .1) .1)
+      few-loops = ltb-false mostLoops (loopCount t) (or-false (ltb (loopCount t) 1) _ (sizes-at t h .1) .1)
 
       figure-within : (x : ℕ) → x < blockCount t → figureOutside (getD (remadeFigures t) x (pos 0)) ≡ false
       figure-within x b =

@@ -10,11 +10,11 @@ use lib.Dec.{eqb, ltb}
 use Rattle.limits.specs.Limits.{mostBlocks}
 use Rattle.lists.proofs.Tests.{or-false, and-true}
 use Rattle.wcet.specs.Table.{Routine, blockCount, edge}
-use Rattle.wcet.specs.Rules.{sizesWrong, structureRules}
+use Rattle.wcet.specs.Rules.{structureRules}
 use Rattle.wcet.specs.Run.{path, run, start, keepsLimits, countedRun}
 use Rattle.wcet.specs.Claim.{AllHold, Holds, FinishedRun}
 use Rattle.wcet.proofs.Replies.{all-append}
-use Rattle.wcet.proofs.Nesting.{Nested, nested}
+use Rattle.wcet.proofs.Nesting.{sizes-at, Nested, nested}
 use Rattle.wcet.proofs.Walks.{accepted-walk}
 use Rattle.vcd.specs.Recording.{selfEdgeRule}
 use Rattle.vcd.specs.Claim.{NoRepeatAfter, NoRepeat, WalksReadBack, UpTo, WalksCanBeWritten}
@@ -22,8 +22,7 @@ use Rattle.vcd.proofs.Writing.{reads-back}
 use Rattle.vcd.proofs.Writable.{can-be-written}
 
 few-blocks : (t : Routine) → AllHold (structureRules t) → blockCount t ≤ mostBlocks
-unfolding structureRules sizesWrong
-few-blocks t h = ltb-false mostBlocks (blockCount t) (or-false (ltb (blockCount t) 2) _ (or-false _ _ (or-false _ _ (or-false _ _ (h .0 0 (omega arith)) .0) .0) .0) .1)
+few-blocks t h = ltb-false mostBlocks (blockCount t) (or-false (ltb (blockCount t) 2) _ (sizes-at t h .0) .1)
 
 -- what holds of a path from block 0 holds of a finished run
 of-run : (P : List ℕ → Type 0) (t : Routine) (w : List ℕ) → ((v : ℕ) (u : List ℕ) → v ≡ 0 → path t v u ≡ true → P (v ∷ u)) → FinishedRun t w → P w
