@@ -376,23 +376,29 @@ fn report(score: &mut Score) {
         println!("{number:>5}  {count:>12} {name}");
         score.often(&format!("reply {number} {name}"), count);
     }
+    report_kinds(score);
+}
+
+/// The same for what was solved and recorded, and what was tried with it.
+fn report_kinds(score: &mut Score) {
     println!("the solved tables by what they have, and by what was tried");
     let names = solvable::KINDS.into_iter().map(|(name, _)| name).chain(TRIED);
-    for (name, count) in names.zip(score.solved.into_iter().chain(score.tried)) {
-        println!("       {count:>12} {name}");
-        score.often(&format!("solved: {name}"), count);
-    }
+    let counts = score.solved.into_iter().chain(score.tried);
+    report_rows(score, "solved", names.zip(counts));
     println!("the recordings by what they have, and by what was tried with their limits");
     let names = recordings::KINDS.into_iter().map(|(name, _)| name).chain(recordings::TRIED);
-    for (name, count) in names.zip(score.recorded.into_iter().chain(score.put_in)) {
-        println!("       {count:>12} {name}");
-        score.often(&format!("recordings: {name}"), count);
-    }
+    let counts = score.recorded.into_iter().chain(score.put_in);
+    report_rows(score, "recordings", names.zip(counts));
     println!("the recordings as VCD by what they have, by what was tried, and by why they are refused");
     let names = dumped::KINDS.into_iter().map(|(name, _)| name).chain(dumped::TRIED).chain(changes::REASONS.into_iter().map(|(_, name)| name));
-    for (name, count) in names.zip(score.dumps.into_iter().chain(score.read_back).chain(score.reasons)) {
+    let counts = score.dumps.into_iter().chain(score.read_back).chain(score.reasons);
+    report_rows(score, "recordings as VCD", names.zip(counts));
+}
+
+fn report_rows(score: &mut Score, of: &str, rows: impl Iterator<Item = (&'static str, u64)>) {
+    for (name, count) in rows {
         println!("       {count:>12} {name}");
-        score.often(&format!("recordings as VCD: {name}"), count);
+        score.often(&format!("{of}: {name}"), count);
     }
 }
 
