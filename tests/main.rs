@@ -18,6 +18,7 @@ mod solvable;
 mod solving;
 mod tallying;
 mod texts;
+mod trimming;
 
 use compare::Bench;
 use graphs::Tables;
@@ -77,6 +78,9 @@ pub struct Score {
     dumps: [u64; dumped::KINDS.len()],
     read_back: [u64; dumped::TRIED.len()],
     reasons: [u64; changes::REASONS.len()],
+    /// The trimmed tables of each kind of `trimming::KINDS`, and what was tried with them, by `trimming::TRIED`.
+    trimmed: [u64; trimming::KINDS.len()],
+    compared: [u64; trimming::TRIED.len()],
     failures: Vec<String>,
 }
 
@@ -124,8 +128,9 @@ impl Score {
         }
         let sums = self.graphs.iter_mut().chain(&mut self.solved).chain(&mut self.tried).chain(&mut self.recorded).chain(&mut self.put_in);
         let sums = sums.chain(&mut self.dumps).chain(&mut self.read_back).chain(&mut self.reasons);
+        let sums = sums.chain(&mut self.trimmed).chain(&mut self.compared);
         let counts = other.graphs.into_iter().chain(other.solved).chain(other.tried).chain(other.recorded).chain(other.put_in);
-        let counts = counts.chain(other.dumps).chain(other.read_back).chain(other.reasons);
+        let counts = counts.chain(other.dumps).chain(other.read_back).chain(other.reasons).chain(other.trimmed).chain(other.compared);
         for (sum, count) in sums.zip(counts) {
             *sum += count;
         }
@@ -231,8 +236,8 @@ fn promised(score: &mut Score, made: &Tables, bound: i64, given: Option<i64>) ->
 }
 
 /// Solves tables. What the solver made is accepted with the same bound, is made again from itself and from any other values, and some run costs
-/// the bound. Gives back the bound.
-fn solve(bench: &mut Bench, score: &mut Score, random: &mut Random, tables: &Tables, given: Option<i64>) -> Option<i64> {
+/// the bound; and it is trimmed. Gives back the bound.
+fn solve(bench: &mut Bench, score: &mut Score, random: &mut Random, trimming: &mut Random, tables: &Tables, given: Option<i64>) -> Option<i64> {
     let outcome = bench.solve(tables);
     let Some((reply, made)) = outcome.clone().ok().filter(|(reply, _)| reply.number == 0) else {
         score.count(SOLVE, outcome.map(|(reply, _)| reply), || show_tables(tables));
@@ -260,6 +265,7 @@ fn solve(bench: &mut Bench, score: &mut Score, random: &mut Random, tables: &Tab
         });
         score.count(WALK, walked, || format!("{}\n  walk {run:?}", show_tables(&made)));
     }
+    trimming::any(bench, score, trimming, (&made, reply), true);
     Some(reply.value)
 }
 
@@ -268,10 +274,11 @@ fn part(seed: u64, rounds: usize) -> Score {
     let mut random = Random::new(seed);
     let mut bench = Bench::new(!seed);
     let mut score = Score::default();
-    // the solver's cases have a generator of their own, and so have the tally and the recordings as VCD
+    // the solver's cases have a generator of their own, and so have the tally, the recordings as VCD and the trimmed tables
     let mut solving = Random::new(seed + (1 << 32));
     let mut recording = Random::new(seed + (2 << 32));
     let mut dumping = Random::new(seed + (3 << 32));
+    let mut trimming = Random::new(seed + (4 << 32));
     for round in 0..rounds {
         for table in [Table::Blocks, Table::Loops] {
             let case = texts::case(&mut random, table);
@@ -284,13 +291,14 @@ fn part(seed: u64, rounds: usize) -> Score {
         let bound = checked.as_ref().ok().filter(|reply| reply.number == 0).map(|reply| reply.value);
         if let Ok(reply) = &checked {
             score.count_graph(&tables, reply.number);
+            trimming::any(&mut bench, &mut score, &mut trimming, (&tables, *reply), false);
         }
         let number = checked.as_ref().map_or(0, |reply| reply.number);
         // most walks on tables that are good for walks
         let walks = if (201..208).contains(&number) { 1 } else { 4 };
         score.count(CHECK, checked, || show_tables(&tables));
         // the solver's bound is no greater
-        let bound = solve(&mut bench, &mut score, &mut solving, &tables, bound).or(bound);
+        let bound = solve(&mut bench, &mut score, &mut solving, &mut trimming, &tables, bound).or(bound);
         for _ in 0..walks {
             let list = graphs::walk(&mut random, &tables);
             let outcome = bench.walk(&tables, &list).and_then(|reply| match bound {
@@ -308,14 +316,14 @@ fn part(seed: u64, rounds: usize) -> Score {
         }
         dumped::any(&mut bench, &mut score, &mut dumping, &tables);
         let small = solvable::small(&mut solving);
-        solve(&mut bench, &mut score, &mut solving, &small, None);
+        solve(&mut bench, &mut score, &mut solving, &mut trimming, &small, None);
         if round % 20 == 0 {
             let heavy = solvable::heavy(&mut solving);
-            solve(&mut bench, &mut score, &mut solving, &heavy, None);
+            solve(&mut bench, &mut score, &mut solving, &mut trimming, &heavy, None);
         }
         if round % 400 == 0 {
             let large = graphs::large(&mut solving);
-            solve(&mut bench, &mut score, &mut solving, &large, None);
+            solve(&mut bench, &mut score, &mut solving, &mut trimming, &large, None);
         }
     }
     score
@@ -379,7 +387,7 @@ fn report(score: &mut Score) {
     report_kinds(score);
 }
 
-/// The same for what was solved and recorded, and what was tried with it.
+/// The same for what was solved, recorded and trimmed, and what was tried with it.
 fn report_kinds(score: &mut Score) {
     println!("the solved tables by what they have, and by what was tried");
     let names = solvable::KINDS.into_iter().map(|(name, _)| name).chain(TRIED);
@@ -393,6 +401,10 @@ fn report_kinds(score: &mut Score) {
     let names = dumped::KINDS.into_iter().map(|(name, _)| name).chain(dumped::TRIED).chain(changes::REASONS.into_iter().map(|(_, name)| name));
     let counts = score.dumps.into_iter().chain(score.read_back).chain(score.reasons);
     report_rows(score, "recordings as VCD", names.zip(counts));
+    println!("the trimmed tables by what is lower in them, and by what was tried");
+    let names = trimming::KINDS.into_iter().map(|(name, _)| name).chain(trimming::TRIED);
+    let counts = score.trimmed.into_iter().chain(score.compared);
+    report_rows(score, "trimmed tables", names.zip(counts));
 }
 
 fn report_rows(score: &mut Score, of: &str, rows: impl Iterator<Item = (&'static str, u64)>) {
