@@ -235,98 +235,137 @@ fn promised(score: &mut Score, made: &Tables, bound: i64, given: Option<i64>) ->
     Ok(())
 }
 
-/// Solves tables. What the solver made is accepted with the same bound, is made again from itself and from any other values, and some run costs
-/// the bound; and it is trimmed. Gives back the bound.
-fn solve(bench: &mut Bench, score: &mut Score, random: &mut Random, trimming: &mut Random, tables: &Tables, given: Option<i64>) -> Option<i64> {
-    let outcome = bench.solve(tables);
-    let Some((reply, made)) = outcome.clone().ok().filter(|(reply, _)| reply.number == 0) else {
-        score.count(SOLVE, outcome.map(|(reply, _)| reply), || show_tables(tables));
-        return None;
-    };
-    let solved = solvable::Solved::new(&made);
-    for (count, (_, is)) in score.solved.iter_mut().zip(solvable::KINDS) {
-        *count += u64::from(is(&solved));
-    }
-    let outcome = promised(score, &made, reply.value, given).map(|()| reply);
-    score.count(SOLVE, outcome, || show_tables(&made));
-    let same = |again: abi::Reply| if again == reply { Ok(again) } else { Err(format!("{again:?}, where the solver said {reply:?}")) };
-    score.count(CHECK, bench.check(&made).and_then(same), || show_tables(&made));
-    let mut other = made.clone();
-    solvable::scramble(random, &mut other);
-    for tables in [&made, &other] {
-        let again = bench.solve(tables).and_then(|(again, after)| if after == made { same(again) } else { Err("other columns".to_string()) });
-        score.count(SOLVE, again, || show_tables(tables));
-    }
-    if let Some(run) = solving::costly_run(&made.blocks, &made.loops, LONGEST_RUN) {
-        score.tried[WALKED] += 1;
-        let walked = bench.walk(&made, &run).and_then(|walked| match (walked.number, walked.value) {
-            (0, cost) if cost == reply.value => Ok(walked),
-            _ => Err(format!("{walked:?}, where the bound is {}", reply.value)),
-        });
-        score.count(WALK, walked, || format!("{}\n  walk {run:?}", show_tables(&made)));
-    }
-    trimming::any(bench, score, trimming, (&made, reply), true);
-    Some(reply.value)
+/// The cases of one seed: the library with what it is lent, what came out, and a generator for each kind of case.
+struct Part {
+    bench: Bench,
+    score: Score,
+    random: Random,
+    solving: Random,
+    recording: Random,
+    dumping: Random,
+    trimming: Random,
 }
 
-/// The cases of one seed.
-fn part(seed: u64, rounds: usize) -> Score {
-    let mut random = Random::new(seed);
-    let mut bench = Bench::new(!seed);
-    let mut score = Score::default();
-    // the solver's cases have a generator of their own, and so have the tally, the recordings as VCD and the trimmed tables
-    let mut solving = Random::new(seed + (1 << 32));
-    let mut recording = Random::new(seed + (2 << 32));
-    let mut dumping = Random::new(seed + (3 << 32));
-    let mut trimming = Random::new(seed + (4 << 32));
-    for round in 0..rounds {
-        for table in [Table::Blocks, Table::Loops] {
-            let case = texts::case(&mut random, table);
-            read(&mut bench, &mut score, &case);
-            let case = texts::noise(&mut random, table);
-            read(&mut bench, &mut score, &case);
-        }
-        let tables = graphs::tables(&mut random);
-        let checked = bench.check(&tables);
-        let bound = checked.as_ref().ok().filter(|reply| reply.number == 0).map(|reply| reply.value);
-        if let Ok(reply) = &checked {
-            score.count_graph(&tables, reply.number);
-            trimming::any(&mut bench, &mut score, &mut trimming, (&tables, *reply), false);
-        }
-        let number = checked.as_ref().map_or(0, |reply| reply.number);
-        // most walks on tables that are good for walks
-        let walks = if (201..208).contains(&number) { 1 } else { 4 };
-        score.count(CHECK, checked, || show_tables(&tables));
-        // the solver's bound is no greater
-        let bound = solve(&mut bench, &mut score, &mut solving, &mut trimming, &tables, bound).or(bound);
-        for _ in 0..walks {
-            let list = graphs::walk(&mut random, &tables);
-            let outcome = bench.walk(&tables, &list).and_then(|reply| match bound {
-                Some(bound) if reply.number == 0 && reply.value > bound => Err(format!("cost {} over the bound {bound}", reply.value)),
-                _ => Ok(reply),
-            });
-            if outcome.as_ref().is_ok_and(|reply| reply.number == 0) {
-                dumped::walk(&mut bench, &mut score, &mut dumping, &tables, &list);
-            }
-            score.count(WALK, outcome, || format!("{}\n  walk {list:?}", show_tables(&tables)));
-            let recorded = graphs::recording(&mut recording, &tables);
-            for list in [list, recorded] {
-                recordings::tally(&mut bench, &mut score, &mut recording, &tables, &list, number);
-            }
-        }
-        dumped::any(&mut bench, &mut score, &mut dumping, &tables);
-        let small = solvable::small(&mut solving);
-        solve(&mut bench, &mut score, &mut solving, &mut trimming, &small, None);
-        if round % 20 == 0 {
-            let heavy = solvable::heavy(&mut solving);
-            solve(&mut bench, &mut score, &mut solving, &mut trimming, &heavy, None);
-        }
-        if round % 400 == 0 {
-            let large = graphs::large(&mut solving);
-            solve(&mut bench, &mut score, &mut solving, &mut trimming, &large, None);
+impl Part {
+    fn new(seed: u64) -> Part {
+        let random = |kind: u64| Random::new(seed + (kind << 32));
+        Part {
+            bench: Bench::new(!seed),
+            score: Score::default(),
+            random: random(0),
+            solving: random(1),
+            recording: random(2),
+            dumping: random(3),
+            trimming: random(4),
         }
     }
-    score
+
+    fn texts(&mut self) {
+        for table in [Table::Blocks, Table::Loops] {
+            let case = texts::case(&mut self.random, table);
+            read(&mut self.bench, &mut self.score, &case);
+            let case = texts::noise(&mut self.random, table);
+            read(&mut self.bench, &mut self.score, &case);
+        }
+    }
+
+    /// Solves tables. What the solver made is accepted with the same bound, is made again from itself and from any other values, and some run
+    /// costs the bound; and it is trimmed. Gives back the bound.
+    fn solve(&mut self, tables: &Tables, given: Option<i64>) -> Option<i64> {
+        let Part { bench, score, solving: random, .. } = self;
+        let outcome = bench.solve(tables);
+        let Some((reply, made)) = outcome.clone().ok().filter(|(reply, _)| reply.number == 0) else {
+            score.count(SOLVE, outcome.map(|(reply, _)| reply), || show_tables(tables));
+            return None;
+        };
+        let solved = solvable::Solved::new(&made);
+        for (count, (_, is)) in score.solved.iter_mut().zip(solvable::KINDS) {
+            *count += u64::from(is(&solved));
+        }
+        let outcome = promised(score, &made, reply.value, given).map(|()| reply);
+        score.count(SOLVE, outcome, || show_tables(&made));
+        let same = |again: abi::Reply| if again == reply { Ok(again) } else { Err(format!("{again:?}, where the solver said {reply:?}")) };
+        score.count(CHECK, bench.check(&made).and_then(same), || show_tables(&made));
+        let mut other = made.clone();
+        solvable::scramble(random, &mut other);
+        for tables in [&made, &other] {
+            let again = bench.solve(tables).and_then(|(again, after)| if after == made { same(again) } else { Err("other columns".to_string()) });
+            score.count(SOLVE, again, || show_tables(tables));
+        }
+        if let Some(run) = solving::costly_run(&made.blocks, &made.loops, LONGEST_RUN) {
+            score.tried[WALKED] += 1;
+            let walked = bench.walk(&made, &run).and_then(|walked| match (walked.number, walked.value) {
+                (0, cost) if cost == reply.value => Ok(walked),
+                _ => Err(format!("{walked:?}, where the bound is {}", reply.value)),
+            });
+            score.count(WALK, walked, || format!("{}\n  walk {run:?}", show_tables(&made)));
+        }
+        trimming::any(bench, score, &mut self.trimming, (&made, reply), true);
+        Some(reply.value)
+    }
+
+    /// A walk over tables of which the checker said `number`, and a recording, each also tallied; no accepted walk costs more than the bound.
+    fn walk(&mut self, tables: &Tables, number: u32, bound: Option<i64>) {
+        let Part { bench, score, .. } = self;
+        let list = graphs::walk(&mut self.random, tables);
+        let outcome = bench.walk(tables, &list).and_then(|reply| match bound {
+            Some(bound) if reply.number == 0 && reply.value > bound => Err(format!("cost {} over the bound {bound}", reply.value)),
+            _ => Ok(reply),
+        });
+        if outcome.as_ref().is_ok_and(|reply| reply.number == 0) {
+            dumped::walk(bench, score, &mut self.dumping, tables, &list);
+        }
+        score.count(WALK, outcome, || format!("{}\n  walk {list:?}", show_tables(tables)));
+        let recorded = graphs::recording(&mut self.recording, tables);
+        for list in [list, recorded] {
+            recordings::tally(bench, score, &mut self.recording, tables, &list, number);
+        }
+    }
+
+    /// Random tables: checked, trimmed, solved and walked.
+    fn tables(&mut self) {
+        let tables = graphs::tables(&mut self.random);
+        let checked = self.bench.check(&tables);
+        let bound = checked.as_ref().ok().filter(|reply| reply.number == 0).map(|reply| reply.value);
+        if let Ok(reply) = &checked {
+            self.score.count_graph(&tables, reply.number);
+            trimming::any(&mut self.bench, &mut self.score, &mut self.trimming, (&tables, *reply), false);
+        }
+        let number = checked.as_ref().map_or(0, |reply| reply.number);
+        self.score.count(CHECK, checked, || show_tables(&tables));
+        // the solver's bound is no greater
+        let bound = self.solve(&tables, bound).or(bound);
+        // most walks on tables that are good for walks
+        let walks = if (201..208).contains(&number) { 1 } else { 4 };
+        for _ in 0..walks {
+            self.walk(&tables, number, bound);
+        }
+        dumped::any(&mut self.bench, &mut self.score, &mut self.dumping, &tables);
+    }
+
+    /// Tables that are made to be solved.
+    fn solvable(&mut self, round: usize) {
+        let small = solvable::small(&mut self.solving);
+        self.solve(&small, None);
+        if round % 20 == 0 {
+            let heavy = solvable::heavy(&mut self.solving);
+            self.solve(&heavy, None);
+        }
+        if round % 400 == 0 {
+            let large = graphs::large(&mut self.solving);
+            self.solve(&large, None);
+        }
+    }
+}
+
+fn part(seed: u64, rounds: usize) -> Score {
+    let mut part = Part::new(seed);
+    for round in 0..rounds {
+        part.texts();
+        part.tables();
+        part.solvable(round);
+    }
+    part.score
 }
 
 /// The cases of so many seeds, on all processors.
