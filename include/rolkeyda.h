@@ -121,7 +121,8 @@ rolkeyda_reply rolkeyda_read_loops(
  * the figures and the multipliers. A negative bound: no such run exists. 209 where edges lead from a block back to it and none of them goes
  * back to the header of a loop from inside that loop; 208, which comes after it, at the lowest block with an edge that breaks its inequality.
  * Accepted tables stay accepted if only costs and limits of loops from 1 up go down, no limit below 1. The bound then falls by what block 0
- * saves; rolkeyda_solve may give a smaller one. Stack: ROLKEYDA_STACK_CHECK.
+ * saves; rolkeyda_solve may give a smaller one. As before it is a bound only of code of which no block takes longer than its cost.
+ * Stack: ROLKEYDA_STACK_CHECK.
  */
 rolkeyda_reply rolkeyda_check(
     const uint32_t *cost, size_t cost_length,

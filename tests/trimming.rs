@@ -10,7 +10,7 @@ use crate::{show_tables, Score, CHECK, WALK};
 pub const TRIED: [&str; 10] = [
     "trimmed twice, and the bound less each time",
     "a walk of both that costs the same",
-    "a walk of both that costs less",
+    "a walk of both that costs less by the trimmed tables",
     "a walk of both where 208 is not kept",
     "a walk of both where 209 is not kept",
     "313 for a walk that the old tables accept",
@@ -127,11 +127,16 @@ fn trimmed(random: &mut Random, old: &Tables) -> Tables {
 }
 
 /// Whether the replies to tables and to trimmed ones are as promised: accepted tables stay accepted with no greater bound. It is lower by what
-/// block 0 costs less, since the figures are the same.
+/// block 0 costs less, since the figures are the same. 208 may go, and 209 stays, which reads neither costs nor limits.
 fn promised((old, before): Checked, (new, after): Checked) -> Result<(), String> {
     let saved = i64::from(old.blocks.cost[0]) - i64::from(new.blocks.cost[0]);
-    let stays = after.number == 0 && after.value <= before.value && after.value == before.value - saved;
-    if before.number != 0 || stays {
+    let stays = match before.number {
+        0 => after.number == 0 && after.value <= before.value && after.value == before.value - saved,
+        208 => matches!(after.number, 0 | 208),
+        209 => after.number == 209,
+        _ => true,
+    };
+    if stays {
         Ok(())
     } else {
         Err(format!("{after:?} for trimmed tables, {before:?} for the old ones"))

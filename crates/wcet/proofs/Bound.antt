@@ -39,7 +39,7 @@ remaining-left k b c h = omega (ints, times k (pos b -ℤ pos c), mul-le-mul-lef
     less : dn (pos b -ℤ pos c) ≤ up (pos b -ℤ pos c)
     less = omega (ints, diff (pos b) (pos c))
 
--- and with a higher limit more is left
+-- and with a limit that is not lower no less is left
 pub remaining-mono : (k a b c : ℕ) → a ≤ b → remaining k a c ≤ℤ remaining k b c
 remaining-mono k a b c h = omega (ints, times k (pos a -ℤ pos c), times k (pos b -ℤ pos c), mul-le-mul-left k less)
   where

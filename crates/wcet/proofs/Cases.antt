@@ -24,7 +24,17 @@ columns-before-length = refl
 
 pub trimmed-case-holds : TrimmedCaseHolds
 unfolding anyBelow countBelow firstBelow someEdge edge around inside backEdge forwardEdge reaches undeclaredLoop check sizesWrong loopWrong blockWrong headerElsewhere tooDeep entryOrExitEdge pastHeader entersPastHeader inequality edgeHolds inequalityBroken structureRules tableRules bound tableReply
-trimmed-case-holds = (record { others = refl; cost-count = refl; limit-count = refl; cheaper = cheaper; tighter = tighter; loop0-limit = refl }, refl)
+trimmed-case-holds = (
+  record {
+    others = refl;
+    cost-count = refl;
+    limit-count = refl;
+    cheaper = λ u b. omega (arith, cheaper u b);
+    tighter = λ l z b. (omega (arith, tighter l z b .0), omega (arith, tighter l z b .1));
+    loop0-limit = omega arith;
+  },
+  refl,
+)
   where
     cheaper : (u : ℕ) → u < 4 → cost trimmedA u ≤ cost A u
     cheaper zero h = omega arith

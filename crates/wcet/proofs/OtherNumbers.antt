@@ -1,5 +1,6 @@
 -- Other costs, figures, limits and multipliers in the same routine: paths, stays and the visits in them are the same, and so is 209
--- (`undeclared-kept`). 201 to 207 hold while the columns keep their sizes and ranges (`rules-kept`). Assumes nothing.
+-- (`undeclared-kept`); with the costs kept a run costs the same (`same-cost`); a run that is counted by limits that are not higher is counted
+-- (`counted-too`). 201 to 207 hold while the columns keep their sizes and ranges (`rules-kept`). Assumes nothing.
 use mathlib.Core.Path.{_≡_, refl, _∙_, ap}
 use mathlib.Core.Bool.{Bool, true, false, not, _&&_}
 use mathlib.Core.List.{List, [], _∷_}

@@ -106,7 +106,11 @@ module _ (t : Routine) (cs ls : List ℕ) (T : Trimmed t (withNumbers t cs (t .f
       (walked t w, walks-exactly t w h (a .short) (walked t w) .1 (f, refl), rw (← a .result) (cheaper-run w), rw (← a .result))
 
   trimmed-checked : StaysChecked t t′
-  trimmed-checked = record { accepts = accepts; runs = λ w h. (counted w h, cheaper-run w); walks = walks }
+  trimmed-checked = record {
+    accepts = λ b e. let a = accepts b e in (a .0, a .1, omega (ints, a .2));
+    runs = λ w h. (counted w h, omega (arith, cheaper-run w));
+    walks = walks;
+  }
 
 pub stays-checked : TrimmedStaysChecked
 stays-checked old new T = subst (StaysChecked old) (sym (T .others)) (trimmed-checked old (new .costs) (new .limits) (subst (Trimmed old) (T .others) T))

@@ -18,7 +18,7 @@ pub record Routine : Type 0 where
   pub limits : List ℕ
   pub multipliers : List ℕ
 
--- t with other costs, figures, limits and multipliers: the same edges and loop nesting
+-- t with other costs, figures, limits and multipliers, and the same edges and loop nesting. (There are as many blocks as costs.)
 abbrev pub withNumbers : Routine → (costs : List ℕ) (figures : List ℤ) (limits multipliers : List ℕ) → Routine
 withNumbers t costs figures limits multipliers = record {
   costs = costs;
