@@ -10,11 +10,11 @@ use Rattle.wcet.specs.Table.{Routine, blockCount, parent, header, limit, multip
 use Rattle.wcet.specs.Rules.{outOfRange, loopWrong}
 
 module _ (t : Routine) where
-  pub root-rule : loopWrong t 0 ≡ not (eqb (parent t 0) 0 && eqb (header t 0) 0 && eqb (limit t 0) 1 && eqb (multiplier t 0) 0)
+  root-rule : loopWrong t 0 ≡ not (eqb (parent t 0) 0 && eqb (header t 0) 0 && eqb (limit t 0) 1 && eqb (multiplier t 0) 0)
   unfolding loopWrong
   root-rule = refl
 
-  pub inner-rule : (l : ℕ) → loopWrong t (suc l) ≡ (not (ltb (parent t (suc l)) (suc l)) || not (ltb (header t (suc l)) (blockCount t)) || outOfRange 1 65535 (limit t (suc l)) || ltb (2 ^ 40) (multiplier t (suc l)))
+  inner-rule : (l : ℕ) → loopWrong t (suc l) ≡ (not (ltb (parent t (suc l)) (suc l)) || not (ltb (header t (suc l)) (blockCount t)) || outOfRange 1 65535 (limit t (suc l)) || ltb (2 ^ 40) (multiplier t (suc l)))
   unfolding loopWrong
   inner-rule l = rw (ne-eqb (suc l) 0 (λ e. omega arith))
 

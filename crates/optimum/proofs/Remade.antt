@@ -7,14 +7,11 @@ use mathlib.Core.List.{List, []}
 use mathlib.Core.Option.{Option, some}
 use Prim.Native.Nat.{ℕ, zero, suc, _*_, _^_, _≤_, _<_}
 use native.Mathlib.Omega.{arith}
-use lib.Dec.{ltb}
-use borrow.Author.Tests.{ltb-false}
 use lib.IntN.{ℤ, pos, negℤ, _+ℤ_}
 use lib.ListN.{length, getD}
 use lib.Seq.{ext-getD}
 use lib.Signed.{ltZ, _≤ℤ_}
-use Rattle.limits.specs.Limits.{mostLoops}
-use Rattle.lists.proofs.Tests.{or-false, neither}
+use Rattle.lists.proofs.Tests.{neither}
 use Rattle.lists.proofs.Search.{tabulate-at, tabulate-length}
 use Rattle.integers.proofs.Laws.{ints, sum}
 use Rattle.wcet.specs.Table.{Routine, blockCount, loopCount, header, inside}
@@ -22,7 +19,8 @@ use Rattle.wcet.specs.Cycles.{backEdge, undeclaredLoop}
 use Rattle.wcet.specs.Rules.{accepted, figureOutside, structureRules, bound, tableReply}
 use Rattle.wcet.specs.Run.{runCost}
 use Rattle.wcet.specs.Claim.{AllHold, FinishedRun}
-use Rattle.wcet.proofs.Nesting.{sizes-at, Nested}
+use Rattle.wcet.proofs.Ranges.{sizes-of}
+use Rattle.wcet.proofs.Nesting.{Nested}
 use Rattle.wcet.proofs.OtherNumbers.{same-path, same-cost, undeclared-kept, counted-too, Fitting, fitting, rules-kept}
 use Rattle.optimum.specs.Remade.{withColumns, Optimal, RemadeColumns, PathToExit}
 use Rattle.optimum.specs.Tails.{weight, via, tailAt}
@@ -129,14 +127,11 @@ module _ (t : Routine) (N : Nested t) (declared : undeclaredLoop t ≡ false) wh
     -- within the ranges, of which the figures' lower one is never left
     module _ (h : AllHold (structureRules t)) (low : (l : ℕ) → l < loopCount t → getD (remadeMultipliers t) l 0 ≤ 2 ^ 40)
         (high : (x : ℕ) → x < blockCount t → getD (remadeFigures t) x (pos 0) ≤ℤ pos (2 ^ 60)) where
-      few-loops : loopCount t ≤ mostLoops
-      few-loops = ltb-false mostLoops (loopCount t) (or-false (ltb (loopCount t) 1) _ (sizes-at t h .1) .1)
-
       figure-within : (x : ℕ) → x < blockCount t → figureOutside (getD (remadeFigures t) x (pos 0)) ≡ false
       figure-within x b =
           let f : ℤ = getD fs x (pos 0) in
           let p : pos 0 ≤ℤ (f +ℤ pos (2 ^ 40 * loopCount t)) = figure-least t′ remultiplied-nested (tails t′) (2 ^ 40) low (loopCount t) x f (omega arith) b (made-figure x b) in
-          let least : ltZ f (negℤ (pos (2 ^ 60))) ≡ false = omega (ints, few-loops, sum f (pos (2 ^ 40 * loopCount t))) in
+          let least : ltZ f (negℤ (pos (2 ^ 60))) ≡ false = omega (ints, sizes-of t h .few-loops, sum f (pos (2 ^ 40 * loopCount t))) in
           let most : ltZ (pos (2 ^ 60)) f ≡ false = omega (ints, high x b) in
           neither least most
 

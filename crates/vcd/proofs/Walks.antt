@@ -5,24 +5,22 @@ use mathlib.Core.Bool.{true, false≢true}
 use mathlib.Core.List.{List, [], _∷_}
 use Prim.Native.Nat.{ℕ, _≤_, _<_}
 use native.Mathlib.Omega.{arith}
-use borrow.Author.Tests.{eqb-true, ltb-false}
-use lib.Dec.{eqb, ltb}
+use borrow.Author.Tests.{eqb-true}
+use lib.Dec.{eqb}
 use Rattle.limits.specs.Limits.{mostBlocks}
-use Rattle.lists.proofs.Tests.{or-false, and-true}
+use Rattle.lists.proofs.Tests.{and-true}
 use Rattle.wcet.specs.Table.{Routine, blockCount, edge}
 use Rattle.wcet.specs.Rules.{structureRules}
 use Rattle.wcet.specs.Run.{path, run, start, keepsLimits, countedRun}
 use Rattle.wcet.specs.Claim.{AllHold, Holds, FinishedRun}
 use Rattle.wcet.proofs.Replies.{all-append}
-use Rattle.wcet.proofs.Nesting.{sizes-at, Nested, nested}
+use Rattle.wcet.proofs.Ranges.{sizes-of}
+use Rattle.wcet.proofs.Nesting.{Nested, nested}
 use Rattle.wcet.proofs.Walks.{accepted-walk}
 use Rattle.vcd.specs.Recording.{selfEdgeRule}
 use Rattle.vcd.specs.Claim.{NoRepeatAfter, NoRepeat, WalksReadBack, UpTo, WalksCanBeWritten}
 use Rattle.vcd.proofs.Writing.{reads-back}
 use Rattle.vcd.proofs.Writable.{can-be-written}
-
-few-blocks : (t : Routine) → AllHold (structureRules t) → blockCount t ≤ mostBlocks
-few-blocks t h = ltb-false mostBlocks (blockCount t) (or-false (ltb (blockCount t) 2) _ (sizes-at t h .0) .1)
 
 -- what holds of a path from block 0 holds of a finished run
 of-run : (P : List ℕ → Type 0) (t : Routine) (w : List ℕ) → ((v : ℕ) (u : List ℕ) → v ≡ 0 → path t v u ≡ true → P (v ∷ u)) → FinishedRun t w → P w
@@ -60,5 +58,5 @@ pub walks-can-be-written : WalksCanBeWritten
 walks-can-be-written t named w x e k =
     let a = accepted-walk t w x e in
     let N : Nested t = nested t (a .rules) in
-    let most : blockCount t ≤ mostBlocks = few-blocks t (a .rules) in
+    let most : blockCount t ≤ mostBlocks = sizes-of t (a .rules) .few-blocks in
     can-be-written named w k (of-run (UpTo 65534) t w (λ v u z p. path-blocks t N 65534 v u (omega arith) (omega (arith, N .two-blocks)) p) (a .finished))

@@ -1,4 +1,5 @@
 pub mod Cases
+pub mod Ranges
 pub mod Nesting
 pub mod Cycles
 pub mod Replies

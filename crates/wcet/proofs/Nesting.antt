@@ -1,17 +1,17 @@
 -- What 201 to 207 say of the edges and the loops, by name. Assumes nothing.
 use mathlib.Core.Path.{_≡_, refl}
 use mathlib.Core.Bool.{Bool, true, false, not, _&&_, _||_, or-true, false≢true}
-use Prim.Native.Nat.{ℕ, _^_, _≤_, _<_}
+use Prim.Native.Nat.{ℕ, _≤_, _<_}
 use native.Mathlib.Decide.{ℕ-discrete}
 use native.Mathlib.Omega.{arith}
 use lib.Dec.{eqb, ltb}
-use borrow.Author.Tests.{eqb-true, eqb-false, ltb-true, ltb-false, not-false, eq-eqb, ne-eqb}
-use Rattle.limits.specs.Limits.{mostBlocks, mostLoops}
-use Rattle.lists.proofs.Tests.{or-false, neither, and-true}
+use borrow.Author.Tests.{eqb-true, eqb-false, ltb-true, not-false, eq-eqb}
+use Rattle.lists.proofs.Tests.{or-false, neither}
 use Rattle.lists.proofs.Search.{none-of}
-use Rattle.wcet.specs.Table.{Routine, blockCount, loopCount, exit, missing, cost, loopOf, first, second, figure, parent, header, limit, multiplier, someEdge, edge, inside}
-use Rattle.wcet.specs.Rules.{outOfRange, sized, blockColumnsEqual, loopColumnsEqual, sizesWrong, loopWrong, figureOutside, blockWrong, headerElsewhere, entryOrExitEdge, pastHeader, entersPastHeader, structureRules}
+use Rattle.wcet.specs.Table.{Routine, blockCount, loopCount, exit, missing, loopOf, first, second, parent, header, limit, multiplier, someEdge, edge, inside}
+use Rattle.wcet.specs.Rules.{headerElsewhere, entryOrExitEdge, pastHeader, entersPastHeader, structureRules}
 use Rattle.wcet.specs.Claim.{AllHold}
+use Rattle.wcet.proofs.Ranges.{SizesKept, RootKept, sizes-of, root-of, loop-of, block-of}
 
 -- a test that holds at no edge out of u fails at each
 pub no-edge : (t : Routine) (u v : ℕ) (p : ℕ → Bool) → someEdge t u p ≡ false → edge t u v ≡ true → p v ≡ false
@@ -47,50 +47,6 @@ module _ (t : Routine) (u : ℕ) where
       go true v q k = refl
       go false v q k = k q
 
--- what 201, 202 and 203 ask of each column
-module _ (t : Routine) (h : AllHold (structureRules t)) where
-  pub sizes-at : (outOfRange 2 mostBlocks (blockCount t) ≡ false) × (outOfRange 1 mostLoops (loopCount t) ≡ false) × (blockColumnsEqual t ≡ true) × (loopColumnsEqual t ≡ true)
-  unfolding structureRules sizesWrong
-  sizes-at =
-      let a = or-false (outOfRange 2 mostBlocks (blockCount t) || outOfRange 1 mostLoops (loopCount t) || not (blockColumnsEqual t)) _ (h .0 0 (omega arith)) in
-      let b = or-false (outOfRange 2 mostBlocks (blockCount t) || outOfRange 1 mostLoops (loopCount t)) _ (a .0) in
-      let c = or-false (outOfRange 2 mostBlocks (blockCount t)) _ (b .0) in
-      (c .0, c .1, not-false _ (b .1), not-false _ (a .1))
-
-  pub blocks-sized : ((sized (blockCount t) (t .loops) && sized (blockCount t) (t .firsts) && sized (blockCount t) (t .seconds)) ≡ true) × (sized (blockCount t) (t .figures) ≡ true)
-  blocks-sized = and-true _ _ (sizes-at .2)
-
-  pub loops-sized : (sized (loopCount t) (t .headers) ≡ true) × (sized (loopCount t) (t .limits) ≡ true) × (sized (loopCount t) (t .multipliers) ≡ true)
-  loops-sized = let a = and-true (sized (loopCount t) (t .headers) && sized (loopCount t) (t .limits)) _ (sizes-at .3) in let b = and-true (sized (loopCount t) (t .headers)) _ (a .0) in (b .0, b .1, a .1)
-
-  some-loop : 0 < loopCount t
-  some-loop = ltb-false (loopCount t) 1 (or-false _ _ (sizes-at .1) .0)
-
-  pub loop0-at : ((eqb (parent t 0) 0 && eqb (header t 0) 0) ≡ true) × (eqb (limit t 0) 1 ≡ true) × (eqb (multiplier t 0) 0 ≡ true)
-  unfolding structureRules loopWrong
-  loop0-at =
-      let a = and-true (eqb (parent t 0) 0 && eqb (header t 0) 0 && eqb (limit t 0) 1) _ (not-false _ (h .1 .0 0 some-loop)) in
-      let b = and-true (eqb (parent t 0) 0 && eqb (header t 0) 0) _ (a .0) in
-      (b .0, b .1, a .1)
-
-  pub loop-at : (l : ℕ) → 0 < l → l < loopCount t
-      → ((not (ltb (parent t l) l) || not (ltb (header t l) (blockCount t))) ≡ false) × (outOfRange 1 65535 (limit t l) ≡ false) × (ltb (2 ^ 40) (multiplier t l) ≡ false)
-  unfolding structureRules loopWrong
-  loop-at l z b =
-      let e = rw (ne-eqb l 0 (λ e. omega arith)) at (h .1 .0 l b) in
-      let p = or-false (not (ltb (parent t l) l) || not (ltb (header t l) (blockCount t)) || outOfRange 1 65535 (limit t l)) (ltb (2 ^ 40) (multiplier t l)) e in
-      let q = or-false (not (ltb (parent t l) l) || not (ltb (header t l) (blockCount t))) (outOfRange 1 65535 (limit t l)) (p .0) in
-      (q .0, q .1, p .1)
-
-  pub block-at : (u : ℕ) → u < blockCount t
-      → (ltb 1000000 (cost t u) ≡ false) × (not (ltb (loopOf t u) (loopCount t)) ≡ false) × (someEdge t u (λ v. not (ltb v (blockCount t))) ≡ false) × (figureOutside (figure t u) ≡ false)
-  unfolding structureRules blockWrong
-  block-at u b =
-      let p = or-false (ltb 1000000 (cost t u) || not (ltb (loopOf t u) (loopCount t)) || someEdge t u (λ v. not (ltb v (blockCount t)))) _ (h .1 .1 .0 u b) in
-      let q = or-false (ltb 1000000 (cost t u) || not (ltb (loopOf t u) (loopCount t))) _ (p .0) in
-      let r = or-false (ltb 1000000 (cost t u)) _ (q .0) in
-      (r .0, r .1, q .1, p .1)
-
 pub record Nested (t : Routine) : Type 0 where
   -- 201
   pub two-blocks : 2 ≤ blockCount t
@@ -117,33 +73,33 @@ pub record Nested (t : Routine) : Type 0 where
 pub nested : (t : Routine) → AllHold (structureRules t) → Nested t
 unfolding structureRules headerElsewhere entryOrExitEdge pastHeader entersPastHeader
 nested t h = record {
-  two-blocks = blocks;
-  some-loop = some-loop t h;
-  loop0-parent = eqb-true (parent t 0) 0 (root .0);
-  loop0-header = eqb-true (header t 0) 0 (root .1);
-  loop0-limit = eqb-true (limit t 0) 1 (loop0-at t h .1);
-  loop0-multiplier = eqb-true (multiplier t 0) 0 (loop0-at t h .2);
-  parent-below = λ l z b. ltb-true (parent t l) l (not-false _ (or-false _ _ (loop-at t h l z b .0) .0));
+  two-blocks = sizes .two-blocks;
+  some-loop = sizes .some-loop;
+  loop0-parent = root .parent-0;
+  loop0-header = root .header-0;
+  loop0-limit = root .limit-1;
+  loop0-multiplier = root .multiplier-0;
+  parent-below = λ l z b. loop-of t h l z b .parent-below;
   header-block = λ l b. header-at l b (ℕ-discrete l 0);
   limit-least = λ l b. limit-at l b (ℕ-discrete l 0);
-  innermost = λ u b. ltb-true (loopOf t u) (loopCount t) (not-false _ (block-at t h u b .1));
-  target = λ u v b e. ltb-true v (blockCount t) (not-false _ (no-edge t u v (λ x. not (ltb x (blockCount t))) (block-at t h u b .2) e));
+  innermost = λ u b. block-of t h u b .innermost;
+  target = λ u v b e. ltb-true v (blockCount t) (not-false _ (no-edge t u v (λ x. not (ltb x (blockCount t))) (block-of t h u b .edges) e));
   own = λ l b. eqb-true (loopOf t (header t l)) l (not-false _ (h .1 .1 .1 .0 l b));
   entry-starts = λ u b e. eqb-false 0 0 (or-false (eqb 0 0) (eqb u (exit t)) (no-edge t u 0 (λ x. eqb x 0 || eqb u (exit t)) (h .1 .1 .1 .1 .1 .0 u b) e) .0) refl;
-  exit-ends = λ v e. eqb-false (exit t) (exit t) (or-false (eqb v 0) _ (no-edge t (exit t) v (λ x. eqb x 0 || eqb (exit t) (exit t)) (h .1 .1 .1 .1 .1 .0 (exit t) (omega (arith, blocks))) e) .1) refl;
+  exit-ends = λ v e. eqb-false (exit t) (exit t) (or-false (eqb v 0) _ (no-edge t (exit t) v (λ x. eqb x 0 || eqb (exit t) (exit t)) (h .1 .1 .1 .1 .1 .0 (exit t) (omega (arith, sizes .two-blocks))) e) .1) refl;
   at-header = λ u v l b e k iv iu. eqb-true (header t l) v (not-false _ (rw (iv, iu) at (none-of (loopCount t) _ (no-edge t u v (pastHeader t u) (h .1 .1 .1 .1 .1 .1 .0 u b) e) l k)));
 }
   where
-    blocks : 2 ≤ blockCount t
-    blocks = ltb-false (blockCount t) 2 (or-false _ _ (sizes-at t h .0) .0)
+    sizes : SizesKept t
+    sizes = sizes-of t h
 
-    root : (eqb (parent t 0) 0 ≡ true) × (eqb (header t 0) 0 ≡ true)
-    root = and-true _ _ (loop0-at t h .0)
+    root : RootKept t
+    root = root-of t h
 
     header-at : (l : ℕ) → l < loopCount t → Dec (l ≡ 0) → header t l < blockCount t
-    header-at l b (yes z) = rw (z, eqb-true (header t 0) 0 (root .1)) (omega (arith, blocks))
-    header-at l b (no ne) = ltb-true (header t l) (blockCount t) (not-false _ (or-false (not (ltb (parent t l) l)) _ (loop-at t h l (omega arith) b .0) .1))
+    header-at l b (yes z) = rw (z, root .header-0) (omega (arith, sizes .two-blocks))
+    header-at l b (no ne) = loop-of t h l (omega arith) b .header-block
 
     limit-at : (l : ℕ) → l < loopCount t → Dec (l ≡ 0) → 1 ≤ limit t l
-    limit-at l b (yes z) = rw (z, eqb-true (limit t 0) 1 (loop0-at t h .1)) (omega arith)
-    limit-at l b (no ne) = ltb-false (limit t l) 1 (or-false _ _ (loop-at t h l (omega arith) b .1) .0)
+    limit-at l b (yes z) = rw (z, root .limit-1) (omega arith)
+    limit-at l b (no ne) = loop-of t h l (omega arith) b .limit-least

@@ -1,25 +1,24 @@
 -- Other costs, figures, limits and multipliers in the same routine: paths, stays and the visits in them are the same, and so is 209
 -- (`undeclared-kept`); with the costs kept a run costs the same (`same-cost`); a run that is counted by limits that are not higher is counted
 -- (`counted-too`). 201 to 207 hold while the columns keep their sizes and ranges (`rules-kept`). Assumes nothing.
-use mathlib.Core.Path.{_≡_, refl, _∙_, ap}
+use mathlib.Core.Path.{_≡_, refl, sym, _∙_, ap}
 use mathlib.Core.Bool.{Bool, true, false, not, _&&_}
 use mathlib.Core.List.{List, [], _∷_}
 use Prim.Native.Nat.{ℕ, zero, suc, _+_, _^_, _≤_, _<_}
-use native.Mathlib.Decide.{ℕ-discrete}
 use native.Mathlib.Omega.{arith}
 use lib.Dec.{eqb}
-use borrow.Author.Tests.{eqb-true, ltb-false, le-ltb, eq-eqb, ne-eqb, not-true}
+use borrow.Author.Tests.{not-true}
 use lib.IntN.{ℤ, pos}
 use lib.ListN.{length, getD}
-use Rattle.lists.proofs.Tests.{or-false, neither, and-true, both}
+use Rattle.lists.proofs.Tests.{and-true, both}
 use Rattle.lists.proofs.Search.{any-ext}
 use Rattle.wcet.specs.Table.{Routine, withNumbers, blockCount, loopCount, cost, header, limit, someEdge, edge, inside}
 use Rattle.wcet.specs.Cycles.{backEdge, forwardEdge, reaches, undeclaredLoop}
-use Rattle.wcet.specs.Rules.{sizesWrong, loopWrong, figureOutside, blockWrong, headerElsewhere, tooDeep, entryOrExitEdge, pastHeader, entersPastHeader, structureRules}
+use Rattle.wcet.specs.Rules.{figureOutside, headerElsewhere, tooDeep, entryOrExitEdge, pastHeader, entersPastHeader, structureRules}
 use Rattle.wcet.specs.Run.{path, run, State, start, nextCount, next, passesLimit, keepsLimits, countedRun, runCost}
 use Rattle.wcet.specs.Claim.{AllHold}
 use Rattle.wcet.specs.Stays.{allInside, currentStay, visits, stayVisits}
-use Rattle.wcet.proofs.Nesting.{sizes-at, blocks-sized, loops-sized, loop0-at, loop-at, block-at}
+use Rattle.wcet.proofs.Ranges.{SizesKept, RootKept, LoopKept, BlockKept, kept-sizes, kept-loop, kept-block, sizes-of, root-of, loop-of, block-of}
 use Rattle.wcet.proofs.Limits.{limits-kept, kept-limits}
 
 -- ---- columns within the sizes and ranges of 201 to 203
@@ -118,41 +117,49 @@ module _ (t : Routine) (h : AllHold (structureRules t)) where
   -- its own columns fit
   pub fitting : Fitting t (t .costs) (t .figures) (t .limits) (t .multipliers)
   fitting = record {
-    costs = record { count = refl; most = λ u b. ltb-false _ _ (block-at t h u b .0) };
-    figures = record { count = eqb-true _ _ (blocks-sized t h .1); range = λ u b. block-at t h u b .3 };
-    limits = record {
-      count = eqb-true _ _ (loops-sized t h .1);
-      loop0 = eqb-true _ _ (loop0-at t h .1);
-      range = λ l z b. let r = or-false _ _ (loop-at t h l z b .1) in (ltb-false _ _ (r .0), ltb-false _ _ (r .1));
-    };
-    multipliers = record { count = eqb-true _ _ (loops-sized t h .2); loop0 = eqb-true _ _ (loop0-at t h .2); most = λ l z b. ltb-false _ _ (loop-at t h l z b .2) };
+    costs = record { count = refl; most = λ u b. block-of t h u b .cost-most };
+    figures = record { count = sizes-of t h .figures; range = λ u b. block-of t h u b .figure-within };
+    limits = record { count = sizes-of t h .limits; loop0 = root-of t h .limit-1; range = λ l z b. let K = loop-of t h l z b in (K .limit-least, K .limit-most) };
+    multipliers = record { count = sizes-of t h .multipliers; loop0 = root-of t h .multiplier-0; most = λ l z b. loop-of t h l z b .multiplier-most };
   }
 
   module _ (cs : List ℕ) (fs : List ℤ) (ls ks : List ℕ) (F : Fitting t cs fs ls ks) where
     abbrev refitted : Routine
     refitted = withNumbers t cs fs ls ks
 
-    sizes-kept : sizesWrong refitted ≡ false
-    unfolding sizesWrong
-    sizes-kept =
-        let f : eqb (length fs) (blockCount t) ≡ true = eq-eqb _ _ (F .figures .count) in
-        let l : eqb (length ls) (loopCount t) ≡ true = eq-eqb _ _ (F .limits .count) in
-        let k : eqb (length ks) (loopCount t) ≡ true = eq-eqb _ _ (F .multipliers .count) in
-        rw (F .costs .count, sizes-at t h .0, sizes-at t h .1, blocks-sized t h .0, f, loops-sized t h .0, l, k)
+    n : length cs ≡ blockCount t
+    n = F .costs .count
 
-    loop-kept : (l : ℕ) → l < loopCount t → Dec (l ≡ 0) → loopWrong refitted l ≡ false
-    unfolding loopWrong
-    loop-kept l b (yes z) = rw (z, loop0-at t h .0, F .limits .loop0, F .multipliers .loop0)
-    loop-kept l b (no ne) =
-        let p : 0 < l = omega arith in
-        let r = F .limits .range l p b in
-        rw (ne-eqb l 0 ne, F .costs .count) (neither (neither (loop-at t h l p b .0) (neither (le-ltb (getD ls l 0) 1 (r .0)) (le-ltb 65535 (getD ls l 0) (r .1)))) (le-ltb (2 ^ 40) (getD ks l 0) (F .multipliers .most l p b)))
+    sizes : SizesKept refitted
+    sizes =
+        let S = sizes-of t h in
+        record {
+          two-blocks = omega (arith, n, S .two-blocks);
+          few-blocks = omega (arith, n, S .few-blocks);
+          some-loop = S .some-loop;
+          few-loops = S .few-loops;
+          loops = S .loops ∙ sym n;
+          firsts = S .firsts ∙ sym n;
+          seconds = S .seconds ∙ sym n;
+          figures = F .figures .count ∙ sym n;
+          headers = S .headers;
+          limits = F .limits .count;
+          multipliers = F .multipliers .count;
+        }
 
-    block-kept : (u : ℕ) → u < blockCount t → blockWrong refitted u ≡ false
-    unfolding blockWrong someEdge
-    block-kept u b = rw (F .costs .count) (neither (neither (neither (le-ltb 1000000 (getD cs u 0) (F .costs .most u b)) (block-at t h u b .1)) (block-at t h u b .2)) (F .figures .range u b))
+    root : RootKept refitted
+    root = record { parent-0 = root-of t h .parent-0; header-0 = root-of t h .header-0; limit-1 = F .limits .loop0; multiplier-0 = F .multipliers .loop0 }
+
+    loop : (l : ℕ) → 0 < l → l < loopCount t → LoopKept refitted l
+    loop l z b =
+        let K = loop-of t h l z b in
+        record { parent-below = K .parent-below; header-block = omega (arith, n, K .header-block); limit-least = F .limits .range l z b .0; limit-most = F .limits .range l z b .1; multiplier-most = F .multipliers .most l z b }
+
+    block : (u : ℕ) → u < blockCount t → BlockKept refitted u
+    unfolding someEdge
+    block u b = let K = block-of t h u b in record { cost-most = F .costs .most u b; innermost = K .innermost; edges = rw n (K .edges); figure-within = F .figures .range u b }
 
     -- 204 to 207 read none of the four columns, but for the number of blocks
     pub rules-kept : AllHold (structureRules refitted)
     unfolding structureRules headerElsewhere tooDeep entryOrExitEdge pastHeader entersPastHeader someEdge inside
-    rules-kept = rw (F .costs .count) (λ p b. sizes-kept, (λ l b. loop-kept l b (ℕ-discrete l 0), (block-kept, h .1 .1 .1)))
+    rules-kept = rw n (λ p b. kept-sizes refitted sizes, (λ l b. kept-loop refitted l root (λ z. loop l z b), (λ u b. kept-block refitted u (block u b), h .1 .1 .1)))
