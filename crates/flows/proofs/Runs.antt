@@ -13,10 +13,10 @@ use Rattle.lists.specs.Search.{if_then_else_}
 use Rattle.lists.proofs.Tests.{and-true}
 use Rattle.integers.proofs.Laws.{ints, sum, diff, times}
 use Rattle.wcet.specs.Table.{Routine, blockCount, loopCount, exit, cost, header, limit, edge, inside}
-use Rattle.wcet.specs.Run.{path, run, State, start, nextCount, next, after, passesLimit, keepsLimits, countedRun, runCost}
+use Rattle.wcet.specs.Run.{path, State, start, nextCount, next, after, passesLimit, keepsLimits, countedRun, runCost}
 use Rattle.wcet.proofs.Nesting.{Nested, nested}
 use Rattle.wcet.proofs.Entry.{inside-0}
-use Rattle.wcet.proofs.Limits.{keeps-each}
+use Rattle.wcet.proofs.Limits.{keeps-each, counted-parts}
 use Rattle.wcet.proofs.Counts.{header-inside}
 use Rattle.mps.specs.Program.{RowName, objective, block, loop, one, number, rightSide, programOf}
 use Rattle.flows.specs.Flow.{rowValue, sameRow, flowCost, flowOf, RunIsFlow, RunsAreFlows}
@@ -119,11 +119,10 @@ module _ (t : Routine) (N : Nested t) where
 
 -- THEOREM: every finished counted run is a solution, at its own cost.
 pub runs-are-flows : (t : Routine) → RunsAreFlows t
-unfolding countedRun run
+unfolding countedRun
 runs-are-flows t h [] r = absurd (false≢true (r .counted))
 runs-are-flows t h (v ∷ w) r =
-    let p : ((eqb v 0 && path t v w) ≡ true) × (keepsLimits t start w ≡ true) = and-true _ _ (r .counted) in
-    let q : (eqb v 0 ≡ true) × (path t v w ≡ true) = and-true _ _ (p .0) in
-    let z : v ≡ 0 = eqb-true v 0 (q .0) in
+    let C = counted-parts t v w (r .counted) in
+    let z = C .starts in
     let k : length (v ∷ w) - 1 ≡ length w = omega arith in
-    rw z (run-flow t (nested t h) w (rw z at (q .1)) (p .1) (rw (z, k) at (r .at-exit)))
+    rw z (run-flow t (nested t h) w (rw z at (C .follows)) (C .keeps) (rw (z, k) at (r .at-exit)))

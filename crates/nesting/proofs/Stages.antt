@@ -68,11 +68,8 @@ module _ (t : Routine) where
     names : (v : ℕ) → (eqb v missing ≡ false → edge t u v ≡ true) → Names (blockCount t) v
     names v e ne = ltb-true v (blockCount t) (not-false _ (no-edge t u v (λ x. not (ltb x (blockCount t))) (K .edges) (e (ne-eqb v missing ne))))
 
-    least : negℤ (pos (2 ^ 60)) ≤ℤ figure t u
-    least = let f = or-false (ltZ (figure t u) (negℤ (pos (2 ^ 60)))) (ltZ (pos (2 ^ 60)) (figure t u)) (K .figure-within) in omega (ints, f .0)
-
-    most : figure t u ≤ℤ pos (2 ^ 60)
-    most = let f = or-false (ltZ (figure t u) (negℤ (pos (2 ^ 60)))) (ltZ (pos (2 ^ 60)) (figure t u)) (K .figure-within) in omega (ints, f .1)
+    figure-range : (negℤ (pos (2 ^ 60)) ≤ℤ figure t u) × (figure t u ≤ℤ pos (2 ^ 60))
+    figure-range = let f = or-false (ltZ (figure t u) (negℤ (pos (2 ^ 60)))) (ltZ (pos (2 ^ 60)) (figure t u)) (K .figure-within) in (omega (ints, f .0), omega (ints, f .1))
 
   pub keeps : Sized t → ((l : ℕ) → l < loopCount t → loopWrong t l ≡ false) → ((u : ℕ) → u < blockCount t → blockWrong t u ≡ false) → Ranged t
   keeps S L B = record {
@@ -86,8 +83,8 @@ module _ (t : Routine) where
     loop-below = λ u b. block u b .innermost;
     first-names = λ u b. names u (block u b) (first t u) (first-edge t u);
     second-names = λ u b. names u (block u b) (second t u) (second-edge t u);
-    figure-least = λ u b. least u (block u b);
-    figure-most = λ u b. most u (block u b);
+    figure-least = λ u b. figure-range u (block u b) .0;
+    figure-most = λ u b. figure-range u (block u b) .1;
   }
     where
       loop : (l : ℕ) → l < loopCount t → LoopRange l

@@ -5,16 +5,15 @@ use mathlib.Core.Bool.{true, false≢true}
 use mathlib.Core.List.{List, [], _∷_}
 use Prim.Native.Nat.{ℕ, _≤_, _<_}
 use native.Mathlib.Omega.{arith}
-use borrow.Author.Tests.{eqb-true}
-use lib.Dec.{eqb}
 use Rattle.limits.specs.Limits.{mostBlocks}
 use Rattle.lists.proofs.Tests.{and-true}
 use Rattle.wcet.specs.Table.{Routine, blockCount, edge}
 use Rattle.wcet.specs.Rules.{structureRules}
-use Rattle.wcet.specs.Run.{path, run, start, keepsLimits, countedRun}
+use Rattle.wcet.specs.Run.{path, countedRun}
 use Rattle.wcet.specs.Claim.{AllHold, Holds, FinishedRun}
 use Rattle.wcet.proofs.Replies.{all-append}
 use Rattle.wcet.proofs.Ranges.{sizes-of}
+use Rattle.wcet.proofs.Limits.{counted-parts}
 use Rattle.wcet.proofs.Nesting.{Nested, nested}
 use Rattle.wcet.proofs.Walks.{accepted-walk}
 use Rattle.vcd.specs.Recording.{selfEdgeRule}
@@ -24,11 +23,9 @@ use Rattle.vcd.proofs.Writable.{can-be-written}
 
 -- what holds of a path from block 0 holds of a finished run
 of-run : (P : List ℕ → Type 0) (t : Routine) (w : List ℕ) → ((v : ℕ) (u : List ℕ) → v ≡ 0 → path t v u ≡ true → P (v ∷ u)) → FinishedRun t w → P w
-unfolding countedRun run
+unfolding countedRun
 of-run P t [] h f = absurd (false≢true (f .counted))
-of-run P t (v ∷ u) h f =
-    let q : (eqb v 0 ≡ true) × (path t v u ≡ true) = and-true _ _ (and-true _ (keepsLimits t start u) (f .counted) .0) in
-    h v u (eqb-true v 0 (q .0)) (q .1)
+of-run P t (v ∷ u) h f = let C = counted-parts t v u (f .counted) in h v u (C .starts) (C .follows)
 
 module _ (t : Routine) (N : Nested t) where
   -- a path has no block twice in a row

@@ -1,13 +1,12 @@
 -- Demand 3: an accepted pair of tables bounds every counted run (`wcet-bound`), so demand 3 holds of a checker whose reply is that of
 -- the rules (`checked`). A negative bound says that no counted run is finished (`none-finished`). Assumes nothing.
 use mathlib.Core.Path.{_≡_, refl, sym, _∙_, ap}
-use mathlib.Core.Bool.{true, false, not, _&&_, false≢true}
+use mathlib.Core.Bool.{true, false, not, false≢true}
 use mathlib.Core.List.{List, [], _∷_}
 use Prim.Native.Nat.{ℕ, _+_, _-_, _≤_, _<_}
 use native.Mathlib.Nat.{mul-le-mul-left}
 use native.Mathlib.Omega.{arith}
-use lib.Dec.{eqb}
-use borrow.Author.Tests.{eqb-true, not-false}
+use borrow.Author.Tests.{not-false}
 use lib.IntN.{ℤ, pos, _+ℤ_, _-ℤ_}
 use lib.ListN.{length, getD, take}
 use lib.Seq.{take-length}
@@ -19,14 +18,14 @@ use Rattle.integers.proofs.Direction.{atMost}
 use Rattle.wcet.specs.Table.{Routine, blockCount, exit, cost, figure, limit, multiplier, edge}
 use Rattle.wcet.specs.Cycles.{undeclaredLoop}
 use Rattle.wcet.specs.Rules.{Reply, accepted, inequality, edgeHolds, inequalityBroken, inequalityRule, undeclaredRule, structureRules, tableRules, bound, tableReply}
-use Rattle.wcet.specs.Run.{path, run, State, start, next, after, passesLimit, keepsLimits, countedRun, runCost}
+use Rattle.wcet.specs.Run.{path, State, start, next, after, passesLimit, keepsLimits, countedRun, runCost}
 use Rattle.wcet.specs.Claim.{Holds, AllHold, BoundedAt, WcetBound, Checked, FinishedRun, NegativeBound}
 use Rattle.wcet.proofs.Replies.{all-append, append-all, replies-exactly}
 use Rattle.wcet.proofs.Nesting.{no-edge, no-edge-at, Nested, nested}
 use Rattle.wcet.proofs.Potential.{Certificate, remaining, Sound}
 use Rattle.wcet.proofs.Path.{AllSound, at-end, whole-run, after-block}
 use Rattle.wcet.proofs.Entry.{stepCost, potential-start, weight-cost}
-use Rattle.wcet.proofs.Limits.{WithinLimits, keeps-each, within-after}
+use Rattle.wcet.proofs.Limits.{WithinLimits, keeps-each, within-after, counted-parts}
 
 -- the tables' own certificate: figures and multipliers as claimed, visits as limited
 abbrev certificate : Routine → Certificate
@@ -137,14 +136,11 @@ from-entry t b F B w k h p q = record {
 
 -- demand 3
 pub wcet-bound : (t : Routine) (b : ℤ) → tableReply t ≡ accepted b → WcetBound t b
-unfolding countedRun run
 wcet-bound t b e [] k h c = absurd (omega arith)
 wcet-bound t b e (v ∷ w) k h c =
     let a : AllHold (tableRules t) × (bound t ≡ b) = replies-exactly t .accepts b .0 e in
-    let p : ((eqb v 0 && path t v (take k w)) ≡ true) × (keepsLimits t start (take k w) ≡ true) = and-true _ _ c in
-    let q : (eqb v 0 ≡ true) × (path t v (take k w) ≡ true) = and-true _ _ (p .0) in
-    let z : v ≡ 0 = eqb-true v 0 (q .0) in
-    rw z (from-entry t b (facts t (a .0)) (a .1) w k (omega arith) (rw z at (q .1)) (p .1))
+    let C = counted-parts t v (take k w) c in
+    rw (C .starts) (from-entry t b (facts t (a .0)) (a .1) w k (omega arith) (rw (C .starts) at (C .follows)) (C .keeps))
 
 -- demand 3 holds of a checker whose reply is that of the rules
 pub checked : (t : Routine) (r : Reply ℤ) → r ≡ tableReply t → Checked t r

@@ -1,17 +1,17 @@
--- The limits along a list: a test at each block, and an order of each count and its limit. Assumes nothing.
+-- The limits along a list: a test at each block, and an order of each count and its limit; and a counted run by its parts. Assumes nothing.
 use mathlib.Core.Path.{_≡_}
-use mathlib.Core.Bool.{Bool, true, false, not}
+use mathlib.Core.Bool.{Bool, true, false, not, _&&_}
 use mathlib.Core.List.{List, [], _∷_}
 use Prim.Native.Nat.{ℕ, zero, suc, _≤_, _<_}
 use native.Mathlib.Omega.{arith}
-use lib.Dec.{ltb}
-use borrow.Author.Tests.{ltb-false, le-ltb, not-true}
+use lib.Dec.{eqb, ltb}
+use borrow.Author.Tests.{eqb-true, eq-eqb, ltb-false, le-ltb, not-true}
 use lib.ListN.{length, take}
 use lib.Seq.{take-length}
 use Rattle.lists.proofs.Tests.{and-true, both}
 use Rattle.lists.proofs.Search.{none-of, any-none}
 use Rattle.wcet.specs.Table.{Routine, loopCount, limit}
-use Rattle.wcet.specs.Run.{State, next, after, passesLimit, keepsLimits}
+use Rattle.wcet.specs.Run.{path, run, State, start, next, after, passesLimit, keepsLimits, countedRun}
 
 module _ (t : Routine) where
   abbrev pub WithinLimits : State → Type 0
@@ -44,3 +44,20 @@ module _ (t : Routine) where
   unfolding keepsLimits after
   each-keeps [] s h = negated (kept-limits s (h 0 (omega arith)))
   each-keeps (v ∷ w) s h = both (negated (kept-limits s (h 0 (omega arith)))) (each-keeps w (next t s v) (λ k b. h (suc k) (omega arith)))
+
+-- a list that begins with v is a counted run exactly where v is block 0, edges lead on from it, and the limits are kept
+pub record Counted (t : Routine) (v : ℕ) (w : List ℕ) : Type 0 where
+  pub starts : v ≡ 0
+  pub follows : path t v w ≡ true
+  pub keeps : keepsLimits t start w ≡ true
+
+pub counted-parts : (t : Routine) (v : ℕ) (w : List ℕ) → countedRun t (v ∷ w) ≡ true → Counted t v w
+unfolding countedRun run
+counted-parts t v w e =
+    let p : ((eqb v 0 && path t v w) ≡ true) × (keepsLimits t start w ≡ true) = and-true _ _ e in
+    let q : (eqb v 0 ≡ true) × (path t v w ≡ true) = and-true _ _ (p .0) in
+    record { starts = eqb-true v 0 (q .0); follows = q .1; keeps = p .1 }
+
+pub parts-counted : (t : Routine) (v : ℕ) (w : List ℕ) → Counted t v w → countedRun t (v ∷ w) ≡ true
+unfolding countedRun run
+parts-counted t v w C = both (both (eq-eqb v 0 (C .starts)) (C .follows)) (C .keeps)

@@ -6,20 +6,19 @@ use mathlib.Core.Bool.{Bool, true, false, not, _&&_}
 use mathlib.Core.List.{List, [], _∷_}
 use Prim.Native.Nat.{ℕ, zero, suc, _+_, _^_, _≤_, _<_}
 use native.Mathlib.Omega.{arith}
-use lib.Dec.{eqb}
 use borrow.Author.Tests.{not-true}
 use lib.IntN.{ℤ, pos}
 use lib.ListN.{length, getD}
-use Rattle.lists.proofs.Tests.{and-true, both}
+use Rattle.lists.proofs.Tests.{and-true}
 use Rattle.lists.proofs.Search.{any-ext}
 use Rattle.wcet.specs.Table.{Routine, withNumbers, blockCount, loopCount, cost, header, limit, someEdge, edge, inside}
 use Rattle.wcet.specs.Cycles.{backEdge, forwardEdge, reaches, undeclaredLoop}
 use Rattle.wcet.specs.Rules.{figureOutside, headerElsewhere, tooDeep, entryOrExitEdge, pastHeader, entersPastHeader, structureRules}
-use Rattle.wcet.specs.Run.{path, run, State, start, nextCount, next, passesLimit, keepsLimits, countedRun, runCost}
+use Rattle.wcet.specs.Run.{path, State, start, nextCount, next, passesLimit, keepsLimits, countedRun, runCost}
 use Rattle.wcet.specs.Claim.{AllHold}
 use Rattle.wcet.specs.Stays.{allInside, currentStay, visits, stayVisits}
 use Rattle.wcet.proofs.Ranges.{SizesKept, RootKept, LoopKept, BlockKept, kept-sizes, kept-loop, kept-block, sizes-of, root-of, loop-of, block-of}
-use Rattle.wcet.proofs.Limits.{limits-kept, kept-limits}
+use Rattle.wcet.proofs.Limits.{limits-kept, kept-limits, counted-parts, parts-counted}
 
 -- ---- columns within the sizes and ranges of 201 to 203
 
@@ -105,11 +104,11 @@ module _ (t : Routine) (cs : List ℕ) (fs : List ℤ) (ls ks : List ℕ) (low :
 
   -- a counted run passes no higher limit either
   pub counted-too : (w : List ℕ) → countedRun lower w ≡ true → countedRun t w ≡ true
-  unfolding countedRun run
+  unfolding countedRun
   counted-too [] h = h
   counted-too (v ∷ w) h =
-      let p : ((eqb v 0 && path lower v w) ≡ true) × (keepsLimits lower start w ≡ true) = and-true _ _ h in
-      both (rw (same-path t cs fs ls ks w v) at (p .0)) (keeps-too w start (p .1))
+      let C = counted-parts lower v w h in
+      parts-counted t v w (record { starts = C .starts; follows = rw (same-path t cs fs ls ks w v) at (C .follows); keeps = keeps-too w start (C .keeps) })
 
 -- ---- 201 to 207
 

@@ -2,7 +2,7 @@
 -- and its length less one (`walks-exactly`); over an accepted pair of tables it costs no more than the bound (`walk-bounded`).
 -- Assumes nothing.
 use mathlib.Core.Path.{_≡_, refl, sym, _∙_, ap}
-use mathlib.Core.Bool.{Bool, true, false, not, _&&_, false≢true}
+use mathlib.Core.Bool.{Bool, true, false, not, false≢true}
 use mathlib.Core.List.{List, [], _∷_, _++_}
 use Prim.Native.Nat.{ℕ, suc, _-_, _≤_, _<_}
 use native.Mathlib.Omega.{arith}
@@ -23,7 +23,7 @@ use Rattle.wcet.specs.Claim.{AllHold, FinishedRun, AcceptsExactly, WalkC
 use Rattle.wcet.proofs.Replies.{passes, all-append, append-all, all-pass}
 use Rattle.wcet.proofs.Nesting.{Nested, nested}
 use Rattle.wcet.proofs.Path.{after-block}
-use Rattle.wcet.proofs.Limits.{keeps-each, kept-limits}
+use Rattle.wcet.proofs.Limits.{keeps-each, kept-limits, counted-parts}
 use Rattle.wcet.proofs.Bound.{finished-bounded}
 
 -- a reply that is accepted passed the test before it
@@ -92,14 +92,13 @@ module _ (t : Routine) (N : Nested t) where
       (record { counted = rw (z, f .0) (f .1); at-exit = rw z (last-block t w ∙ f .2) }, f .3)
 
   run-accepted : (w : List ℕ) (passed : Reply Walked) → FinishedRun t w → walkBlocks t w passed ≡ passed
-  unfolding walkBlocks countedRun run start
+  unfolding walkBlocks countedRun start
   run-accepted [] passed f = absurd (false≢true (f .counted))
   run-accepted (v ∷ w) passed f =
-      let p : ((eqb v 0 && path t v w) ≡ true) × (keepsLimits t start w ≡ true) = and-true _ _ (f .counted) in
-      let q : (eqb v 0 ≡ true) × (path t v w ≡ true) = and-true _ _ (p .0) in
-      let z : v ≡ 0 = eqb-true v 0 (q .0) in
+      let C = counted-parts t v w (f .counted) in
+      let z = C .starts in
       let block : 0 < blockCount t = omega (arith, N .two-blocks) in
-      rw (z, lt-ltb 0 (blockCount t) block) (from-accepted w start 1 passed block (rw z at (q .1)) (p .1) (sym (last-block t w) ∙ rw z at (f .at-exit)))
+      rw (z, lt-ltb 0 (blockCount t) block) (from-accepted w start 1 passed block (rw z at (C .follows)) (C .keeps) (sym (last-block t w) ∙ rw z at (f .at-exit)))
 
 -- what an accepted reply says of the tables and of the walk
 pub record AcceptedWalk (t : Routine) (w : List ℕ) (r : Walked) : Type 0 where
