@@ -1,4 +1,5 @@
 // The sizes that document 01 limits, one constant each. The definitions have a name for each in specs/Limits.antt.
+#![tactic(auto)]
 
 // Blocks of a routine, and rows of its block table.
 pub const MOST_BLOCKS: usize = 1024;
