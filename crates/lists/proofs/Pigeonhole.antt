@@ -6,7 +6,7 @@ use native.Mathlib.Decide.{ℕ_discrete}
 use native.Mathlib.Omega.{arith}
 use lib.Dec.{eqb}
 use borrow.Author.Tests.{eqb-true, eqb-false, eq-eqb, ne_eqb, not-true, not-false}
-use Rattle.lists.specs.Search.{if◌then◌else◌, any_below}
+use Rattle.lists.specs.Search.{when◌then◌else◌, any_below}
 use Rattle.lists.proofs.Search.{none_of, some_at}
 
 -- two places up to n with the same number
@@ -19,7 +19,7 @@ pigeonhole (suc n) f low = go (any_below (suc n) (λ i. eqb (f i) (f (suc n)))) 
   where
     -- the others, with the last number in the place of n
     others : ℕ → ℕ
-    others i = if eqb (f i) n then f (suc n) else f i
+    others i = when eqb (f i) n then f (suc n) else f i
 
     go : (b : Bool) → any_below (suc n) (λ i. eqb (f i) (f (suc n))) ≡ b → ((g : ℕ → ℕ) → ((i : ℕ) → i ≤ n → g i < n) → Twice g n) → Twice f (suc n)
     go true q rest =
@@ -46,7 +46,7 @@ pigeonhole (suc n) f low = go (any_below (suc n) (λ i. eqb (f i) (f (suc n)))) 
 
 unfoldable pub place_in : (ℕ → ℕ) → ℕ → ℕ → ℕ
 place_in f zero u = 0
-place_in f (suc k) u = if eqb (f k) u then k else place_in f k u
+place_in f (suc k) u = when eqb (f k) u then k else place_in f k u
 
 pub placed : (f : ℕ → ℕ) (k u j : ℕ) → j < k → f j ≡ u → (place_in f k u < k) × (f (place_in f k u) ≡ u)
 unfolding place_in
@@ -56,7 +56,7 @@ placed f (suc k) u j h e = go (ℕ_discrete (f k) u) (λ l. placed f k u j l e)
     P : ℕ → Type 0
     P i = (i < suc k) × (f i ≡ u)
 
-    go : Dec (f k ≡ u) → (j < k → (place_in f k u < k) × (f (place_in f k u) ≡ u)) → P (if eqb (f k) u then k else place_in f k u)
+    go : Dec (f k ≡ u) → (j < k → (place_in f k u < k) × (f (place_in f k u) ≡ u)) → P (when eqb (f k) u then k else place_in f k u)
     go (yes q) rest = rw (eq-eqb (f k) u q) (omega arith, q)
     go (no ne) rest =
         let r = rest (let other : j ≡ k → ⊥ = λ z. ne (ap f (sym z) ∙ e) in omega (arith, other)) in
@@ -69,7 +69,7 @@ onto n f low different u h = go (any_below n (λ i. eqb (f i) u)) refl
   where
     -- the numbers, and u after them
     more : ℕ → ℕ
-    more i = if eqb i n then u else f i
+    more i = when eqb i n then u else f i
 
     first : (i : ℕ) → i < n → more i ≡ f i
     first i l = rw (ne_eqb i n (λ z. omega arith))

@@ -11,7 +11,7 @@ use native.Mathlib.Omega.{arith}
 use lib.Dec.{eqb}
 use lib.ListN.{length, get_or}
 use borrow.Author.Tests.{eq-eqb, ne_eqb}
-use Rattle.lists.specs.Search.{if◌then◌else◌, any_below, count_below, greatest_below, or_else, first_below, tabulate}
+use Rattle.lists.specs.Search.{when◌then◌else◌, any_below, count_below, greatest_below, or_else, first_below, tabulate}
 use Rattle.lists.proofs.Tests.{or_false, neither, both, either}
 
 -- ---- one number more
@@ -66,7 +66,7 @@ any_ext (suc k) p q h = rw (any_ext k p q (λ i l. h i (omega arith)), h k (omeg
 -- ---- first_below
 
 -- nothing is found exactly where no number passes
-neither_found : (o : Option ℕ) (b : Bool) (k : ℕ) → or_else o (if b then some k else none) ≡ none → (o ≡ none) × (b ≡ false)
+neither_found : (o : Option ℕ) (b : Bool) (k : ℕ) → or_else o (when b then some k else none) ≡ none → (o ≡ none) × (b ≡ false)
 neither_found none true k e = absurd (let z : ◌≡◌ {A = ℕ} 0 1 = cc in omega arith)
 neither_found none false k e = (refl, refl)
 neither_found (some j) b k e = absurd (let z : ◌≡◌ {A = ℕ} 0 1 = cc in omega arith)
@@ -94,7 +94,7 @@ unfolding first_below
 found zero p i h = absurd (omega (arith, h.below))
 found (suc k) p i h = go (ℕ_discrete i k) (λ l. found k p i (record { below = l; passes = h.passes; lower = h.lower }))
   where
-    go : Dec (i ≡ k) → (i < k → first_below k p ≡ some i) → or_else (first_below k p) (if p k then some k else none) ≡ some i
+    go : Dec (i ≡ k) → (i < k → first_below k p ≡ some i) → or_else (first_below k p) (when p k then some k else none) ≡ some i
     go (yes q) rest = rw (none_found k p (λ j l. h.lower j (omega arith)), ap p (sym q) ∙ h.passes) (ap some (sym q))
     go (no ne) rest = rw (rest (omega (arith, h.below)))
 
@@ -103,7 +103,7 @@ unfolding first_below
 found_lowest zero p i e = absurd (let z : ◌≡◌ {A = ℕ} 0 1 = cc in omega arith)
 found_lowest (suc k) p i e = go (first_below k p) refl (p k) refl e (found_lowest k p)
   where
-    go : (o : Option ℕ) → first_below k p ≡ o → (b : Bool) → p k ≡ b → or_else o (if b then some k else none) ≡ some i
+    go : (o : Option ℕ) → first_below k p ≡ o → (b : Bool) → p k ≡ b → or_else o (when b then some k else none) ≡ some i
         → ((i : ℕ) → first_below k p ≡ some i → Lowest k p i) → Lowest (suc k) p i
     go (some j) o b q e rest =
         let r : Lowest k p i = rest i (o ∙ e) in
@@ -127,12 +127,12 @@ count_ext zero p q h = refl
 count_ext (suc k) p q h = rw (count_ext k p q (λ i l. h i (omega arith)), h k (omega arith))
 
 -- the same count, with the lowest number first
-pub count_lowest : (k : ℕ) (p : ℕ → Bool) → count_below (suc k) p ≡ (if p 0 then 1 else 0) + count_below k (λ i. p (suc i))
+pub count_lowest : (k : ℕ) (p : ℕ → Bool) → count_below (suc k) p ≡ (when p 0 then 1 else 0) + count_below k (λ i. p (suc i))
 unfolding count_below
 count_lowest zero p = omega arith
 count_lowest (suc k) p =
-    ap (λ (n : ℕ). n + (if p (suc k) then 1 else 0)) (count_lowest k p)
-    ∙ add_assoc (if p 0 then 1 else 0) (count_below k (λ i. p (suc i))) (if p (suc k) then 1 else 0)
+    ap (λ (n : ℕ). n + (when p (suc k) then 1 else 0)) (count_lowest k p)
+    ∙ add_assoc (when p 0 then 1 else 0) (count_below k (λ i. p (suc i))) (when p (suc k) then 1 else 0)
 
 -- numbers that do not pass do not count
 pub count_beyond : (m k : ℕ) (p : ℕ → Bool) → m ≤ k → ((i : ℕ) → m ≤ i → i < k → p i ≡ false) → count_below k p ≡ count_below m p
@@ -140,7 +140,7 @@ unfolding count_below
 count_beyond m zero p h fail = let z : m ≡ 0 = omega arith in rw z
 count_beyond m (suc k) p h fail = go (ℕ_discrete m (suc k)) (λ l. count_beyond m k p l (λ i a b. fail i a (omega arith)))
   where
-    go : Dec (m ≡ suc k) → (m ≤ k → count_below k p ≡ count_below m p) → count_below k p + (if p k then 1 else 0) ≡ count_below m p
+    go : Dec (m ≡ suc k) → (m ≤ k → count_below k p ≡ count_below m p) → count_below k p + (when p k then 1 else 0) ≡ count_below m p
     go (yes e) rest = sym (ap (λ (n : ℕ). count_below n p) e)
     go (no ne) rest = rw (fail k (omega arith) (omega arith)) (let r = rest (omega arith) in omega arith)
 
@@ -154,7 +154,7 @@ unfolding count_below
 none_counted zero p e i h = absurd (omega arith)
 none_counted (suc k) p e i h = below_suc (λ i. p i ≡ false) k (none_counted k p (omega arith)) (last (p k) refl e) i h
   where
-    last : (b : Bool) → p k ≡ b → count_below k p + (if b then 1 else 0) ≡ 0 → p k ≡ false
+    last : (b : Bool) → p k ≡ b → count_below k p + (when b then 1 else 0) ≡ 0 → p k ≡ false
     last true q e = absurd (omega arith)
     last false q e = q
 
@@ -171,7 +171,7 @@ unfolding count_below
 count_most zero p = omega arith
 count_most (suc k) p = go (p k) (count_most k p)
   where
-    go : (b : Bool) → count_below k p ≤ k → count_below k p + (if b then 1 else 0) ≤ suc k
+    go : (b : Bool) → count_below k p ≤ k → count_below k p + (when b then 1 else 0) ≤ suc k
     go true h = omega arith
     go false h = omega arith
 
@@ -182,7 +182,7 @@ count_remove zero h p l e = absurd (omega arith)
 count_remove (suc k) h p l e = go (ℕ_discrete h k) (λ b. count_remove k h p b e)
   where
     go : Dec (h ≡ k) → (h < k → count_below k p ≡ suc (count_below k (λ i. p i && not (eqb i h))))
-        → count_below k p + (if p k then 1 else 0) ≡ suc (count_below k (λ i. p i && not (eqb i h)) + (if p k && not (eqb k h) then 1 else 0))
+        → count_below k p + (when p k then 1 else 0) ≡ suc (count_below k (λ i. p i && not (eqb i h)) + (when p k && not (eqb k h) then 1 else 0))
     go (yes q) rest =
         let same : count_below k (λ i. p i && not (eqb i h)) ≡ count_below k p
         = count_ext k (λ i. p i && not (eqb i h)) p (λ i b. rw (ne_eqb i h (λ z. omega arith)) (and-true (p i))) in
@@ -196,7 +196,7 @@ unfolding count_below
 count_mono zero p q h = omega arith
 count_mono (suc k) p q h = go (p k) (q k) (h k (omega arith)) (count_mono k p q (λ i l. h i (omega arith)))
   where
-    go : (a b : Bool) → (a ≡ true → b ≡ true) → count_below k p ≤ count_below k q → count_below k p + (if a then 1 else 0) ≤ count_below k q + (if b then 1 else 0)
+    go : (a b : Bool) → (a ≡ true → b ≡ true) → count_below k p ≤ count_below k q → count_below k p + (when a then 1 else 0) ≤ count_below k q + (when b then 1 else 0)
     go true true e r = omega arith
     go true false e r = absurd (false≢true (e refl))
     go false true e r = omega arith

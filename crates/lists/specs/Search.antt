@@ -2,10 +2,10 @@
 use Rattle.std.specs.Prelude.{ℕ, zero, suc, ◌+◌, max, Bool, false, cond, ◌||◌, List, [], ◌∷◌}
 use Rattle.std.proofs.Math.Option.{Option, none, some}
 
-infixr 1 if◌then◌else◌
+infixr 1 when◌then◌else◌
 -- the choice by a test
-abbrev pub if◌then◌else◌ {ℓ} : {A : Type ℓ} → Bool → A → A → A
-if b then x else y = cond b x y
+abbrev pub when◌then◌else◌ {ℓ} : {A : Type ℓ} → Bool → A → A → A
+when b then x else y = cond b x y
 
 -- some number below k passes the test p
 unfoldable pub any_below : ℕ → (ℕ → Bool) → Bool
@@ -15,7 +15,7 @@ any_below (suc k) p = any_below k p || p k
 -- how many numbers below k pass the test p
 unfoldable pub count_below : ℕ → (ℕ → Bool) → ℕ
 count_below zero p = 0
-count_below (suc k) p = count_below k p + (if p k then 1 else 0)
+count_below (suc k) p = count_below k p + (when p k then 1 else 0)
 
 -- the greatest of f 0 to f (k − 1), and 0 where k is 0
 unfoldable pub greatest_below : ℕ → (ℕ → ℕ) → ℕ
@@ -30,7 +30,7 @@ or_else none o = o
 -- the lowest number below k that passes the test p
 unfoldable pub first_below : ℕ → (ℕ → Bool) → Option ℕ
 first_below zero p = none
-first_below (suc k) p = or_else (first_below k p) (if p k then some k else none)
+first_below (suc k) p = or_else (first_below k p) (when p k then some k else none)
 
 -- the list of f 0 to f (k − 1)
 unfoldable pub tabulate {ℓ} : {A : Type ℓ} → ℕ → (ℕ → A) → List A

@@ -1,1 +1,3 @@
+#![tactic(auto)]
+
 // Searches over the numbers below a bound: definitions in specs/, laws in proofs/. It has no code.
