@@ -12,7 +12,7 @@ use lib.Seq.{take-length}
 use Rattle.lists.proofs.Tests.{and-true}
 use Rattle.integers.proofs.Direction.{Direction}
 use Rattle.wcet.specs.Table.{Routine, block_count, loop_count, loop_of, edge, inside, is_header}
-use Rattle.wcet.specs.Rules.{inequality}
+use Rattle.wcet.specs.Shortest.{inequality_by}
 use Rattle.wcet.specs.Run.{path, State, start, next, after, run_cost}
 use Rattle.wcet.proofs.Nesting.{Nested}
 use Rattle.wcet.proofs.Potential.{Certificate, remaining, Sound}
@@ -22,7 +22,7 @@ use Rattle.wcet.proofs.Entry.{step_cost, potential_start, weight_cost}
 -- the inequality of an edge from u to v, with the numbers of this certificate
 abbrev pub keeps : (compare : ℤ → ℤ → Bool) → Routine → Certificate → ℕ → ℕ → Bool
 keeps compare t C u v =
-    inequality compare (is_header t v) (inside t u (loop_of t v)) (step_cost t u v) (C.figure u) (C.figure v) (C.multiplier (loop_of t v)) (C.visits (loop_of t v))
+    inequality_by compare (is_header t v) (inside t u (loop_of t v)) (step_cost t u v) (C.figure u) (C.figure v) (C.multiplier (loop_of t v)) (C.visits (loop_of t v))
 
 -- from state s along w: where a stay ends, at the next block or with the list, its visits are on the right side of their bound
 abbrev pub Ended : (t : Routine) (R : ℤ → ℤ → Type 0) (C : Certificate) → State → List ℕ → Type 0
@@ -36,7 +36,7 @@ module _ (t : Routine) (N : Nested t) (R : ℤ → ℤ → Type 0) (O : Directio
   sound : (s : State) (v : ℕ) → s.block < block_count t → edge t s.block v ≡ true
       → ((l : ℕ) → l < loop_count t → inside t s.block l ≡ true → inside t v l ≡ false → R (pos 0) (remaining (C.multiplier l) (C.visits l) (s.count l)))
       → Sound t R C s v (pos (step_cost t s.block v))
-  unfolding inequality
+  unfolding inequality_by
   sound s v b e left =
       let h : keeps compare t C s.block v ≡ true = holds s.block v b e in
       record {

@@ -16,8 +16,9 @@ use Rattle.integers.proofs.Laws.{ints, sum, diff, times, le_z_le}
 use Rattle.integers.proofs.Direction.{at_most}
 use Rattle.wcet.specs.Table.{Routine, block_count, exit, cost, figure, limit, multiplier, edge}
 use Rattle.wcet.specs.Cycles.{undeclared_loop}
-use Rattle.wcet.specs.Rules.{Reply, accepted, edge_holds, inequality_broken, inequality_rule, undeclared_rule, structure_rules, table_rules, bound, table_reply}
+use Rattle.wcet.specs.Rules.{Reply, accepted, inequality, edge_holds, inequality_broken, inequality_rule, undeclared_rule, structure_rules, table_rules, bound, table_reply}
 use Rattle.wcet.specs.Run.{path, start, after, keeps_limits, counted_run, run_cost}
+use Rattle.wcet.specs.Shortest.{inequality_by}
 use Rattle.wcet.specs.Claim.{Holds, AllHold, BoundedAt, WcetBound, Checked, FinishedRun, NegativeBound}
 use Rattle.wcet.proofs.Replies.{all_append, append_all, replies_exactly}
 use Rattle.wcet.proofs.Nesting.{no_edge, no_edge_at, Nested, nested}
@@ -74,7 +75,7 @@ accepted_by_lem t h declared holds =
 
 -- the cost after block 0 plus the figure, along any list that a counted run can follow
 so_far : (t : Routine) → Facts t → (w : List ℕ) → path t 0 w ≡ true → keeps_limits t start w ≡ true → (pos (run_cost t w) +ℤ figure t (after t start w).block) ≤ℤ figure t 0
-unfolding edge_holds
+unfolding edge_holds inequality inequality_by
 so_far t F w h k =
     account t F.nesting ◌≤ℤ◌ at_most le_z le_z_le (certificate t) F.holds F.nesting.loop0_multiplier w h
     (λ j l b m i o. remaining_left (multiplier t l) (limit t l) ((after t start (take j w)).count l) (keeps_each t w start k j b l m))

@@ -12,7 +12,7 @@ use Rattle.wcet.specs.Run.{start, next_count, next, passes_limit, run_cost}
 use Rattle.wcet.specs.Walk.{walk_from, walk_blocks, walk_reply}
 use Rattle.wcet.specs.Tally.{tally_reply}
 use Rattle.wcet.specs.Stays.{all_inside, current_stay, visits}
-use Rattle.wcet.specs.Shortest.{stay_ends, too_few_visits, keeps_least, low_edge_holds, low_bound, low_sizes_wrong, low_loop_wrong, low_figure_wrong, low_inequality_broken, shortest_rules, shortest_reply}
+use Rattle.wcet.specs.Shortest.{stay_ends, too_few_visits, keeps_least, inequality_by, low_edge_holds, low_bound, low_sizes_wrong, low_loop_wrong, low_figure_wrong, low_inequality_broken, shortest_rules, shortest_reply}
 use Rattle.wcet.specs.Cases.{answer, A, marked_cases, MarkedCasesHold, trimmed_a, TrimmedCaseHolds, low_cases, LowCasesHold, LeastCasesHold}
 
 pub marked_cases_hold : MarkedCasesHold
@@ -51,7 +51,7 @@ trimmed_case_holds = (
     tighter (suc (suc l)) z h = absurd (omega arith)
 
 pub low_cases_hold : LowCasesHold
-unfolding low_cases any_below count_below first_below some_edge edge around inside back_edge forward_edge reaches undeclared_loop check sizes_wrong loop_wrong block_wrong header_elsewhere too_deep entry_or_exit_edge past_header enters_past_header inequality structure_rules low_edge_holds low_bound low_sizes_wrong low_loop_wrong low_figure_wrong low_inequality_broken shortest_rules shortest_reply
+unfolding low_cases any_below count_below first_below some_edge edge around inside back_edge forward_edge reaches undeclared_loop check sizes_wrong loop_wrong block_wrong header_elsewhere too_deep entry_or_exit_edge past_header enters_past_header inequality_by structure_rules low_edge_holds low_bound low_sizes_wrong low_loop_wrong low_figure_wrong low_inequality_broken shortest_rules shortest_reply
 low_cases_hold = refl
 
 pub least_cases_hold : LeastCasesHold

@@ -10,7 +10,7 @@ use native.Mathlib.Omega.{arith}
 use lib.Dec.{eqb, eqb-suc-zero, eqb-zero-suc}
 use borrow.Author.Tests.{eqb-true}
 use lib.ListN.{length, take}
-use Rattle.lists.specs.Search.{if◌then◌else◌}
+use Rattle.lists.specs.Search.{when◌then◌else◌}
 use Rattle.lists.proofs.Tests.{and-true, both}
 use Rattle.wcet.specs.Table.{Routine, loop_count, header, limit, inside}
 use Rattle.wcet.specs.Rules.{structure_rules}
@@ -38,17 +38,17 @@ all_snoc : (t : Routine) (l : ℕ) (w : List ℕ) (v : ℕ) → all_inside t l (
 unfolding all_inside
 all_snoc t l w v = inside_append t l w (v ∷ []) ∙ ap (λ (x : Bool). all_inside t l w && x) (mathlib.Core.Bool.and-true (inside t v l))
 
-stay_snoc : (t : Routine) (l : ℕ) (w : List ℕ) (v : ℕ) → current_stay t l (w ++ v ∷ []) ≡ (if inside t v l then current_stay t l w ++ v ∷ [] else [])
+stay_snoc : (t : Routine) (l : ℕ) (w : List ℕ) (v : ℕ) → current_stay t l (w ++ v ∷ []) ≡ (when inside t v l then current_stay t l w ++ v ∷ [] else [])
 unfolding current_stay all_inside
 stay_snoc t l [] v = go (inside t v l)
   where
-    go : (i : Bool) → (if i && true then v ∷ [] else []) ≡ (if i then [] ++ v ∷ [] else [])
+    go : (i : Bool) → (when i && true then v ∷ [] else []) ≡ (when i then [] ++ v ∷ [] else [])
     go true = refl
     go false = refl
 stay_snoc t l (u ∷ w) v = rw (all_snoc t l w v, stay_snoc t l w v) (go (inside t u l) (all_inside t l w) (inside t v l))
   where
-    go : (a b c : Bool) → (if a && (b && c) then u ∷ (w ++ v ∷ []) else if c then current_stay t l w ++ v ∷ [] else [])
-        ≡ (if c then (if a && b then u ∷ w else current_stay t l w) ++ v ∷ [] else [])
+    go : (a b c : Bool) → (when a && (b && c) then u ∷ (w ++ v ∷ []) else when c then current_stay t l w ++ v ∷ [] else [])
+        ≡ (when c then (when a && b then u ∷ w else current_stay t l w) ++ v ∷ [] else [])
     go true true true = refl
     go true true false = refl
     go true false true = refl
@@ -56,7 +56,7 @@ stay_snoc t l (u ∷ w) v = rw (all_snoc t l w v, stay_snoc t l w v) (go (inside
     go false b true = refl
     go false b false = refl
 
-visits_snoc : (h : ℕ) (w : List ℕ) (v : ℕ) → visits h (w ++ v ∷ []) ≡ visits h w + (if eqb h v then 1 else 0)
+visits_snoc : (h : ℕ) (w : List ℕ) (v : ℕ) → visits h (w ++ v ∷ []) ≡ visits h w + (when eqb h v then 1 else 0)
 unfolding visits
 visits_snoc h w v = omega (arith, visits_append h w (v ∷ []))
 
@@ -82,7 +82,7 @@ module _ (t : Routine) (N : Nested t) where
 
     -- one step, by its tests: u and v inside l, v the header
     stepped : (iu iv eh : Bool) (c : ℕ) → (eh ≡ true → iv ≡ true) → (iu ≡ false → c ≡ 0)
-        → (if iu && not iv then 0 else if not eh then c else if iu then c + 1 else 1) ≡ (if iv then c + (if eh then 1 else 0) else 0)
+        → (when iu && not iv then 0 else when not eh then c else when iu then c + 1 else 1) ≡ (when iv then c + (when eh then 1 else 0) else 0)
     stepped true true true c p q = refl
     stepped true true false c p q = omega arith
     stepped true false eh c p q = refl
@@ -100,7 +100,7 @@ module _ (t : Routine) (N : Nested t) where
         ∙ counted (inside t v l) refl
       where
         counted : (i : Bool) → inside t v l ≡ i
-            → (if i then stay_visits t l (w ++ u ∷ []) + (if eqb (header t l) v then 1 else 0) else 0) ≡ stay_visits t l ((w ++ u ∷ []) ++ v ∷ [])
+            → (when i then stay_visits t l (w ++ u ∷ []) + (when eqb (header t l) v then 1 else 0) else 0) ≡ stay_visits t l ((w ++ u ∷ []) ++ v ∷ [])
         counted true e = rw (stay_snoc t l (w ++ u ∷ []) v, e) (sym (visits_snoc (header t l) (current_stay t l (w ++ u ∷ [])) v))
         counted false e = unfold visits in rw (stay_snoc t l (w ++ u ∷ []) v, e)
 
@@ -116,7 +116,7 @@ module _ (t : Routine) (N : Nested t) where
     unfolding start current_stay all_inside visits
     at_start = rw (inside_0 t N l) (go l N.loop0_header)
       where
-        go : (k : ℕ) → header t 0 ≡ 0 → (if eqb k 0 then 1 else 0) ≡ visits (header t k) (if eqb 0 k && true then 0 ∷ [] else [])
+        go : (k : ℕ) → header t 0 ≡ 0 → (when eqb k 0 then 1 else 0) ≡ visits (header t k) (when eqb 0 k && true then 0 ∷ [] else [])
         go zero e = rw e
         go (suc k) e = rw (eqb-suc-zero k, eqb-zero-suc k)
 

@@ -7,7 +7,7 @@ use lib.Dec.{eqb}
 use borrow.Author.Tests.{eqb-true}
 use lib.IntN.{pos, +ℤ_idr, zero-*ℤ}
 use lib.ListN.{get_or}
-use Rattle.lists.specs.Search.{if◌then◌else◌}
+use Rattle.lists.specs.Search.{when◌then◌else◌}
 use Rattle.integers.proofs.Sums.{sum_zero}
 use Rattle.wcet.specs.Table.{Routine, loop_count, loop_of, cost, around, inside}
 use Rattle.wcet.specs.Run.{start, run_cost}
@@ -42,7 +42,7 @@ module _ (t : Routine) (N : Nested t) where
   unfolding potential start
   potential_start C z = rw (sum_zero (loop_count t) (term t C 0 start.count) nothing) (+ℤ_idr (C.figure 0))
     where
-      go : (l : ℕ) (b : Bool) (c : ℕ) → eqb 0 l ≡ b → (if b then remaining (C.multiplier l) (C.visits l) c else pos 0) ≡ pos 0
+      go : (l : ℕ) (b : Bool) (c : ℕ) → eqb 0 l ≡ b → (when b then remaining (C.multiplier l) (C.visits l) c else pos 0) ≡ pos 0
       go l true c q = rw (sym (eqb-true 0 l q), z, zero-*ℤ)
       go l false c q = refl
 

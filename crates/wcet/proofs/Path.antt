@@ -6,7 +6,7 @@ use Prim.Native.Nat.{ℕ, zero, suc, ◌+◌, ◌≤◌, ◌<◌}
 use native.Mathlib.Omega.{arith}
 use lib.IntN.{ℤ, pos, ◌+ℤ◌, +ℤ_assoc, +ℤ_idl, +ℤ_idr}
 use lib.ListN.{length, get_or, take}
-use Rattle.lists.specs.Search.{if◌then◌else◌}
+use Rattle.lists.specs.Search.{when◌then◌else◌}
 use Rattle.integers.proofs.Direction.{Direction, shift_left}
 use Rattle.integers.proofs.Sums.{sum_below, sum_zero, sum_mono}
 use Rattle.wcet.specs.Table.{Routine, loop_count, inside}
@@ -53,7 +53,7 @@ module _ (R : ℤ → ℤ → Type 0) (O : Direction R) (t : Routine) (C : Certi
       g : ℕ → ℤ
       g = term t C s.block s.count
 
-      go : (l : ℕ) → l < loop_count t → (i : Bool) → inside t s.block l ≡ i → R (pos 0) (if i then remaining (C.multiplier l) (C.visits l) (s.count l) else pos 0)
+      go : (l : ℕ) → l < loop_count t → (i : Bool) → inside t s.block l ≡ i → R (pos 0) (when i then remaining (C.multiplier l) (C.visits l) (s.count l) else pos 0)
       go l b true e = h l b e
       go l b false e = O.same (pos 0)
 

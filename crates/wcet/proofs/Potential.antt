@@ -8,7 +8,7 @@ use Prim.Native.Nat.{ℕ, zero, suc, ◌+◌, ◌*◌, ◌<◌}
 use lib.Dec.{eqb}
 use borrow.Author.Tests.{eqb-false, eq-eqb, ne_eqb}
 use lib.IntN.{ℤ, pos, ◌+ℤ◌, ◌-ℤ◌, ◌*ℤ◌, +ℤ_idr, +ℤ_idl}
-use Rattle.lists.specs.Search.{if◌then◌else◌}
+use Rattle.lists.specs.Search.{when◌then◌else◌}
 use Rattle.integers.specs.Parts.{up, dn}
 use Rattle.integers.proofs.Laws.{ints, sum, diff, times}
 use Rattle.integers.proofs.Direction.{Direction, add}
@@ -48,7 +48,7 @@ pub record Certificate : Type 0 where
 
 -- what is left of loop l, at block u and these counts: nothing, where u is outside of l
 abbrev pub term : Routine → Certificate → ℕ → (ℕ → ℕ) → ℕ → ℤ
-term t C u count l = if inside t u l then remaining (C.multiplier l) (C.visits l) (count l) else pos 0
+term t C u count l = when inside t u l then remaining (C.multiplier l) (C.visits l) (count l) else pos 0
 
 unfoldable pub potential : Routine → Certificate → State → ℤ
 potential t C s = C.figure s.block +ℤ sum_below (loop_count t) (term t C s.block s.count)
@@ -86,10 +86,10 @@ module _ (R : ℤ → ℤ → Type 0) (O : Direction R) where
 
   -- the next count, by the three tests that it goes by: u is inside, v is inside, v is the header
   abbrev counted : Bool → Bool → Bool → ℕ → ℕ
-  counted iu iv eh c = if iu && not iv then 0 else if not eh then c else if iu then c + 1 else 1
+  counted iu iv eh c = when iu && not iv then 0 else when not eh then c else when iu then c + 1 else 1
 
   abbrev kept : Bool → ℤ → ℤ
-  kept i x = if i then x else pos 0
+  kept i x = when i then x else pos 0
 
   -- a loop of which v is not the header
   other_term : (k b c : ℕ) (iu iv eh : Bool) → eh ≡ false → (iv ≡ true → iu ≡ false → ⊥) → (iu ≡ true → iv ≡ false → R (pos 0) (remaining k b c))

@@ -14,7 +14,7 @@ use borrow.Author.Tests.{eqb-true, ltb-false, lt-ltb, le-ltb, eq-eqb, ne_eqb, no
 use lib.ListN.{length, get_or, take, set, length-set}
 use lib.Seq.{get_or-set_same, get_or-set_other}
 use Rattle.limits.specs.Limits.{longest_walk}
-use Rattle.lists.specs.Search.{if◌then◌else◌, first_below, tabulate}
+use Rattle.lists.specs.Search.{when◌then◌else◌, first_below, tabulate}
 use Rattle.lists.proofs.Search.{not_found, tabulate-at, tabulate-length, tabulate_map}
 use Rattle.lists.proofs.Tests.{or_false, and-true, both, neither}
 use Rattle.wcet.specs.Table.{Routine, block_count, loop_count, exit, loop_of, header, edge, around, inside}
@@ -84,7 +84,7 @@ unfolding current_stay visits
 visits_stay t l h [] = omega arith
 visits_stay t l h (v ∷ w) = go (all_inside t l (v ∷ w)) (visits_stay t l h w)
   where
-    go : (b : Bool) → visits h (current_stay t l w) ≤ visits h w → visits h (if b then v ∷ w else current_stay t l w) ≤ (if eqb h v then 1 else 0) + visits h w
+    go : (b : Bool) → visits h (current_stay t l w) ≤ visits h w → visits h (when b then v ∷ w else current_stay t l w) ≤ (when eqb h v then 1 else 0) + visits h w
     go true r = omega arith
     go false r = omega arith
 
@@ -134,7 +134,7 @@ module _ (t : Routine) (N : Nested t) where
       let q : (edge t u v ≡ true) × (path t v w ≡ true) = and-true _ _ p in
       let v_block : v < block_count t = N.target u v b q.0 in
       let rest : stays t 0 (v ∷ w) ≡ 1 = one_stay w v v_block q.1 in
-      let here : ◌≡◌ {A = ℕ} (if inside t u 0 && not (inside t v 0) then 1 else 0) 0 = rw (inside_root u b, inside_root v v_block) in
+      let here : ◌≡◌ {A = ℕ} (when inside t u 0 && not (inside t v 0) then 1 else 0) 0 = rw (inside_root u b, inside_root v v_block) in
       ap₂ (λ (x y : ℕ). x + y) here rest
 
   -- ---- a run to the exit is accepted, or refused for a limit
@@ -155,7 +155,7 @@ module _ (t : Routine) (N : Nested t) where
       on z = N.exit_ends v (rw z at q.0)
 
       -- 302, 311 and 312 do not occur
-      step : (r : Reply Walked) → (if not (ltb v (block_count t)) then refused 302 i else if eqb s.block (exit t) then refused 311 i else if not (edge t s.block v) then refused 312 i else r) ≡ r
+      step : (r : Reply Walked) → (when not (ltb v (block_count t)) then refused 302 i else when eqb s.block (exit t) then refused 311 i else when not (edge t s.block v) then refused 312 i else r) ≡ r
       step r = rw (lt-ltb v (block_count t) v_block, ne_eqb s.block (exit t) on, q.0)
 
       rest : Reply Walked
@@ -175,19 +175,19 @@ module _ (t : Routine) (rules : AllHold (structure_rules t)) (w : List ℕ) (sho
   limits = as_limits (by_loop t (λ l. greatest t l (0 ∷ w)))
 
   one_for_0 : ℕ → ℕ
-  one_for_0 g = if eqb g 0 then 1 else g
+  one_for_0 g = when eqb g 0 then 1 else g
 
   at_least : (g : ℕ) → one_for_0 g ≡ max 1 g
   unfolding one_for_0
   at_least g = go (ℕ_discrete g 0)
     where
-      go : Dec (g ≡ 0) → (if eqb g 0 then 1 else g) ≡ max 1 g
+      go : Dec (g ≡ 0) → (when eqb g 0 then 1 else g) ≡ max 1 g
       go (yes z) = rw z
       go (no ne) = rw (ne_eqb g 0 ne) (omega arith)
 
   limits_are : limits ≡ tabulate (loop_count t) (λ l. one_for_0 (greatest t l (0 ∷ w)))
   unfolding one_for_0
-  limits_are = tabulate_map (λ g. if eqb g 0 then 1 else g) (loop_count t) (λ l. greatest t l (0 ∷ w))
+  limits_are = tabulate_map (λ g. when eqb g 0 then 1 else g) (loop_count t) (λ l. greatest t l (0 ∷ w))
 
   limit_at : (l : ℕ) → l < loop_count t → get_or limits l 0 ≡ max 1 (greatest t l (0 ∷ w))
   limit_at l b = ap (λ (ls : List ℕ). get_or ls l 0) limits_are ∙ tabulate-at (loop_count t) (λ l. one_for_0 (greatest t l (0 ∷ w))) 0 l b ∙ at_least (greatest t l (0 ∷ w))
@@ -315,7 +315,7 @@ module _ (t : Routine) where
   unfolding recording_from walk_from next
   as_walk [] s i passed never = go (eqb s.block (exit t))
     where
-      go : (b : Bool) → (if b then steps_of passed else refused 314 i) ≡ steps_of (if b then passed else refused 314 i)
+      go : (b : Bool) → (when b then steps_of passed else refused 314 i) ≡ steps_of (when b then passed else refused 314 i)
       go true = refl
       go false = refl
   as_walk (v ∷ w) s i passed never =
@@ -325,10 +325,10 @@ module _ (t : Routine) where
       rest = walk_from t (next t s v) (suc i) w passed
 
       go : (a b c d : Bool)
-          → ((k : ℕ) → (if not a then refused 302 i else if b then refused 311 i else if not c then refused 312 i else if d then refused 313 i else rest) ≡ refused 313 k → ⊥)
+          → ((k : ℕ) → (when not a then refused 302 i else when b then refused 311 i else when not c then refused 312 i else when d then refused 313 i else rest) ≡ refused 313 k → ⊥)
           → (((k : ℕ) → rest ≡ refused 313 k → ⊥) → recording_from t v (suc i) w (steps_of passed) ≡ steps_of rest)
-          → (if not a then refused 302 i else if b then refused 311 i else if not c then refused 312 i else recording_from t v (suc i) w (steps_of passed))
-          ≡ steps_of (if not a then refused 302 i else if b then refused 311 i else if not c then refused 312 i else if d then refused 313 i else rest)
+          → (when not a then refused 302 i else when b then refused 311 i else when not c then refused 312 i else recording_from t v (suc i) w (steps_of passed))
+          ≡ steps_of (when not a then refused 302 i else when b then refused 311 i else when not c then refused 312 i else when d then refused 313 i else rest)
       go false b c d never same = refl
       go true true c d never same = refl
       go true false false d never same = refl
@@ -343,8 +343,8 @@ module _ (t : Routine) where
       rest : Reply Walked
       rest = walk_from t start 1 w passed
 
-      go : (a b : Bool) → ((k : ℕ) → (if not a then refused 302 0 else if not b then refused 303 0 else rest) ≡ refused 313 k → ⊥)
-          → (if not a then refused 302 0 else if not b then refused 303 0 else recording_from t 0 1 w (steps_of passed)) ≡ steps_of (if not a then refused 302 0 else if not b then refused 303 0 else rest)
+      go : (a b : Bool) → ((k : ℕ) → (when not a then refused 302 0 else when not b then refused 303 0 else rest) ≡ refused 313 k → ⊥)
+          → (when not a then refused 302 0 else when not b then refused 303 0 else recording_from t 0 1 w (steps_of passed)) ≡ steps_of (when not a then refused 302 0 else when not b then refused 303 0 else rest)
       go false b never = refl
       go true false never = refl
       go true true never = as_walk w start 1 passed never

@@ -9,7 +9,7 @@ use Prim.Native.Nat.{ℕ, ◌≤◌, ◌<◌}
 use native.Mathlib.Omega.{arith}
 use borrow.Author.Tests.{not-true}
 use lib.IntN.{ℤ, pos, ◌+ℤ◌, ◌-ℤ◌}
-use lib.Signed.{◌≤ℤ◌, le_z}
+use lib.Signed.{◌≤ℤ◌}
 use Rattle.lists.specs.Search.{any_below, count_below, first_below}
 use Rattle.lists.proofs.Tests.{and-true}
 use Rattle.lists.proofs.Search.{not_found, found_lowest}
@@ -94,7 +94,7 @@ module _ (t : Routine) (F : Facts t) where
       least : 1 ≤ n
       least = F.nesting.limit_least (loop_of t v) (F.nesting.innermost v (F.nesting.target u v b e.0))
 
-      go : (headed inner : Bool) → (headed && inner) ≡ false → inequality le_z headed inner (cost t v) (figure t u) (figure t v) k n ≡ true → pos (cost t v) ≤ℤ (figure t u -ℤ figure t v)
+      go : (headed inner : Bool) → (headed && inner) ≡ false → inequality headed inner (cost t v) (figure t u) (figure t v) k n ≡ true → pos (cost t v) ≤ℤ (figure t u -ℤ figure t v)
       go false inner o q = le_z_le _ _ q
       go true true o q = absurd (true≢false o)
       go true false o q = omega (ints, le_z_le (pos (cost t v) +ℤ remaining k n 1) (figure t u -ℤ figure t v) q, sum (pos (cost t v)) (remaining k n 1), remaining_left k n 1 least)

@@ -12,7 +12,7 @@ use borrow.Author.Tests.{eqb-true, ltb-true, ltb-false, le-ltb, not-true, not-fa
 use lib.IntN.{ℤ, pos, ◌+ℤ◌, ◌-ℤ◌}
 use lib.ListN.{length, get_or, take}
 use lib.Seq.{take-length}
-use lib.Signed.{◌≤ℤ◌}
+use lib.Signed.{◌≤ℤ◌, le_z}
 use Rattle.lists.specs.Search.{any_below}
 use Rattle.lists.proofs.Tests.{and-true, both}
 use Rattle.lists.proofs.Search.{none_of, any_none}
@@ -20,10 +20,10 @@ use Rattle.integers.specs.Parts.{up, dn}
 use Rattle.integers.proofs.Laws.{ints, sum, diff, times, le_z_le}
 use Rattle.integers.proofs.Direction.{AtLeast, at_least}
 use Rattle.wcet.specs.Table.{Routine, block_count, loop_count, exit, cost, edge, inside}
-use Rattle.wcet.specs.Rules.{Reply, accepted, structure_rules, undeclared_rule}
+use Rattle.wcet.specs.Rules.{Reply, accepted, inequality, structure_rules, undeclared_rule}
 use Rattle.wcet.specs.Run.{path, run, start, after, counted_run, run_cost}
 use Rattle.wcet.specs.Stays.{stay_visits}
-use Rattle.wcet.specs.Shortest.{LowCertificate, low_figure, low_multiplier, least, Finished, stay_ends, too_few_visits, keeps_least, ge_z, low_edge_holds, low_loop_wrong, low_inequality_broken, low_rules, shortest_rules, low_bound, shortest_reply}
+use Rattle.wcet.specs.Shortest.{LowCertificate, low_figure, low_multiplier, least, Finished, stay_ends, too_few_visits, keeps_least, ge_z, inequality_by, low_edge_holds, low_loop_wrong, low_inequality_broken, low_rules, shortest_rules, low_bound, shortest_reply}
 use Rattle.wcet.specs.Claim.{AllHold, FinishedRun, ShortestBound, ShortestChecked, ShortestExactly, LeastCounted, LeastExactly, InOrder}
 use Rattle.wcet.proofs.Replies.{all_append, accepted_exactly, refused_exactly}
 use Rattle.wcet.proofs.Nesting.{no_edge, Nested, nested}
@@ -172,3 +172,10 @@ counted_finished t (v ∷ w) f = record { runs = (and-true _ _ f.counted).0; at_
 -- where both are accepted, and some finished counted run keeps the least visits
 pub in_order : (t : Routine) (c : LowCertificate) → InOrder t c
 in_order t c lo hi e q w f K = omega (ints, shortest_bound t c lo e w (counted_finished t w f) K, finished_bounded t hi q w f)
+
+-- ---- the two directions
+
+-- by ≤, the inequality of either direction is that of document 01
+pub by_le : (headed inner : Bool) (c : ℕ) (from to : ℤ) (k b : ℕ) → inequality_by le_z headed inner c from to k b ≡ inequality headed inner c from to k b
+unfolding inequality inequality_by
+by_le headed inner c from to k b = refl

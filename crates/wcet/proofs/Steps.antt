@@ -6,7 +6,7 @@ use native.Mathlib.Decide.{ℕ_discrete}
 use native.Mathlib.Omega.{arith}
 use lib.Dec.{ltb}
 use borrow.Author.Tests.{eqb-false, ne_eqb, le-ltb}
-use Rattle.lists.specs.Search.{if◌then◌else◌, any_below}
+use Rattle.lists.specs.Search.{when◌then◌else◌, any_below}
 use Rattle.lists.proofs.Search.{any_at, any_none}
 use Rattle.wcet.specs.Table.{Routine, block_count, loop_count, loop_of, header, limit, edge, inside, is_header}
 use Rattle.wcet.specs.Run.{State, next_count, next, passes_limit}
@@ -19,7 +19,7 @@ pub kept_count : (t : Routine) (s : State) (v l : ℕ) → (header t l ≡ v →
 unfolding next next_count
 kept_count t s v l ne {b} h = rw (ne_eqb (header t l) v ne) (go (inside t s.block l && not (inside t v l)))
   where
-    go : (x : Bool) → (if x then 0 else s.count l) ≤ b
+    go : (x : Bool) → (when x then 0 else s.count l) ≤ b
     go true = omega arith
     go false = h
 

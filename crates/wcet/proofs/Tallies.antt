@@ -7,7 +7,7 @@ use Prim.Native.Nat.{ℕ, zero, suc, ◌+◌, ◌≤◌, ◌<◌, max}
 use native.Mathlib.Omega.{arith}
 use lib.ListN.{length, get_or, take, length-append}
 use lib.Seq.{take_all, take-append-le}
-use Rattle.lists.specs.Search.{if◌then◌else◌, greatest_below}
+use Rattle.lists.specs.Search.{when◌then◌else◌, greatest_below}
 use Rattle.lists.proofs.Search.{greatest_ext, below_greatest, greatest_below_lem}
 use Rattle.wcet.specs.Table.{Routine, inside}
 use Rattle.wcet.specs.Stays.{all_inside, current_stay, visits, stay_visits}
@@ -21,20 +21,20 @@ module _ (t : Routine) (l : ℕ) where
   begins_snoc [] u v = refl
   begins_snoc (x ∷ w) u v = refl
 
-  pub stays_first : (v : ℕ) → stays t l (v ∷ []) ≡ (if inside t v l then 1 else 0)
+  pub stays_first : (v : ℕ) → stays t l (v ∷ []) ≡ (when inside t v l then 1 else 0)
   unfolding stays begins_inside
   stays_first v = go (inside t v l)
     where
-      go : (b : Bool) → (if b && true then 1 else 0) + 0 ≡ (if b then 1 else 0)
+      go : (b : Bool) → (when b && true then 1 else 0) + 0 ≡ (when b then 1 else 0)
       go true = refl
       go false = refl
 
   -- a block inside l begins a stay where the one before it is outside
-  pub stays_snoc : (w : List ℕ) (u v : ℕ) → stays t l ((w ++ u ∷ []) ++ v ∷ []) ≡ stays t l (w ++ u ∷ []) + (if inside t v l && not (inside t u l) then 1 else 0)
+  pub stays_snoc : (w : List ℕ) (u v : ℕ) → stays t l ((w ++ u ∷ []) ++ v ∷ []) ≡ stays t l (w ++ u ∷ []) + (when inside t v l && not (inside t u l) then 1 else 0)
   unfolding stays begins_inside
   stays_snoc [] u v = go (inside t u l) (inside t v l)
     where
-      go : (a b : Bool) → (if a && not b then 1 else 0) + ((if b && true then 1 else 0) + 0) ≡ (if a && true then 1 else 0) + 0 + (if b && not a then 1 else 0)
+      go : (a b : Bool) → (when a && not b then 1 else 0) + ((when b && true then 1 else 0) + 0) ≡ (when a && true then 1 else 0) + 0 + (when b && not a then 1 else 0)
       go true true = refl
       go true false = refl
       go false true = refl
@@ -46,7 +46,7 @@ module _ (t : Routine) (l : ℕ) where
   stays_most [] = omega arith
   stays_most (v ∷ w) = let r = stays_most w in omega (arith, one (inside t v l && not (begins_inside t l w)))
     where
-      one : (b : Bool) → (if b then 1 else 0) ≤ 1
+      one : (b : Bool) → (when b then 1 else 0) ≤ 1
       one true = omega arith
       one false = omega arith
 

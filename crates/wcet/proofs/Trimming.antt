@@ -8,7 +8,7 @@ use native.Mathlib.Decide.{ℕ_discrete, dec_le}
 use native.Mathlib.Omega.{arith}
 use lib.IntN.{ℤ, pos, ◌+ℤ◌}
 use lib.ListN.{length, get_or-eq_default}
-use lib.Signed.{◌≤ℤ◌, le_z}
+use lib.Signed.{◌≤ℤ◌}
 use Rattle.integers.proofs.Laws.{ints, sum, diff}
 use Rattle.wcet.specs.Table.{Routine, with_numbers, block_count, loop_count, exit, cost, loop_of, figure, limit, multiplier, some_edge, edge, inside, is_header}
 use Rattle.wcet.specs.Rules.{accepted, inequality, edge_holds, structure_rules, undeclared_rule, inequality_rule, table_rules, bound, table_reply}
@@ -24,7 +24,7 @@ use Rattle.wcet.proofs.Walks.{accepted_walk, walks_exactly}
 
 -- an inequality with a lower cost and a lower limit
 inequality_mono : (headed inner : Bool) (c c' : ℕ) (from to : ℤ) (k b b' : ℕ) → c' ≤ c → b' ≤ b
-    → inequality le_z headed inner c from to k b ≡ true → inequality le_z headed inner c' from to k b' ≡ true
+    → inequality headed inner c from to k b ≡ true → inequality headed inner c' from to k b' ≡ true
 unfolding inequality
 inequality_mono false inner c c' from to k b b' p q e = omega ints
 inequality_mono true true c c' from to k b b' p q e = omega ints

@@ -13,7 +13,7 @@ use lib.ListN.{length, get_or}
 use lib.Seq.{take-length}
 use lib.Signed.{◌≤ℤ◌}
 use Rattle.limits.specs.Limits.{longest_walk}
-use Rattle.lists.specs.Search.{if◌then◌else◌}
+use Rattle.lists.specs.Search.{when◌then◌else◌}
 use Rattle.lists.proofs.Tests.{or_false, and-true, both, neither}
 use Rattle.wcet.specs.Table.{Routine, block_count, exit, limit, edge}
 use Rattle.wcet.specs.Rules.{Reply, accepted, refused, structure_rules, table_reply}
@@ -27,11 +27,11 @@ use Rattle.wcet.proofs.Limits.{keeps_each, kept_limits, counted_parts}
 use Rattle.wcet.proofs.Bound.{finished_bounded}
 
 -- a reply that is accepted passed the test before it
-pub unrefused : {A : Type 0} (c : Bool) (n p : ℕ) (x : Reply A) (a : A) → (if c then refused n p else x) ≡ accepted a → (c ≡ false) × (x ≡ accepted a)
+pub unrefused : {A : Type 0} (c : Bool) (n p : ℕ) (x : Reply A) (a : A) → (when c then refused n p else x) ≡ accepted a → (c ≡ false) × (x ≡ accepted a)
 unrefused true n p x a e = absurd (let z : ◌≡◌ {A = ℕ} 0 1 = cc in omega arith)
 unrefused false n p x a e = (refl, e)
 
-pub finishes : {A : Type 0} (c : Bool) (n p : ℕ) (x : Reply A) (a : A) → (if c then x else refused n p) ≡ accepted a → (c ≡ true) × (x ≡ accepted a)
+pub finishes : {A : Type 0} (c : Bool) (n p : ℕ) (x : Reply A) (a : A) → (when c then x else refused n p) ≡ accepted a → (c ≡ true) × (x ≡ accepted a)
 finishes true n p x a e = (refl, e)
 finishes false n p x a e = absurd (let z : ◌≡◌ {A = ℕ} 0 1 = cc in omega arith)
 
@@ -77,7 +77,7 @@ module _ (t : Routine) (N : Nested t) where
   unfolding start
   start_kept = kept_limits t start (λ l b. go l (eqb l 0) refl)
     where
-      go : (l : ℕ) (z : Bool) → eqb l 0 ≡ z → (if z then 1 else 0) ≤ limit t l
+      go : (l : ℕ) (z : Bool) → eqb l 0 ≡ z → (when z then 1 else 0) ≤ limit t l
       go l true q = omega (arith, N.loop0_limit, ap (limit t) (eqb-true l 0 q))
       go l false q = omega arith
 

@@ -1,10 +1,10 @@
--- Document 01, "Replies that come from the input", 201 to 208, and "The inequality of an edge", which document 02, §10, turns round; document
--- 02, §2, 209, and §6, the order: with which number and place a pair of tables is refused, and the bound of an accepted pair.
+-- Document 01, "Replies that come from the input", 201 to 208, and "The inequality of an edge"; document 02, §2, 209, and §6, the order: with
+-- which number and place a pair of tables is refused, and the bound of an accepted pair.
 use Rattle.std.specs.Prelude.{ℕ, ◌^◌, Bool, not, ◌&&◌, ◌||◌, List, [], ◌∷◌, ◌++◌, eqb, ltb, ℤ, pos, neg_ℤ, ◌+ℤ◌, ◌-ℤ◌, ◌*ℤ◌, length}
 use Rattle.std.proofs.Math.Option.{Option, none, some}
 use Rattle.std.specs.Int.Signed.{le_z, lt_z}
 use Rattle.limits.specs.Limits.{most_blocks, most_loops, most_depth}
-use Rattle.lists.specs.Search.{if◌then◌else◌, any_below, count_below, first_below}
+use Rattle.lists.specs.Search.{when◌then◌else◌, any_below, count_below, first_below}
 use Rattle.wcet.specs.Table.{Routine, block_count, loop_count, exit, cost, loop_of, figure, parent, header, limit, multiplier, some_edge, inside, is_header}
 use Rattle.wcet.specs.Cycles.{undeclared_loop}
 
@@ -52,7 +52,7 @@ sizes_wrong t = out_of_range 2 most_blocks (block_count t) || out_of_range 1 mos
 -- a header not below n, a limit not 1 to 65,535, or a multiplier over 2^40"
 unfoldable pub loop_wrong : Routine → ℕ → Bool
 loop_wrong t l =
-    if eqb l 0
+    when eqb l 0
     then not (eqb (parent t 0) 0 && eqb (header t 0) 0 && eqb (limit t 0) 1 && eqb (multiplier t 0) 0)
     else not (ltb (parent t l) l) || not (ltb (header t l) (block_count t)) || out_of_range 1 65535 (limit t l) || ltb (2 ^ 40) (multiplier t l)
 
@@ -92,25 +92,24 @@ past_header t u v = any_below (loop_count t) (λ l. enters t u v l && not (eqb (
 unfoldable pub enters_past_header : Routine → ℕ → Bool
 enters_past_header t u = some_edge t u (past_header t u)
 
--- The inequality of an edge from u to v, on numbers: how its sides are compared, v is a header or not, u is inside its loop or not, the cost
--- of v, the figures of u and of v, the multiplier of v's loop and its visits per stay: the limit.
+-- The inequality of an edge from u to v, on numbers: v is a header or not, u is inside its loop or not, the cost of v, the figures of u and
+-- of v, the multiplier and the limit of v's loop.
 -- "For an edge from u to v let D be the figure of u less the figure of v.
 --  v is no header: cost of v ≤ D.
 --  v is the header of a loop that u is inside: cost of v ≤ D + multiplier.
 --  v is the header of a loop that u is outside: cost of v + multiplier × (limit − 1) ≤ D."
--- Document 01 compares by ≤. Document 02, §10: "The inequalities turn round", with the least visits for the limit (`Shortest.antt`).
-unfoldable pub inequality : (compare : ℤ → ℤ → Bool) (headed inner : Bool) (c : ℕ) (from to : ℤ) (k b : ℕ) → Bool
-inequality compare headed inner c from to k b =
-    if not headed then compare (pos c) d else
-    if inner then compare (pos c) (d +ℤ pos k) else
-    compare (pos c +ℤ pos k *ℤ (pos b -ℤ pos 1)) d
+unfoldable pub inequality : (headed inner : Bool) (c : ℕ) (from to : ℤ) (k b : ℕ) → Bool
+inequality headed inner c from to k b =
+    when not headed then le_z (pos c) d else
+    when inner then le_z (pos c) (d +ℤ pos k) else
+    le_z (pos c +ℤ pos k *ℤ (pos b -ℤ pos 1)) d
   where
     d : ℤ
     d = from -ℤ to
 
 -- the inequality of an edge from u to v of the tables holds
 unfoldable pub edge_holds : Routine → ℕ → ℕ → Bool
-edge_holds t u v = inequality le_z (is_header t v) (inside t u (loop_of t v)) (cost t v) (figure t u) (figure t v) (multiplier t (loop_of t v)) (limit t (loop_of t v))
+edge_holds t u v = inequality (is_header t v) (inside t u (loop_of t v)) (cost t v) (figure t u) (figure t v) (multiplier t (loop_of t v)) (limit t (loop_of t v))
 
 -- 208: "an edge breaks its inequality"
 unfoldable pub inequality_broken : Routine → ℕ → Bool

@@ -1,6 +1,6 @@
 -- Document 01, "Counted runs".
 use Rattle.std.specs.Prelude.{ℕ, ◌+◌, Bool, true, false, not, ◌&&◌, List, [], ◌∷◌, eqb, ltb}
-use Rattle.lists.specs.Search.{if◌then◌else◌, any_below}
+use Rattle.lists.specs.Search.{when◌then◌else◌, any_below}
 use Rattle.wcet.specs.Table.{Routine, loop_count, cost, header, limit, edge, inside}
 
 -- from block u the blocks of w follow edges
@@ -25,7 +25,7 @@ pub record State : Type 0 where
 
 -- "At the first block loop 0 stands at 1 and every other loop at 0"; the first block is block 0
 unfoldable pub start : State
-start = record { block = 0; count = λ l. if eqb l 0 then 1 else 0 }
+start = record { block = 0; count = λ l. when eqb l 0 then 1 else 0 }
 
 -- an edge from u to v leaves loop l
 abbrev pub leaves : Routine → ℕ → ℕ → ℕ → Bool
@@ -35,9 +35,9 @@ leaves t u v l = inside t u l && not (inside t v l)
 -- count to 0; an edge to the header from outside, the first time and each time after, sets it to 1", "nothing but the list changes them".
 unfoldable pub next_count : Routine → ℕ → ℕ → ℕ → ℕ → ℕ
 next_count t u v l c =
-    if leaves t u v l then 0 else
-    if not (eqb (header t l) v) then c else
-    if inside t u l then c + 1 else 1
+    when leaves t u v l then 0 else
+    when not (eqb (header t l) v) then c else
+    when inside t u l then c + 1 else 1
 
 -- "each later block finds the counts as the one before it left them": the state at v, after state s
 unfoldable pub next : Routine → State → ℕ → State

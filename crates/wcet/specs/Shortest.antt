@@ -1,10 +1,10 @@
 -- Document 02, §10, "The shortest time as well": the second certificate, the number and place with which it is refused, the lower bound of
 -- an accepted one, and the runs that the lower bound is about.
-use Rattle.std.specs.Prelude.{ℕ, suc, ◌-◌, ◌^◌, ◌≡◌, Bool, true, not, ◌&&◌, ◌||◌, List, [], ◌∷◌, ◌++◌, eqb, ltb, ℤ, pos, ◌+ℤ◌, ◌-ℤ◌, length, get_or, take}
+use Rattle.std.specs.Prelude.{ℕ, suc, ◌-◌, ◌^◌, ◌≡◌, Bool, true, not, ◌&&◌, ◌||◌, List, [], ◌∷◌, ◌++◌, eqb, ltb, ℤ, pos, ◌+ℤ◌, ◌-ℤ◌, ◌*ℤ◌, length, get_or, take}
 use Rattle.std.specs.Int.Signed.{le_z}
-use Rattle.lists.specs.Search.{if◌then◌else◌, any_below}
+use Rattle.lists.specs.Search.{when◌then◌else◌, any_below}
 use Rattle.wcet.specs.Table.{Routine, block_count, loop_count, exit, cost, loop_of, some_edge, inside, is_header}
-use Rattle.wcet.specs.Rules.{Reply, accepted, Rule, check, sized, figure_outside, inequality, structure_rules, undeclared_rule}
+use Rattle.wcet.specs.Rules.{Reply, accepted, Rule, check, sized, figure_outside, structure_rules, undeclared_rule}
 use Rattle.wcet.specs.Run.{run}
 use Rattle.wcet.specs.Stays.{stay_visits}
 
@@ -50,10 +50,21 @@ keeps_least t c w = not (any_below (loop_count t) (λ l. any_below (length w) (t
 abbrev pub ge_z : ℤ → ℤ → Bool
 ge_z x y = le_z y x
 
+-- The inequality of an edge on numbers, as in `Rules.antt`, by either comparison: by `le_z` it is `inequality`. The visits b are the limit or the
+-- least.
+unfoldable pub inequality_by : (compare : ℤ → ℤ → Bool) (headed inner : Bool) (c : ℕ) (from to : ℤ) (k b : ℕ) → Bool
+inequality_by compare headed inner c from to k b =
+    when not headed then compare (pos c) d else
+    when inner then compare (pos c) (d +ℤ pos k) else
+    compare (pos c +ℤ pos k *ℤ (pos b -ℤ pos 1)) d
+  where
+    d : ℤ
+    d = from -ℤ to
+
 -- "cost ≥ D for no header, cost ≥ D + multiplier from inside, cost + multiplier × (least − 1) ≥ D from outside": of an edge from u to v, with
 -- D the figure of u less the figure of v in the second certificate. least − 1 may be −1.
 unfoldable pub low_edge_holds : Routine → LowCertificate → ℕ → ℕ → Bool
-low_edge_holds t c u v = inequality ge_z (is_header t v) (inside t u (loop_of t v)) (cost t v) (low_figure c u) (low_figure c v) (low_multiplier c (loop_of t v)) (least c (loop_of t v))
+low_edge_holds t c u v = inequality_by ge_z (is_header t v) (inside t u (loop_of t v)) (cost t v) (low_figure c u) (low_figure c v) (low_multiplier c (loop_of t v)) (least c (loop_of t v))
 
 -- "entry cost + entry figure − exit figure"
 unfoldable pub low_bound : Routine → LowCertificate → ℤ
@@ -66,7 +77,7 @@ low_sizes_wrong t c = not (sized (block_count t) c.figures && sized (loop_count 
 -- 451: "a loop's least or multiplier out of range": the multiplier has "the ranges of 202", and the least is "0 to 65,535, 1 for loop 0"
 unfoldable pub low_loop_wrong : LowCertificate → ℕ → Bool
 low_loop_wrong c l =
-    if eqb l 0
+    when eqb l 0
     then not (eqb (low_multiplier c 0) 0 && eqb (least c 0) 1)
     else ltb (2 ^ 40) (low_multiplier c l) || ltb 65535 (least c l)
 

@@ -1,7 +1,7 @@
 -- Document 01, "Counted runs", without steps: the visits to a header within one stay, counted over the list; and the claim that the counts
 -- of `Run.antt` are these.
 use Rattle.std.specs.Prelude.{◌≡◌, ◌↔◌, Bool, true, ◌&&◌, List, [], ◌∷◌, ℕ, suc, ◌+◌, ◌≤◌, ◌<◌, eqb, length, take}
-use Rattle.lists.specs.Search.{if◌then◌else◌}
+use Rattle.lists.specs.Search.{when◌then◌else◌}
 use Rattle.wcet.specs.Table.{Routine, loop_count, header, limit, inside}
 use Rattle.wcet.specs.Run.{run, start, after, counted_run}
 
@@ -14,12 +14,12 @@ all_inside t l (v ∷ w) = inside t v l && all_inside t l w
 -- outside l
 unfoldable pub current_stay : Routine → ℕ → List ℕ → List ℕ
 current_stay t l [] = []
-current_stay t l (v ∷ w) = if all_inside t l (v ∷ w) then v ∷ w else current_stay t l w
+current_stay t l (v ∷ w) = when all_inside t l (v ∷ w) then v ∷ w else current_stay t l w
 
 -- how often block h stands in the list w
 unfoldable pub visits : ℕ → List ℕ → ℕ
 visits h [] = 0
-visits h (v ∷ w) = (if eqb h v then 1 else 0) + visits h w
+visits h (v ∷ w) = (when eqb h v then 1 else 0) + visits h w
 
 -- "For each loop the visits to its header are counted within one stay": the visits to loop l's header in the present stay
 abbrev pub stay_visits : Routine → ℕ → List ℕ → ℕ

@@ -1,7 +1,7 @@
 -- Document 02, §7, "Limits seen in recordings": what a recorded walk shows of each loop, by the list of its blocks as a whole and with no state;
 -- the reply and the two lent columns; and what is claimed of the numbers.
 use Rattle.std.specs.Prelude.{ℕ, suc, ◌+◌, ◌-◌, ◌≤◌, ◌<◌, ◌≡◌, Bool, false, not, ◌&&◌, List, [], ◌∷◌, ◌++◌, map, eqb, length, get_or, take, set}
-use Rattle.lists.specs.Search.{if◌then◌else◌, greatest_below, tabulate}
+use Rattle.lists.specs.Search.{when◌then◌else◌, greatest_below, tabulate}
 use Rattle.wcet.specs.Table.{Routine, with_numbers, loop_count, exit, edge, inside}
 use Rattle.wcet.specs.Rules.{Reply, accepted, refused, Rule, check, sized, structure_rules}
 use Rattle.wcet.specs.Walk.{Walked, walked, length_rule, at_block, walk_reply}
@@ -18,7 +18,7 @@ begins_inside t l (v ∷ w) = inside t v l
 -- on outside l, so a stay under way at the end counts.
 unfoldable pub stays : Routine → ℕ → List ℕ → ℕ
 stays t l [] = 0
-stays t l (v ∷ w) = (if inside t v l && not (begins_inside t l w) then 1 else 0) + stays t l w
+stays t l (v ∷ w) = (when inside t v l && not (begins_inside t l w) then 1 else 0) + stays t l w
 
 -- "the greatest number of header visits in one stay": over all beginnings of w, the greatest number of visits in the stay under way at their
 -- end. The visits of a stay only grow, so they are greatest where it ends.
@@ -34,17 +34,17 @@ columns_rule t stayed visited = record { number = 421; places = 1; broken = λ _
 -- The blocks w that are left, the next of them at index i, after block u: 302, 311, 312 and 314 as for a walk (`walk_from`). "Limits in the
 -- table play no part here", so 313 does not occur.
 unfoldable pub recording_from : Routine → ℕ → ℕ → List ℕ → Reply ℕ → Reply ℕ
-recording_from t u i [] passed = if eqb u (exit t) then passed else refused 314 i
+recording_from t u i [] passed = when eqb u (exit t) then passed else refused 314 i
 recording_from t u i (v ∷ w) passed =
     at_block t i v (
-    if eqb u (exit t) then refused 311 i else
-    if not (edge t u v) then refused 312 i else
+    when eqb u (exit t) then refused 311 i else
+    when not (edge t u v) then refused 312 i else
     recording_from t v (suc i) w passed)
 
 -- the first block, at index 0, and then the others, as for a walk (`walk_blocks`)
 unfoldable pub recording_blocks : Routine → List ℕ → Reply ℕ → Reply ℕ
 recording_blocks t [] passed = passed
-recording_blocks t (v ∷ w) passed = at_block t 0 v (if not (eqb v 0) then refused 303 0 else recording_from t 0 1 w passed)
+recording_blocks t (v ∷ w) passed = at_block t 0 v (when not (eqb v 0) then refused 303 0 else recording_from t 0 1 w passed)
 
 -- "tables and walks are refused as in document 01 except that 208, 209 and 313 never occur; 421, place 0, .. after 207 and before 301", and
 -- "the reply is the walk's step count". `stayed` and `visited` are the lent columns before the call.
@@ -74,7 +74,7 @@ with_limits t limits = with_numbers t t.costs t.figures limits t.multipliers
 
 -- "put in as limits, with 1 in place of 0"
 abbrev pub as_limits : List ℕ → List ℕ
-as_limits gs = map (λ g. if eqb g 0 then 1 else g) gs
+as_limits gs = map (λ g. when eqb g 0 then 1 else g) gs
 
 -- Of the walk w and the column gs that the tally wrote: "When the greatest numbers are at most 65,535 and are put in as limits, with 1 in place
 -- of 0, the same walk is accepted" (with the same cost and steps); "lowering any one that is 2 or more, not below 1, makes it 313."

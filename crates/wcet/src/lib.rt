@@ -1,1 +1,3 @@
+#![tactic(auto)]
+
 // What a routine, its bound, a counted run and a walk are: definitions in specs/, theorems about them in proofs/. It has no code.
