@@ -4,7 +4,7 @@ use mathlib.Core.Logic.{◌≢◌, ◌⊎◌, inl, inr, ⊎_elim}
 use mathlib.Core.Bool.{Bool, true, false, not, cond, ◌&&◌, ◌||◌, false≢true}
 use mathlib.Core.List.{List, [], ◌∷◌, ◌++◌, map, append_assoc, append-nil, Memᴰ}
 use mathlib.Core.Option.{Option, none, some, none-ne-some, some-ne-none}
-use Prim.Native.Nat.{ℕ, zero, suc, ◌-◌, ◌≤◌}
+use Prim.Native.Nat.{ℕ, zero, suc, ◌+◌, ◌-◌, ◌*◌, ◌≤◌}
 use native.Mathlib.Omega.{arith}
 use borrow.Author.Tests.{eqb-true, ne_eqb, leb-true, not-true}
 use lib.Dec.{eqb, leb}
@@ -60,8 +60,8 @@ more_digits n t [] r h = rw append-nil r
 more_digits n t (b ∷ s) r h =
     let q : (is_bit b ≡ true) × (all is_bit s ≡ true) = and-true (is_bit b) (all is_bit s) h in
     by_bit (λ c. Binary (binary n (c ∷ s)) (t ++ c ∷ s)) b
-    (rw append_assoc at (more_digits _ (t ++ 48 ∷ []) s (Binary.next 0 (omega arith) r) q.1))
-    (rw append_assoc at (more_digits _ (t ++ 49 ∷ []) s (Binary.next 1 (omega arith) r) q.1)) q.0
+    (rw append_assoc at (more_digits (n * 2 + 0) (t ++ 48 ∷ []) s (Binary.next 0 (omega arith) r) q.1))
+    (rw append_assoc at (more_digits (n * 2 + 1) (t ++ 49 ∷ []) s (Binary.next 1 (omega arith) r) q.1)) q.0
 
 bits_write : (s : List ℕ) → one_or_more is_state s ≡ true → all is_bit s ≡ true → Binary (binary 0 s) s
 unfolding one_or_more binary all

@@ -11,7 +11,6 @@ use borrow.Author.Tests.{lt-leb, ne_eqb, leb-true}
 use lib.ListN.{length, drop}
 use lib.Dec.{eqb, leb}
 use Rattle.lists.specs.Bytes.{same}
-use Rattle.lists.proofs.Tests.{and-true}
 use Rattle.wcet.specs.Rules.{Reply, accepted, refused}
 use Rattle.vcd.specs.Words.{Word, words}
 use Rattle.vcd.specs.Syntax.{all, one_or_more, is_state, is_bit, is_code, binary, value_of, Due, declaration, variable, text, remark, command, code, Step, on, says, bad, declaration_step, variable_step, passing, taken, code_step, scalar_step, vector_step, time_step, keyword_step, command_by, command_step, step_of, Value, Reading, stopped, after, may_end, reading, reading_of}

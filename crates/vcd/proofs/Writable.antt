@@ -10,7 +10,7 @@ use borrow.Author.Tests.{leb-true, ne_eqb}
 use lib.Dec.{leb}
 use lib.ListN.{length, length-append}
 use Rattle.lists.proofs.Bytes.{apart}
-use Rattle.lists.specs.Search.{if◌then◌else◌}
+use Rattle.lists.specs.Search.{when◌then◌else◌}
 use Rattle.lists.specs.Bytes.{bytes, same}
 use Rattle.lists.proofs.Tests.{and-true, both}
 use Rattle.vcd.specs.Words.{is}
@@ -60,7 +60,7 @@ code_word : (w : List ℕ) → is_code w ≡ true → IsWord w
 unfolding is_code one_or_more
 code_word w h = go w (is w "$end") h
   where
-    go : (w : List ℕ) (x : Bool) → (if x then false else one_or_more is_graphic w) ≡ true → IsWord w
+    go : (w : List ℕ) (x : Bool) → (when x then false else one_or_more is_graphic w) ≡ true → IsWord w
     go w true h = absurd (false≢true h)
     go [] false h = absurd (false≢true h)
     go (b ∷ w) false h = graphic_all (b ∷ w) h

@@ -1,7 +1,7 @@
 -- A text that is written as Writing.antt says reads as the values that were written (`reads`, `reads_back`). Assumes nothing.
-use mathlib.Core.Path.{◌≡◌, refl, sym, ap, ◌∙◌}
+use mathlib.Core.Path.{◌≡◌, refl, ap, ◌∙◌}
 use mathlib.Core.Logic.{◌≢◌, ◌⊎◌, inl, inr, ⊎_elim}
-use mathlib.Core.Bool.{Bool, true, false, not, ◌||◌, false≢true, true≢false}
+use mathlib.Core.Bool.{Bool, true, false, not, ◌||◌, false≢true}
 use mathlib.Core.List.Memᴰ
 use mathlib.Core.List.{List, [], ◌∷◌, ◌++◌, map, append_assoc, Memᴰ}
 use mathlib.Core.Option.{Option, none, some}
@@ -16,7 +16,7 @@ use lib.Seq.{take-append_seam}
 use Rattle.limits.specs.Limits.{most_text_bytes}
 use Rattle.lists.specs.Bytes.{bytes, same}
 use Rattle.lists.proofs.Bytes.{same_refl, same_true, differs}
-use Rattle.lists.proofs.Tests.{and-true, both, either, by_test, or_left, or_right}
+use Rattle.lists.proofs.Tests.{and-true, both, by_test, or_left, or_right}
 use Rattle.wcet.specs.Rules.{accepted, structure_rules}
 use Rattle.wcet.specs.Claim.{AllHold}
 use Rattle.wcet.proofs.Replies.{all_append, append_all, all_pass}

@@ -1,18 +1,18 @@
 -- Document 02, §8: what a recording says, the reply, and the buffer after the call.
-use Rattle.std.specs.Prelude.{ℕ, ◌≤◌, ◌≡◌, Bool, List, [], ◌∷◌, ◌++◌, map, eqb, leb, ltb, length, drop}
+use Rattle.std.specs.Prelude.{ℕ, ◌≤◌, ◌≡◌, List, [], ◌∷◌, ◌++◌, map, eqb, leb, ltb, length, drop}
 use Rattle.std.proofs.Math.Option.{Option, none, some}
 use Rattle.limits.specs.Limits.{most_text_bytes}
-use Rattle.lists.specs.Search.{if◌then◌else◌}
+use Rattle.lists.specs.Search.{when◌then◌else◌}
 use Rattle.wcet.specs.Table.{Routine, block_count, edge}
 use Rattle.wcet.specs.Rules.{Reply, accepted, refused, Rule, check, structure_rules}
-use Rattle.vcd.specs.Syntax.{Value, Reading, reading_of}
+use Rattle.vcd.specs.Syntax.{Value, reading_of}
 
 -- ---- the meaning of a text
 
 -- "A repeated value adds no block": of these values, which come after the value `last`, those that differ from the one before
 unfoldable pub changed : (last : ℕ) → List Value → List Value
 changed last [] = []
-changed last (v ∷ vs) = if eqb v.value last then changed last vs else v ∷ changed v.value vs
+changed last (v ∷ vs) = when eqb v.value last then changed last vs else v ∷ changed v.value vs
 
 -- "The meaning of a file is the list of changed values, the first included, in order of the text."
 unfoldable pub changes : List Value → List Value
@@ -29,7 +29,7 @@ abbrev pub decided : (vs left : List Value) (refusal : Option ℕ) → Reply (Li
 decided vs [] none = accepted (values_in vs)
 decided vs [] (some place) = refused 432 place
 decided vs (v ∷ left) none = refused 433 v.place
-decided vs (v ∷ left) (some place) = if leb place v.place then refused 432 place else refused 433 v.place
+decided vs (v ∷ left) (some place) = when leb place v.place then refused 432 place else refused 433 v.place
 
 -- what the text s says of the vector `named`, with so many places in the buffer
 unfoldable pub recorded : (named : List ℕ) (room : ℕ) → List ℕ → Reply (List ℕ)

@@ -1,8 +1,8 @@
 -- Document 02, §8: "that standard's four-state syntax" (the value change dump of IEEE 1364). What each word of a text may be, by what came before it,
 -- and the values that the text gives the named vector: "The block number is on one vector that the caller names by its identifier code", `named`.
-use Rattle.std.specs.Prelude.{ℕ, suc, ◌-◌, ◌+◌, ◌*◌, Bool, true, false, not, ◌&&◌, ◌||◌, List, [], ◌∷◌, leb, eqb, length}
+use Rattle.std.specs.Prelude.{ℕ, ◌-◌, ◌+◌, ◌*◌, Bool, true, false, not, ◌&&◌, ◌||◌, List, [], ◌∷◌, leb, eqb, length}
 use Rattle.std.proofs.Math.Option.{Option, none, some}
-use Rattle.lists.specs.Search.{if◌then◌else◌}
+use Rattle.lists.specs.Search.{when◌then◌else◌}
 use Rattle.lists.specs.Bytes.{same}
 use Rattle.vcd.specs.Words.{Word, words, is}
 
@@ -24,7 +24,7 @@ is_graphic b = leb 33 b && leb b 126
 
 -- "A code is one or more of bytes 33 to 126 and never $end."
 unfoldable pub is_code : List ℕ → Bool
-is_code w = if is w "$end" then false else one_or_more is_graphic w
+is_code w = when is w "$end" then false else one_or_more is_graphic w
 
 -- "each 0, 1, x or z in either case"
 abbrev pub is_state : ℕ → Bool
@@ -45,7 +45,7 @@ binary n (b ∷ s) = binary (n * 2 + (b - 48)) s
 
 -- The value that the digits s give the named vector. None where its change is refused: "with an x or z digit or over 65,534".
 unfoldable pub value_of : List ℕ → Option ℕ
-value_of s = if all is_bit s && leb (binary 0 s) 65534 then some (binary 0 s) else none
+value_of s = when all is_bit s && leb (binary 0 s) 65534 then some (binary 0 s) else none
 
 -- ---- what a word does
 
@@ -75,22 +75,22 @@ is_declaration w = is w "$comment" || (is w "$date" || (is w "$scope" || (is w "
 -- 432: "$enddefinitions with that vector undeclared".
 unfoldable pub declaration_step : (declared : Bool) (at : ℕ) → List ℕ → Step
 declaration_step declared at w =
-    if is w "$var" then on (variable 2 declared) else
-    if is w "$enddefinitions" then (if declared then on remark else bad at) else
-    if is_declaration w then on (text declared) else
+    when is w "$var" then on (variable 2 declared) else
+    when is w "$enddefinitions" then (when declared then on remark else bad at) else
+    when is_declaration w then on (text declared) else
     bad at
 
 -- "the code is the third word after $var, and a $end among those three is not allowed". The vector of the code `named` is declared here or was before.
 unfoldable pub variable_step : (named : List ℕ) (before : ℕ) (declared : Bool) (at : ℕ) → List ℕ → Step
 variable_step named before declared at w =
-    if eqb before 0 then (if is_code w then on (text (declared || same w named)) else bad at) else
-    if is w "$end" then bad at else
+    when eqb before 0 then (when is_code w then on (text (declared || same w named)) else bad at) else
+    when is w "$end" then bad at else
     on (variable (before - 1) declared)
 
 -- "Of a declaration only its keyword, its $end and the code in $var count"; "Comments .. are passed over". `here` until $end, and then `next`. Words
 -- between $enddefinitions and its $end are passed over too (docs/DECISIONS.md).
 unfoldable pub passing : (here next : Due) → List ℕ → Step
-passing here next w = if is w "$end" then on next else on here
+passing here next w = when is w "$end" then on next else on here
 
 -- a change of the named vector to a value that it may take, or to none: "place the first byte .. for a refused change, of the word that holds its value"
 abbrev pub taken : Option ℕ → (place : ℕ) (dump : Bool) → Step
@@ -100,20 +100,20 @@ taken none place dump = bad place
 -- The code of a change whose value came in the word before. "changes of other codes are passed over".
 unfoldable pub code_step : (named : List ℕ) → Option ℕ → (place : ℕ) (dump : Bool) (at : ℕ) → List ℕ → Step
 code_step named value place dump at w =
-    if is_code w then (if same w named then taken value place dump else on (command dump)) else
+    when is_code w then (when same w named then taken value place dump else on (command dump)) else
     bad at
 
 -- A scalar change, as in IEEE 1364: its code s comes right after its digit, in one word. 432: "a change of the named vector not in b or B form".
 unfoldable pub scalar_step : (named : List ℕ) (dump : Bool) (at : ℕ) → List ℕ → Step
-scalar_step named dump at s = if is_code s && not (same s named) then on (command dump) else bad at
+scalar_step named dump at s = when is_code s && not (same s named) then on (command dump) else bad at
 
 -- "One or more digits follow b or B, each 0, 1, x or z in either case": the digits s
 unfoldable pub vector_step : (dump : Bool) (at : ℕ) → List ℕ → Step
-vector_step dump at s = if one_or_more is_state s then on (code (value_of s) at dump) else bad at
+vector_step dump at s = when one_or_more is_state s then on (code (value_of s) at dump) else bad at
 
 -- "# takes one or more of 0 to 9", "times are not compared": the digits s. Within a dump "only changes may stand between".
 unfoldable pub time_step : (dump : Bool) (at : ℕ) → List ℕ → Step
-time_step dump at s = if not dump && one_or_more is_decimal s then on (command false) else bad at
+time_step dump at s = when not dump && one_or_more is_decimal s then on (command false) else bad at
 
 -- the four dump keywords of IEEE 1364
 unfoldable pub is_dump : List ℕ → Bool
@@ -122,20 +122,20 @@ is_dump w = is w "$dumpvars" || (is w "$dumpall" || (is w "$dumpoff" || is w "$d
 -- "A dump keyword and its $end are passed over; only changes may stand between, and they count." Of the declarations "only $comment may come later too".
 unfoldable pub keyword_step : (dump : Bool) (at : ℕ) → List ℕ → Step
 keyword_step dump at w =
-    if dump then (if is w "$end" then on (command false) else bad at) else
-    if is_dump w then on (command true) else
-    if is w "$comment" then on remark else
+    when dump then (when is w "$end" then on (command false) else bad at) else
+    when is_dump w then on (command true) else
+    when is w "$comment" then on remark else
     bad at
 
 -- The word w after the declarations, by its first byte b; s is what comes after that byte. A scalar change begins with its digit; "any bytes or none
 -- may follow r or R", whose change is "not in b or B form".
 unfoldable pub command_by : (named : List ℕ) (dump : Bool) (at : ℕ) (w : List ℕ) (b : ℕ) (s : List ℕ) → Step
 command_by named dump at w b s =
-    if eqb b 98 || eqb b 66 then vector_step dump at s else
-    if eqb b 35 then time_step dump at s else
-    if is_state b then scalar_step named dump at s else
-    if eqb b 36 then keyword_step dump at w else
-    if eqb b 114 || eqb b 82 then on (code none at dump) else
+    when eqb b 98 || eqb b 66 then vector_step dump at s else
+    when eqb b 35 then time_step dump at s else
+    when is_state b then scalar_step named dump at s else
+    when eqb b 36 then keyword_step dump at w else
+    when eqb b 114 || eqb b 82 then on (code none at dump) else
     bad at
 
 abbrev pub command_step : (named : List ℕ) (dump : Bool) (at : ℕ) → List ℕ → Step
@@ -189,7 +189,7 @@ may_end (code value place dump) = false
 
 -- "or the text's length if it ends too soon"
 abbrev pub ending : (length : ℕ) → Due → Reading
-ending length due = if may_end due then record { values = []; refusal = none } else stopped length
+ending length due = when may_end due then record { values = []; refusal = none } else stopped length
 
 -- the words that are left of a text of this length
 unfoldable pub reading : (named : List ℕ) (length : ℕ) → Due → List Word → Reading
