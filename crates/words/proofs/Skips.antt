@@ -1,12 +1,12 @@
 -- A text that is passed over up to its $end. Assumes nothing.
-use mathlib.Core.Path.{◌≡◌, refl, ap, ◌∙◌}
+use mathlib.Core.Path.{◌≡◌, refl, ◌∙◌}
 use mathlib.Core.Bool.{Bool, true, false, cond}
 use mathlib.Core.List.{List, [], ◌∷◌}
 use mathlib.Core.Option.{Option, none, some}
 use Prim.Native.Nat.{ℕ, ◌<◌, ◌≤◌}
 use lib.ListN.{length}
 use Rattle.vcd.specs.Words.{Word, is}
-use Rattle.vcd.specs.Syntax.{Due, on, passing, step_of, after, may_end, Reading, stopped, reading}
+use Rattle.vcd.specs.Syntax.{Due, passing, step_of, after, may_end, Reading, stopped, reading}
 use Rattle.words.specs.Places.{words_from, after_end, TextEnds, ended, missing}
 use Rattle.words.specs.declared.AfterEnd.{AfterEnd}
 use Rattle.words.specs.declared.AfterEnd.TheVariants.{To, Missing}

@@ -1,4 +1,6 @@
 // The words of a recording's text (document 02, §8): where the next one begins, where it ends, and whether it is all of one class of bytes.
+#![tactic(auto)]
+
 ghost use Rattle.std.specs.Prelude.{◌≡◌, ◌+◌, drop};
 ghost use Rattle.lists.specs.Bytes.{same};
 ghost use Rattle.vcd.specs.Words.{parting, size};
@@ -13,7 +15,7 @@ pub struct Reader<'a> {
 }
 
 // Where a word begins, and its first byte; or the text has no more words.
-#[derive(Drop)]
+#[derive(Clone, Copy)]
 pub enum Start {
     Word(usize, u8),
     Nothing,
@@ -114,7 +116,7 @@ pub fn same_bytes(a: &[u8], b: &[u8]) -> bool
 }
 
 // The bytes of codes, of a vector's digits, and of times.
-#[derive(Drop)]
+#[derive(Clone, Copy)]
 pub enum Class {
     Graphic,
     State,
@@ -184,7 +186,7 @@ pub fn word_in(class: Class, text: &[u8], at: usize) -> usize
 }
 
 // The place after the next $end, or the text has none.
-#[derive(Drop)]
+#[derive(Clone, Copy)]
 pub enum AfterEnd {
     To(usize),
     Missing,
