@@ -1,17 +1,16 @@
 -- Each kind of command, by what was found at its places. Assumes nothing.
 use mathlib.Core.Path.{◌≡◌, refl, sym, ap, ◌∙◌}
-use mathlib.Core.Bool.{Bool, true, false, cond, not, ◌&&◌, ◌||◌}
-use mathlib.Core.List.{List, [], ◌∷◌}
-use mathlib.Core.Option.{Option, none, some}
+use mathlib.Core.Bool.{Bool, true, false, cond, ◌||◌}
+use mathlib.Core.List.{List, ◌∷◌}
+use mathlib.Core.Option.{none, some}
 use Prim.Native.Nat.{ℕ, suc, ◌+◌, ◌-◌, ◌<◌, ◌≤◌}
-use native.Mathlib.Numerals.{add-one}
 use native.Mathlib.Omega.{arith}
-use borrow.Author.Tests.{eq-eqb, ne_eqb, eqb-true, eqb-false}
+use borrow.Author.Tests.{eq-eqb, ne_eqb}
 use lib.ListN.{length, take, drop, get_or, length-drop}
 use lib.Dec.{eqb}
 use Rattle.lists.specs.Bytes.{bytes, same}
-use Rattle.vcd.specs.Words.{parting, size, word_of}
-use Rattle.vcd.specs.Syntax.{one_or_more, is_state, is_decimal, is_code, value_of, is_dump, Due, remark, command, code, Step, on, bad, taken, code_step, scalar_step, vector_step, time_step, keyword_step, command_by, step_of, after, Reading, reading}
+use Rattle.vcd.specs.Words.{size, word_of}
+use Rattle.vcd.specs.Syntax.{one_or_more, is_state, value_of, is_dump, remark, command, code, Step, on, bad, taken, code_step, scalar_step, vector_step, time_step, keyword_step, command_by, step_of, after, reading}
 use Rattle.vcd.proofs.Words.{word_byte, size_byte, size_within}
 use Rattle.words.specs.Places.{next_start, in_class, word_in, TextEnds}
 use Rattle.words.specs.declared.Class.TheVariants.{Decimal}

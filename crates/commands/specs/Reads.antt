@@ -1,8 +1,8 @@
 -- What the functions on a text and a place answer: of a command, what the rest of the reading is. No reply rests on these definitions: the reader above is
 -- promised by `vcd`.
-use Rattle.std.specs.Prelude.{ℕ, suc, ◌+◌, ◌≤◌, ◌<◌, ◌≡◌, Bool, true, false, ◌&&◌, List, [], ◌∷◌, eqb, leb, ltb, length, drop, get_or}
+use Rattle.std.specs.Prelude.{ℕ, ◌+◌, ◌≤◌, ◌<◌, ◌≡◌, Bool, false, ◌&&◌, List, [], eqb, leb, ltb, length, drop, get_or}
 use Rattle.std.proofs.Math.Option.{Option, none, some}
-use Rattle.lists.specs.Search.{if◌then◌else◌}
+use Rattle.lists.specs.Search.{when◌then◌else◌}
 use Rattle.lists.specs.Bytes.{same}
 use Rattle.vcd.specs.Words.{size, word_of}
 use Rattle.vcd.specs.Syntax.{all, one_or_more, is_state, is_bit, is_code, binary, value_of, Due, remark, command, code, Step, on, vector_step, time_step, scalar_step, keyword_step, Reading, stopped, more, after, reading}
@@ -18,7 +18,7 @@ use Rattle.commands.specs.declared.Command.TheVariants.{Passed, Value, Bad, Ende
 -- ---- digits and codes
 
 abbrev pub cap : ℕ → ℕ
-cap n = if ltb 65535 n then 65535 else n
+cap n = when ltb 65535 n then 65535 else n
 
 -- 65,535 stands for a value that the named vector may not take
 abbrev pub fitted : Option ℕ → ℕ
@@ -26,11 +26,11 @@ fitted (some v) = v
 fitted none = 65535
 
 abbrev pub offered : ℕ → Option ℕ
-offered v = if eqb v 65535 then none else some v
+offered v = when eqb v 65535 then none else some v
 
 -- the value of the bits w after those that wrote n
 abbrev pub value_from : ℕ → List ℕ → ℕ
-value_from n w = if all is_bit w && leb (binary n w) 65534 then binary n w else 65535
+value_from n w = when all is_bit w && leb (binary n w) 65534 then binary n w else 65535
 
 -- bits of a word, and what the rest of the word makes of their number
 pub record BitsRead (s : List ℕ) (at : ℕ) (r : Bits) : Type 0 where
@@ -45,17 +45,17 @@ after_word s at = at + size (drop at s)
 
 -- digits that are not all bits; bits, if there are any
 unfoldable pub states_at : List ℕ → ℕ → Digits
-states_at s at = if one_or_more is_state (word_of (drop at s)) then Value16 65535 (after_word s at) else NoDigits
+states_at s at = when one_or_more is_state (word_of (drop at s)) then Value16 65535 (after_word s at) else NoDigits
 
 abbrev pub bits_by : ℕ → Bits → Digits
-bits_by at r = if eqb r.to at then NoDigits else Value16 r.value r.to
+bits_by at r = when eqb r.to at then NoDigits else Value16 r.value r.to
 
 unfoldable pub digits_at : List ℕ → ℕ → Digits
-digits_at s at = if one_or_more is_state (word_of (drop at s)) then Value16 (fitted (value_of (word_of (drop at s)))) (after_word s at) else NoDigits
+digits_at s at = when one_or_more is_state (word_of (drop at s)) then Value16 (fitted (value_of (word_of (drop at s)))) (after_word s at) else NoDigits
 
 unfoldable pub code_at : (named s : List ℕ) → ℕ → Code
 code_at named s at =
-    if is_code (word_of (drop at s)) then (if same (word_of (drop at s)) named then Named (after_word s at) else Other (after_word s at)) else
+    when is_code (word_of (drop at s)) then (when same (word_of (drop at s)) named then Named (after_word s at) else Other (after_word s at)) else
     NoCode
 
 -- ---- commands
@@ -87,7 +87,7 @@ pub record Follows (named s : List ℕ) (dump : Bool) (low : ℕ) (x : Reading) 
   pub moves : Moves s low r
 
 abbrev pub taken_by : (value place to : ℕ) → Command
-taken_by value place to = if eqb value 65535 then Bad place else Value value place to
+taken_by value place to = when eqb value 65535 then Bad place else Value value place to
 
 abbrev pub ChangeRead : (named s : List ℕ) (at : ℕ) (dump : Bool) (value place : ℕ) → Command → Type 0
 ChangeRead named s at dump value place = Follows named s dump at (reading_from named s (code (offered value) place dump) at)
@@ -112,7 +112,7 @@ abbrev pub KeywordRead : (s : List ℕ) (from : ℕ) (dump : Bool) → Command �
 KeywordRead s from dump r = (named : List ℕ) → Follows named s dump from (reading_by named s (after_word s from) (keyword_step dump from (word_of (drop from s)))) r
 
 abbrev pub end_by : (dump : Bool) (length : ℕ) → Command
-end_by dump length = if dump then Bad length else Ended
+end_by dump length = when dump then Bad length else Ended
 
 abbrev pub CommandRead : (named s : List ℕ) (at : ℕ) (dump : Bool) → Command → Type 0
 CommandRead named s at dump = Follows named s dump at (reading_from named s (command dump) at)

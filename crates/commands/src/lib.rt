@@ -1,4 +1,6 @@
 // One command after the declarations of a recording (document 02, §8), read where it stands: a change, a time, a dump keyword or a comment.
+#![tactic(auto)]
+
 ghost use Rattle.std.specs.Prelude.{◌≡◌, ◌||◌, ◌≤◌, ◌<◌, eqb, length, drop};
 ghost use Rattle.vcd.specs.Words.{size};
 ghost use Rattle.vcd.specs.Syntax.{is_dump};
@@ -7,21 +9,21 @@ ghost use Rattle.commands.specs.Reads.{cap, BitsRead, states_at, bits_by, digits
 use words::{AfterEnd, Class, Start};
 
 // Bits at a place: the number that they write, at most 65,535, and where they end.
-#[derive(Drop)]
+#[derive(Clone, Copy)]
 pub struct Bits {
     pub value: u32,
     pub to: usize,
 }
 
 // The digits of a vector's change: the value, 65,535 where the named vector may not take it, and the place after them.
-#[derive(Drop)]
+#[derive(Clone, Copy)]
 pub enum Digits {
     Value(u16, usize),
     Bad,
 }
 
 // A code, the named one or another, and the place after it.
-#[derive(Drop)]
+#[derive(Clone, Copy)]
 pub enum Code {
     Named(usize),
     Other(usize),
@@ -30,7 +32,7 @@ pub enum Code {
 
 // A command: the place after it, and whether a dump goes on there; a change of the named vector, with its value, the place of the word that holds it and
 // the place after it; a refusal, 432 at a place; or the text has no more.
-#[derive(Drop)]
+#[derive(Clone, Copy)]
 pub enum Command {
     Passed(usize, bool),
     Value(u16, usize, usize),
