@@ -1,14 +1,13 @@
 -- The parts of the declarations, by what was found at their places. Assumes nothing.
-use mathlib.Core.Path.{◌≡◌, refl, sym, ap, ◌∙◌}
+use mathlib.Core.Path.{◌≡◌, refl, sym, ◌∙◌}
 use mathlib.Core.Bool.{Bool, true, false, cond, ◌||◌}
-use mathlib.Core.List.{List, [], ◌∷◌}
-use Prim.Native.Nat.{ℕ, suc, ◌+◌, ◌-◌, ◌<◌, ◌≤◌}
+use mathlib.Core.List.{List}
+use Prim.Native.Nat.{ℕ, ◌+◌, ◌-◌, ◌<◌, ◌≤◌}
 use native.Mathlib.Omega.{arith}
 use lib.ListN.{length, take, drop}
-use lib.Dec.{eqb}
 use Rattle.lists.specs.Bytes.{bytes, same}
-use Rattle.vcd.specs.Words.{size, word_of, words}
-use Rattle.vcd.specs.Syntax.{is_code, is_declaration, Due, declaration, variable, text, remark, command, Step, on, bad, declaration_step, variable_step, step_of, after, Reading, stopped, reading, reading_of}
+use Rattle.vcd.specs.Words.{size}
+use Rattle.vcd.specs.Syntax.{is_declaration, declaration, text, remark, command, on, bad, declaration_step, variable_step, after, Reading, stopped, reading, reading_of}
 use Rattle.words.specs.Places.{next_start, TextEnds}
 use Rattle.words.specs.declared.Start.{Start}
 use Rattle.words.specs.declared.Start.TheVariants.{Word as WordAt, Nothing}
@@ -20,7 +19,7 @@ use Rattle.commands.specs.Reads.{reading_from, code_at}
 use Rattle.commands.specs.declared.Code.{Code as CodeAnswer}
 use Rattle.commands.specs.declared.Code.TheVariants.{Named, Other, Bad as NoCode}
 use Rattle.commands.proofs.Values.{Coded, not_coded, coded_named, coded_other}
-use Rattle.declarations.specs.Reads.{Within, after_plain, PlainMoves, WordRead, after_code, CodeMoves, VariableFrom, CodeRead, VariableRead, follows, Moves, Follows, TextRead, VariableEnds, DefinitionsEnd, DeclarationRead, body_reading, BodyRead}
+use Rattle.declarations.specs.Reads.{Within, WordRead, CodeMoves, CodeRead, VariableRead, Moves, Follows, TextRead, VariableEnds, DefinitionsEnd, DeclarationRead, BodyRead}
 use Rattle.declarations.specs.declared.Body.TheVariants.{At, Bad as BadBody}
 use Rattle.declarations.specs.declared.Plain.{Plain}
 use Rattle.declarations.specs.declared.Plain.TheVariants.{To, Bad as BadWord}

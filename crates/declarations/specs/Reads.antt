@@ -1,7 +1,7 @@
 -- What the functions on a text and a place answer: of a declaration, what the rest of the reading is. No reply rests on these definitions: the reader above
 -- is promised by `vcd`.
-use Rattle.std.specs.Prelude.{ℕ, ◌-◌, ◌≤◌, ◌<◌, ◌≡◌, Bool, true, false, ◌||◌, List, eqb, length}
-use Rattle.lists.specs.Search.{if◌then◌else◌}
+use Rattle.std.specs.Prelude.{ℕ, ◌-◌, ◌≤◌, ◌<◌, ◌≡◌, Bool, false, ◌||◌, List, eqb, length}
+use Rattle.lists.specs.Search.{when◌then◌else◌}
 use Rattle.vcd.specs.Syntax.{Due, declaration, variable, text, remark, command, Reading, stopped, reading_of}
 use Rattle.commands.specs.Reads.{reading_from}
 use Rattle.declarations.specs.declared.Body.{Body}
@@ -74,7 +74,7 @@ abbrev pub VariableEnds : (named s : List ℕ) (at : ℕ) (declared : Bool) → 
 VariableEnds named s at declared = Follows named s at (reading_from named s (variable 2 declared) at)
 
 abbrev pub DefinitionsEnd : (s : List ℕ) (from at : ℕ) (declared : Bool) → Declaration → Type 0
-DefinitionsEnd s from at declared r = (named : List ℕ) → Follows named s at (if declared then reading_from named s remark at else stopped from) r
+DefinitionsEnd s from at declared r = (named : List ℕ) → Follows named s at (when declared then reading_from named s remark at else stopped from) r
 
 abbrev pub DeclarationRead : (named s : List ℕ) (at : ℕ) (declared : Bool) → Declaration → Type 0
 DeclarationRead named s at declared = Follows named s at (reading_from named s (declaration declared) at)

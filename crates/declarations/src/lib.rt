@@ -1,4 +1,6 @@
 // The declarations of a recording (document 02, §8), up to the place where its commands begin.
+#![tactic(auto)]
+
 ghost use Rattle.std.specs.Prelude.{◌≡◌, ◌||◌};
 ghost use Rattle.vcd.specs.Syntax.{is_declaration};
 ghost use Rattle.declarations.specs.Reads.{WordRead, CodeRead, VariableRead, TextRead, VariableEnds, DefinitionsEnd, DeclarationRead, BodyRead};
@@ -7,28 +9,28 @@ use commands::Code;
 use words::{AfterEnd, Start};
 
 // The place where the commands begin, or a refusal, 432 at a place.
-#[derive(Drop)]
+#[derive(Clone, Copy)]
 pub enum Body {
     At(usize),
     Bad(usize),
 }
 
 // The place after a word, or a refusal.
-#[derive(Drop)]
+#[derive(Clone, Copy)]
 pub enum Plain {
     To(usize),
     Bad(usize),
 }
 
 // The place after the code of $var, and whether it is the named one; or a refusal.
-#[derive(Drop)]
+#[derive(Clone, Copy)]
 pub enum Variable {
     Code(usize, bool),
     Bad(usize),
 }
 
 // A declaration: the place after it, and whether the named vector is declared by then; the place after $enddefinitions; or a refusal.
-#[derive(Drop)]
+#[derive(Clone, Copy)]
 pub enum Declaration {
     On(usize, bool),
     Body(usize),
