@@ -1,5 +1,6 @@
 // What the second checker, its reader of dumps and the cases are written with: replies, elements of columns as numbers of one width, parts of texts,
 // digits, and bytes put into a buffer. An index with no element reads 0, and writing there does nothing.
+#![tactic(auto)]
 
 // The rows that are read from a text: 7 numbers for each of 1,026 rows.
 pub type RowCells = [usize; 7182];
@@ -14,7 +15,7 @@ pub const MISSING: usize = 65535;
 pub const ZERO: usize = 4611686018427387904;
 
 // A reply, with the fields of the library's: number 0 where it accepts.
-#[derive(Drop)]
+#[derive(Clone, Copy)]
 pub struct Verdict {
     pub number: u32,
     pub place: u32,
@@ -210,7 +211,7 @@ pub fn row_cell(rows: &RowCells, row: usize, c: usize) -> usize {
     rows[row * 7 + c]
 }
 
-#[derive(Drop)]
+#[derive(Clone, Copy)]
 pub struct Digits {
     pub size: usize,
     pub bad: bool,
