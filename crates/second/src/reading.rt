@@ -20,7 +20,7 @@ const LF: u64 = 1;
 
 const TEXT_END: u64 = 2;
 
-#[derive(Drop)]
+#[derive(Clone, Copy)]
 struct Reading {
     state: u8,
     // the number of the refusal, 0 while there is none
@@ -41,7 +41,7 @@ struct Reading {
 }
 
 // A field's number, and whether its column cannot hold it.
-#[derive(Drop)]
+#[derive(Clone, Copy)]
 struct Cell {
     size: usize,
     negative: bool,

@@ -7,7 +7,7 @@ use pieces::{Verdict, accepted, impossible, plus, put_u32, refused, signed, to_u
 
 // What a beginning of the walk shows of one loop: whether its last block is inside, the stays so far, the header's visits in the last one if that is
 // not over, and the most visits of a stay.
-#[derive(Drop)]
+#[derive(Clone, Copy)]
 struct Seen {
     within: bool,
     stays: usize,

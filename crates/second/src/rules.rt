@@ -120,7 +120,7 @@ fn weight(multiplier: usize, visits: usize) -> usize {
 }
 
 // The two sides of an edge's inequality, the cost on the left and D on the right, with the figure of v added to both.
-#[derive(Drop)]
+#[derive(Clone, Copy)]
 struct Sides {
     left: usize,
     right: usize,
