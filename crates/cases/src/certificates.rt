@@ -39,7 +39,7 @@ fn make_lists(line: &[u8], text: &mut [u8]) -> usize {
 }
 
 // How many numbers the columns of a second certificate have.
-#[derive(Drop)]
+#[derive(Clone, Copy)]
 pub struct Lengths {
     pub figures: usize,
     pub multipliers: usize,

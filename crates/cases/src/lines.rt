@@ -3,7 +3,7 @@ use crate::parts::NONE;
 use pieces::{Digits, part, plus, with_digit};
 
 // Where field k of a text is, and how many marks, bars or commas, were met.
-#[derive(Drop)]
+#[derive(Clone, Copy)]
 struct Span {
     marks: usize,
     from: usize,

@@ -174,7 +174,7 @@ const COUNT: u8 = 2;
 
 const STAR: u8 = 3;
 
-#[derive(Drop)]
+#[derive(Clone, Copy)]
 struct Maker {
     state: u8,
     count: usize,
@@ -284,7 +284,7 @@ pub fn make_text(written: &[u8], of_blocks: bool, text: &mut [u8]) -> usize {
     s.at
 }
 
-#[derive(Drop)]
+#[derive(Clone, Copy)]
 struct Steps {
     count: usize,
     value: usize,
@@ -353,7 +353,7 @@ pub fn make_long(line: &[u8], steps: &mut [u16]) -> usize {
 
 // A pair of tables by its size: n blocks in m loops, of which block k is the header of loop k. Of a program all costs and limits are the greatest
 // and both edges of a block go to the same one; where there is a target, that block is the header of the last loop and the end of all edges.
-#[derive(Drop)]
+#[derive(Clone, Copy)]
 struct Made {
     of_program: bool,
     n: usize,

@@ -1,15 +1,17 @@
 // What the cases gave: a line for each, and how many were wrong.
-use libc::STDOUT_FILENO;
 use pieces::{Verdict, from_u32, from_u64, part, push, push_number, push_signed, same};
 
-#[derive(Drop)]
+// The descriptor of standard output.
+const STANDARD_OUTPUT: i32 = 1;
+
+#[derive(Clone, Copy)]
 pub struct Tally {
     pub cases: u64,
     pub wrong: u64,
 }
 
 // Both replies to a case, whether they are a reader's, and whether the columns or the buffer are as they should be.
-#[derive(Drop)]
+#[derive(Clone, Copy)]
 pub struct Answers {
     pub got: Verdict,
     pub checked: Verdict,
@@ -68,11 +70,11 @@ fn push_steps(out: &mut [u8], at: usize, count: u64) -> usize {
 }
 
 pub fn say(words: &[u8]) {
-    io::write_all(STDOUT_FILENO, words);
+    io::write_all(STANDARD_OUTPUT, words);
 }
 
 pub fn say_number(n: u64) {
-    io::print_decimal(STDOUT_FILENO, n);
+    io::print_decimal(STANDARD_OUTPUT, n);
 }
 
 fn say_reply(r: Verdict, of_text: bool) {
