@@ -1,6 +1,8 @@
 // A reader of recordings, value change dumps (VCD, IEEE 1364), written from document 02 apart from the library: one declaration, one comment, one dump
 // and one change at a time, each word sought from an index on. Where no word is left, the empty one at the text's end is a word that the syntax does
 // not allow, and its place is the text's length.
+#![tactic(auto)]
+
 use check::same;
 use pieces::{Verdict, accepted, part, plus, put_u16, refused, signed, to_u16};
 
@@ -168,7 +170,7 @@ fn block_of(value: &[u8]) -> usize {
     number_of(later(value))
 }
 
-#[derive(Drop)]
+#[derive(Clone, Copy)]
 struct Reading {
     // the byte behind the last word that was read
     at: usize,
