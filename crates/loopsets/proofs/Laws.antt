@@ -10,7 +10,7 @@ use borrow.Author.Tests.{lt-ltb, le-ltb, ltb-true, ltb-false}
 use lib.ListN.{length, get_or, set, replicate, length-set, get_or-replicate}
 use lib.Seq.{get_or-set_same, get_or-set_other}
 use Rattle.limits.specs.Limits.{most_loops}
-use Rattle.lists.specs.Search.{if◌then◌else◌}
+use Rattle.lists.specs.Search.{when◌then◌else◌}
 use Rattle.lists.proofs.Search.{tabulate-at, tabulated}
 use Rattle.bits.specs.Digits.{has, set_of}
 use Rattle.bits.proofs.Laws.{has_pow, has_set, set_is}
@@ -27,12 +27,12 @@ word parents l = set_of most_loops (around parents (length parents) l)
 -- the sets of the loops below i are filled, and the others empty
 pub record Filled (parents sets : List ℕ) (i : ℕ) : Type 0 where
   pub size : length sets ≡ most_loops
-  pub each : (l : ℕ) → l < most_loops → get_or sets l 0 ≡ (if ltb l i then word parents l else 0)
+  pub each : (l : ℕ) → l < most_loops → get_or sets l 0 ≡ (when ltb l i then word parents l else 0)
 
 pub filled_first : (parents : List ℕ) → Parents parents → Filled parents (set (replicate most_loops 0) 0 1) 1
 filled_first parents P = record { size = refl; each = at }
   where
-    at : (l : ℕ) → l < most_loops → get_or (set (replicate most_loops 0) 0 1) l 0 ≡ (if ltb l 1 then word parents l else 0)
+    at : (l : ℕ) → l < most_loops → get_or (set (replicate most_loops 0) 0 1) l 0 ≡ (when ltb l 1 then word parents l else 0)
     at zero h = set_is most_loops 1 (around parents (length parents) 0) (omega arith) (λ k b. has_pow 0 k ∙ sym (around_0 parents P.root (length parents) k))
     at (suc l) h = rw (le-ltb (suc l) 1 (omega arith)) (get_or-replicate (most_loops - 1) l 0 0 (omega arith))
 
@@ -59,9 +59,9 @@ filled_next parents sets P l low high few F s fits e = record { size = length-se
         ∙ ap (λ (x : Bool). eqb l k || x) (ap (λ (x : ℕ). has x k) parent_word ∙ has_set most_loops (around parents (length parents) p) k b)
         ∙ sym (around_parent parents P.root P.below l k (omega arith) high))
 
-    at : (j : ℕ) → j < most_loops → Dec (j ≡ l) → get_or (set sets l s.word) j 0 ≡ (if ltb j (l + 1) then word parents j else 0)
+    at : (j : ℕ) → j < most_loops → Dec (j ≡ l) → get_or (set sets l s.word) j 0 ≡ (when ltb j (l + 1) then word parents j else 0)
     at j h (yes q) = rw (q, get_or-set_same sets l s.word 0 (omega (arith, F.size)), lt-ltb l (l + 1) (omega arith)) own
-    at j h (no ne) = get_or-set_other sets l j s.word 0 ne ∙ F.each j h ∙ ap (λ (b : Bool). if b then word parents j else 0) (same (ltb j l) refl)
+    at j h (no ne) = get_or-set_other sets l j s.word 0 ne ∙ F.each j h ∙ ap (λ (b : Bool). when b then word parents j else 0) (same (ltb j l) refl)
       where
         same : (b : Bool) → ltb j l ≡ b → ltb j l ≡ ltb j (l + 1)
         same true q = q ∙ sym (lt-ltb j (l + 1) (omega (arith, ltb-true j l q)))
@@ -77,5 +77,5 @@ pub member_around : (parents sets : List ℕ) → sets ≡ sets_around parents �
 unfolding member set_at sets_around
 member_around parents sets e few l k b h =
     ap (λ (x : ℕ). has x k)
-    (ap (λ (s : List ℕ). get_or s l 0) e ∙ tabulate-at most_loops (λ j. if ltb j (length parents) then word parents j else 0) 0 l (omega arith) ∙ rw (lt-ltb l (length parents) b))
+    (ap (λ (s : List ℕ). get_or s l 0) e ∙ tabulate-at most_loops (λ j. when ltb j (length parents) then word parents j else 0) 0 l (omega arith) ∙ rw (lt-ltb l (length parents) b))
     ∙ has_set most_loops (around parents (length parents) l) k h

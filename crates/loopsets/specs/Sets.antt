@@ -1,7 +1,7 @@
 -- What a set of loops holds, and the sets of the loops around each loop.
 use Rattle.std.specs.Prelude.{ℕ, ◌≤◌, ◌<◌, ◌≡◌, Bool, true, false, List, ltb, length, get_or, replicate}
 use Rattle.limits.specs.Limits.{most_loops}
-use Rattle.lists.specs.Search.{if◌then◌else◌, tabulate}
+use Rattle.lists.specs.Search.{when◌then◌else◌, tabulate}
 use Rattle.bits.specs.Digits.{has, set_of}
 use Rattle.wcet.specs.Table.{around}
 use Rattle.loopsets.specs.declared.LoopSet.{LoopSet}
@@ -28,7 +28,7 @@ pub record Parents (parents : List ℕ) : Type 0 where
 -- Document 01: "The loops around a block fit one 64-bit set". The word of each loop's set: the loops around it, and none where the parent
 -- column has no loop l.
 unfoldable pub sets_around : List ℕ → List ℕ
-sets_around parents = tabulate most_loops (λ l. if ltb l (length parents) then set_of most_loops (around parents (length parents) l) else 0)
+sets_around parents = tabulate most_loops (λ l. when ltb l (length parents) then set_of most_loops (around parents (length parents) l) else 0)
 
 -- every set is empty
 abbrev pub no_sets : List ℕ

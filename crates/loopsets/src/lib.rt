@@ -1,6 +1,8 @@
 // The loops around each loop, one set for each, and what is read off the sets: membership by shift and mask, the loops of one set that are
 // not in another by and-not, how many there are by a count of ones, the lowest by a count of trailing zeros. A set is one word here, and no
 // other layer knows that.
+#![tactic(auto)]
+
 ghost use Rattle.std.specs.Prelude.{◌≡◌, not, ◌&&◌, ◌||◌, ℕ, ◌≤◌, ◌<◌, eqb, length};
 ghost use Rattle.limits.specs.Limits.{most_loops};
 ghost use Rattle.lists.specs.Search.{count_below};
@@ -12,7 +14,7 @@ use limits::MOST_LOOPS;
 pub type Sets = [u64; MOST_LOOPS];
 
 // A set of loops.
-#[derive(Drop)]
+#[derive(Clone, Copy)]
 pub struct LoopSet {
     pub word: u64,
 }
