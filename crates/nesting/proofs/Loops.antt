@@ -5,7 +5,7 @@ use Prim.Native.Nat.{ℕ, zero, suc, ◌^◌}
 use native.Mathlib.Omega.{arith}
 use lib.Dec.{eqb, ltb}
 use borrow.Author.Tests.{ne_eqb}
-use Rattle.lists.specs.Search.{if◌then◌else◌}
+use Rattle.lists.specs.Search.{when◌then◌else◌}
 use Rattle.wcet.specs.Table.{Routine, block_count, parent, header, limit, multiplier}
 use Rattle.wcet.specs.Rules.{out_of_range, loop_wrong}
 
@@ -21,6 +21,6 @@ module _ (t : Routine) where
   -- of a loop's values
   pub loop_rule : (l : ℕ)
       → loop_wrong t l
-      ≡ (if eqb l 0 then not (eqb (parent t l) 0 && eqb (header t l) 0 && eqb (limit t l) 1 && eqb (multiplier t l) 0) else (not (ltb (parent t l) l) || not (ltb (header t l) (block_count t)) || out_of_range 1 65535 (limit t l) || ltb (2 ^ 40) (multiplier t l)))
+      ≡ (when eqb l 0 then not (eqb (parent t l) 0 && eqb (header t l) 0 && eqb (limit t l) 1 && eqb (multiplier t l) 0) else (not (ltb (parent t l) l) || not (ltb (header t l) (block_count t)) || out_of_range 1 65535 (limit t l) || ltb (2 ^ 40) (multiplier t l)))
   loop_rule zero = root_rule
   loop_rule (suc l) = rw (ne_eqb (suc l) 0 (λ e. omega arith)) (inner_rule l)

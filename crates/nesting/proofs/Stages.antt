@@ -11,7 +11,7 @@ use lib.Signed.{◌≤ℤ◌, lt_z}
 use Rattle.lists.proofs.Tests.{or_false}
 use Rattle.integers.proofs.Laws.{ints}
 use Rattle.wcet.specs.Table.{Routine, block_count, loop_count, missing, cost, loop_of, first, second, figure, parent, header, limit, multiplier, edge}
-use Rattle.wcet.specs.Rules.{sized, sizes_wrong, loop_wrong, figure_outside, block_wrong, header_elsewhere, structure_rules}
+use Rattle.wcet.specs.Rules.{sizes_wrong, loop_wrong, figure_outside, block_wrong, header_elsewhere, structure_rules}
 use Rattle.wcet.specs.Claim.{AllHold}
 use Rattle.wcet.proofs.Ranges.{BlockKept, sizes_kept, root_kept, loop_kept, block_kept}
 use Rattle.wcet.proofs.Nesting.{no_edge, first_edge, second_edge}

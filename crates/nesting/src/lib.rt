@@ -1,9 +1,11 @@
 // Rules 201 to 207: whether two tables have the sizes, the ranges and the loop nesting that the later checks rely on. For each rule a function
 // finds the lowest place that breaks it.
+#![tactic(auto)]
+
 ghost use Rattle.std.specs.Prelude.{◌≡◌, not, ◌&&◌, ◌||◌, [], ◌^◌, ◌≤◌, ◌<◌, eqb, ltb, pos, neg_ℤ, length};
 ghost use Rattle.std.specs.Int.Signed.{lt_z};
 ghost use Rattle.limits.specs.Limits.{most_loops};
-ghost use Rattle.lists.specs.Search.{if◌then◌else◌, first_below};
+ghost use Rattle.lists.specs.Search.{when◌then◌else◌, first_below};
 ghost use Rattle.wcet.specs.Rules.{out_of_range, loop_wrong, block_wrong, header_elsewhere, entry_or_exit_edge};
 ghost use Rattle.loopsets.specs.Sets.{no_sets};
 ghost use Rattle.nesting.specs.Columns.{routine, loop_columns, block_columns, header_columns, edge_columns, nesting_columns, block_sizes_wrong, loop_sizes_wrong, BlocksSized, LoopsSized, HeadersNamed, Innermost, Linked, Nestable, Names, of_edge, deep_by_sets, past_by_sets, any_past_by_sets};
@@ -14,14 +16,14 @@ use limits::{MOST_BLOCKS, MOST_DEPTH, MOST_LOOPS};
 use loopsets::Sets;
 
 // The lowest place that breaks a rule, or none.
-#[derive(Drop)]
+#[derive(Clone, Copy)]
 pub enum Place {
     At(usize),
     Nowhere,
 }
 
 // The first broken rule, 201 to 207 in this order, with its place.
-#[derive(Drop)]
+#[derive(Clone, Copy)]
 pub enum StructureFault {
     Sizes,
     Loop(usize),
@@ -32,14 +34,14 @@ pub enum StructureFault {
     PastHeader(usize),
 }
 
-#[derive(Drop)]
+#[derive(Clone, Copy)]
 pub enum Structure {
     Sound,
     Broken(StructureFault),
 }
 
 // The answer, and beside it the sets of the loops around each loop, made once for the checks that follow. Beside a refusal they are empty.
-#[derive(Drop)]
+#[derive(Clone, Copy)]
 pub struct Structured {
     pub answer: Structure,
     pub around: Sets,
@@ -136,7 +138,7 @@ fn inner_wrong(l: usize, n: usize, parent: u16, header: u16, limit: u32, multipl
 
 // Whether a value of loop l is out of its range, among n blocks.
 fn loop_wrong(l: usize, n: usize, parent: u16, header: u16, limit: u32, multiplier: u64) -> bool
-    ensures { result ≡ (if eqb l 0 then not (eqb parent 0 && eqb header 0 && eqb limit 1 && eqb multiplier 0) else (not (ltb parent l) || not (ltb header n) || out_of_range 1 65535 limit || ltb (2 ^ 40) multiplier)) }
+    ensures { result ≡ (when eqb l 0 then not (eqb parent 0 && eqb header 0 && eqb limit 1 && eqb multiplier 0) else (not (ltb parent l) || not (ltb header n) || out_of_range 1 65535 limit || ltb (2 ^ 40) multiplier)) }
 {
     if l == 0 {
         return root_wrong(parent, header, limit, multiplier);
