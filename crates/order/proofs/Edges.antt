@@ -1,6 +1,6 @@
 -- The forward edges by number, read off the loop sets, are the forward edges. Assumes nothing.
 use mathlib.Core.Path.{◌≡◌, refl, sym, ◌∙◌, ap}
-use mathlib.Core.Logic.{◌⊎◌, inl, inr, ⊎_elim}
+use mathlib.Core.Logic.{⊎_elim}
 use mathlib.Core.Bool.{Bool, true, false, not, ◌&&◌}
 use mathlib.Core.List.{List}
 use Prim.Native.Nat.{ℕ, ◌+◌, ◌*◌, ◌<◌, ◌/◌, ◌%◌}
@@ -9,7 +9,7 @@ use native.Mathlib.Omega.{arith}
 use lib.Dec.{eqb}
 use lib.ListN.{length, get_or}
 use borrow.Author.Tests.{eqb-true, eq-eqb, ne_eqb, not-true}
-use Rattle.lists.specs.Search.{if◌then◌else◌}
+use Rattle.lists.specs.Search.{when◌then◌else◌}
 use Rattle.lists.proofs.Tests.{and-true, both, either}
 use Rattle.wcet.specs.Table.{Routine, block_count, missing, loop_of, first, second, some_edge, edge, inside, is_header}
 use Rattle.wcet.specs.Cycles.{back_edge, forward_edge}
@@ -26,7 +26,7 @@ module _ (sets loops headers : List ℕ) (u v : ℕ) where
   unfolding target_by_sets
   ends_missing m = go (back_by_sets sets loops headers u v)
     where
-      go : (b : Bool) → v ≡ (if b then missing else v)
+      go : (b : Bool) → v ≡ (when b then missing else v)
       go true = m
       go false = refl
 
@@ -43,7 +43,7 @@ module _ (sets loops headers : List ℕ) (u v : ℕ) where
   unfolding target_by_sets
   target_names n names = go (back_by_sets sets loops headers u v)
     where
-      go : (b : Bool) → Names n (if b then missing else v)
+      go : (b : Bool) → Names n (when b then missing else v)
       go true ne = absurd (ne refl)
       go false ne = names ne
 
@@ -137,6 +137,6 @@ module _ (t : Routine) (sets : List ℕ) (R : Ranged t) (S : sets ≡ sets_aroun
       along q (yes z) = by_first t (e / 2) (λ x. eqb x v) (here (first t (e / 2)) (sym (even t.firsts t.seconds e z) ∙ q))
       along q (no z) = by_second t (e / 2) (λ x. eqb x v) (here (second t (e / 2)) (sym (odd t.firsts t.seconds e z) ∙ q))
 
-      go : (r : Bool) → back_by_sets sets t.loops t.headers (e / 2) s ≡ r → (if r then missing else s) ≡ v → (some_edge t (e / 2) (λ x. eqb x v) && not (back_edge t (e / 2) v)) ≡ true
+      go : (r : Bool) → back_by_sets sets t.loops t.headers (e / 2) s ≡ r → (when r then missing else s) ≡ v → (some_edge t (e / 2) (λ x. eqb x v) && not (back_edge t (e / 2) v)) ≡ true
       go true r m = absurd (present (sym m))
       go false r q = both (along q (ℕ_discrete (e % 2) 0)) (ap not (sym (back_read (e / 2) v (omega arith) c) ∙ ap (back_by_sets sets t.loops t.headers (e / 2)) (sym q) ∙ r))

@@ -10,7 +10,7 @@ use lib.ListN.{length, get_or, set, replicate, get_or-replicate, length-set}
 use lib.Seq.{get_or-set_same, get_or-set_other}
 use borrow.Author.Tests.{eq-eqb, ne_eqb}
 use Rattle.limits.specs.Limits.{most_blocks}
-use Rattle.lists.specs.Search.{if◌then◌else◌, count_below}
+use Rattle.lists.specs.Search.{count_below}
 use Rattle.lists.proofs.Search.{count_most}
 use Rattle.wcet.specs.Table.{missing}
 use Rattle.nesting.specs.Columns.{Names, Linked}

@@ -11,7 +11,7 @@ use lib.ListN.{length, get_or, set, length-set}
 use lib.Seq.{get_or-set_same, get_or-set_other}
 use borrow.Author.Tests.{eqb-true, eqb-false, eq-eqb, ne_eqb, not-false}
 use Rattle.limits.specs.Limits.{most_blocks}
-use Rattle.lists.specs.Search.{if◌then◌else◌, any_below, count_below}
+use Rattle.lists.specs.Search.{when◌then◌else◌, any_below, count_below}
 use Rattle.lists.proofs.Tests.{both}
 use Rattle.lists.proofs.Search.{any_none, any_ext, some_at, count_ext, none_counted, count_remove}
 use Rattle.wcet.specs.Table.{missing}
@@ -88,7 +88,7 @@ module _ (ends : ℕ → ℕ) (n : ℕ) (counts queue : List ℕ) where
       where
         go : (e : ℕ) → Dec (e ≡ this) → waits ends queue d v e ≡ waits ends queue (suc d) v e
         go e (yes s) = rw (s, ne_eqb (ends this) v away)
-        go e (no ne) = rw (next_removed e, ne_eqb e this ne, mathlib.Core.Bool.or_false (removed queue d e))
+        go e (no ne) = rw (next_removed e, ne_eqb e this ne, mathlib.Core.Bool.or-false (removed queue d e))
 
     one_less_lem : (v : ℕ) → ends this ≡ v → count_below (2 * n) (waits ends queue d v) ≡ suc (count_below (2 * n) (waits ends queue (suc d) v))
     one_less_lem v q =
@@ -188,7 +188,7 @@ module _ (ends : ℕ → ℕ) (n : ℕ) (counts queue : List ℕ) where
       after_removal = go (ℕ_discrete v missing)
         where
           last : (v ≡ missing → ⊥) → Dec (get_or counts v 0 - 1 ≡ 0)
-              → Taken ends n (set counts v (get_or counts v 0 - 1)) (if eqb (get_or counts v 0 - 1) 0 then set queue k v else queue) (d + 1) (if eqb (get_or counts v 0 - 1) 0 then k + 1 else k)
+              → Taken ends n (set counts v (get_or counts v 0 - 1)) (when eqb (get_or counts v 0 - 1) 0 then set queue k v else queue) (d + 1) (when eqb (get_or counts v 0 - 1) 0 then k + 1 else k)
           last ne (yes z) = rw (eq-eqb (get_or counts v 0 - 1) 0 z) (taken_last v there (names ne) z)
           last ne (no more) = rw (ne_eqb (get_or counts v 0 - 1) 0 more) (taken_lower v there (names ne) more)
 
@@ -204,14 +204,14 @@ module _ (counts queue : List ℕ) (k v : ℕ) (counts' queue' : List ℕ) (k' :
   no_fewer : k ≤ k'
   no_fewer = rw R.taken (go (last_to counts v))
     where
-      go : (b : Bool) → k ≤ (if b then k + 1 else k)
+      go : (b : Bool) → k ≤ (when b then k + 1 else k)
       go true = omega arith
       go false = omega arith
 
   kept : (j : ℕ) → j < k → get_or queue' j 0 ≡ get_or queue j 0
   kept j h = rw R.queued (go (last_to counts v))
     where
-      go : (b : Bool) → get_or (if b then set queue k v else queue) j 0 ≡ get_or queue j 0
+      go : (b : Bool) → get_or (when b then set queue k v else queue) j 0 ≡ get_or queue j 0
       go true = get_or-set_other queue k j v 0 (λ z. omega arith)
       go false = refl
 

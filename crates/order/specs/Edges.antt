@@ -1,8 +1,8 @@
 -- The forward edges, as they are read off the loop sets, and what the removal of one does to the counts and the queue: for functions that
 -- are no public entry.
-use Rattle.std.specs.Prelude.{ℕ, ◌+◌, ◌*◌, ◌-◌, ◌≤◌, ◌<◌, ◌/◌, ◌%◌, ◌≡◌, Bool, not, ◌&&◌, List, eqb, length, get_or, set}
+use Rattle.std.specs.Prelude.{ℕ, ◌+◌, ◌-◌, ◌≤◌, ◌<◌, ◌/◌, ◌%◌, ◌≡◌, Bool, not, ◌&&◌, List, eqb, length, get_or, set}
 use Rattle.limits.specs.Limits.{most_blocks}
-use Rattle.lists.specs.Search.{if◌then◌else◌, count_below}
+use Rattle.lists.specs.Search.{when◌then◌else◌, count_below}
 use Rattle.wcet.specs.Table.{missing}
 use Rattle.loopsets.specs.Sets.{member, set_at}
 
@@ -12,11 +12,11 @@ back_by_sets sets loops headers u v = eqb (get_or headers (get_or loops v 0) 0) 
 
 -- the target of the forward edge from u to its successor v, and `missing` where the successor is missing or it is a back edge
 unfoldable pub target_by_sets : (sets loops headers : List ℕ) → ℕ → ℕ → ℕ
-target_by_sets sets loops headers u v = if back_by_sets sets loops headers u v then missing else v
+target_by_sets sets loops headers u v = when back_by_sets sets loops headers u v then missing else v
 
 -- Edges have numbers, 2u from block u to its first successor and 2u + 1 to its second.
 abbrev pub successor : (firsts seconds : List ℕ) → ℕ → ℕ
-successor firsts seconds e = if eqb (e % 2) 0 then get_or firsts (e / 2) 0 else get_or seconds (e / 2) 0
+successor firsts seconds e = when eqb (e % 2) 0 then get_or firsts (e / 2) 0 else get_or seconds (e / 2) 0
 
 unfoldable pub edge_target : (sets loops firsts seconds headers : List ℕ) → ℕ → ℕ
 edge_target sets loops firsts seconds headers e = target_by_sets sets loops headers (e / 2) (successor firsts seconds e)
@@ -28,7 +28,7 @@ pub record Counted (ends : ℕ → ℕ) (n : ℕ) (counts : List ℕ) (e : ℕ) 
 
 -- one edge more leads to v, and what that requires
 abbrev pub one_more : List ℕ → ℕ → List ℕ
-one_more counts v = if eqb v missing then counts else set counts v (get_or counts v 0 + 1)
+one_more counts v = when eqb v missing then counts else set counts v (get_or counts v 0 + 1)
 
 abbrev pub Countable : List ℕ → ℕ → Type 0
 Countable counts v = (v ≡ missing → ⊥) → (v < most_blocks) × (get_or counts v 0 < 65535)
@@ -43,17 +43,17 @@ pub record Queue (counts queue : List ℕ) (n k : ℕ) : Type 0 where
 
 -- an edge to v is removed
 abbrev pub one_less : List ℕ → ℕ → List ℕ
-one_less counts v = if eqb v missing then counts else set counts v (get_or counts v 0 - 1)
+one_less counts v = when eqb v missing then counts else set counts v (get_or counts v 0 - 1)
 
 -- and was the last of those to v, which is taken then
 abbrev pub last_to : List ℕ → ℕ → Bool
 last_to counts v = not (eqb v missing) && eqb (get_or counts v 0 - 1) 0
 
 abbrev pub queue_after : (counts queue : List ℕ) → ℕ → ℕ → List ℕ
-queue_after counts queue k v = if last_to counts v then set queue k v else queue
+queue_after counts queue k v = when last_to counts v then set queue k v else queue
 
 abbrev pub count_after : (counts : List ℕ) → ℕ → ℕ → ℕ
-count_after counts k v = if last_to counts v then k + 1 else k
+count_after counts k v = when last_to counts v then k + 1 else k
 
 -- what the removal of an edge to v requires, and what it leaves
 abbrev pub Removable : (counts : List ℕ) → ℕ → ℕ → Type 0

@@ -1,6 +1,8 @@
 // The blocks of a routine in a topological order of its forward edges, the edges that do not return to a header from inside the header's
 // loop; or as many blocks as have a place in one. By counts of the incoming edges: a block is taken when its count falls to 0 (Kahn's
 // algorithm). Blocks that are not taken lie on a cycle of forward edges, or can be reached from one: 209.
+#![tactic(auto)]
+
 ghost use Rattle.std.specs.Prelude.{◌≡◌, ◌*◌, ◌≤◌, ◌<◌, length};
 ghost use Rattle.limits.specs.Limits.{most_blocks};
 ghost use Rattle.nesting.specs.Columns.{Names, Innermost, Linked};
@@ -17,7 +19,7 @@ type Counts = [u16; MOST_BLOCKS];
 type Blocks = [u16; MOST_BLOCKS];
 
 // The blocks in the order in which they were taken, and how many there are.
-#[derive(Drop)]
+#[derive(Clone, Copy)]
 pub struct Order {
     pub blocks: Blocks,
     pub count: usize,
