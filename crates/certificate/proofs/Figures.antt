@@ -1,8 +1,9 @@
 -- Figures in their range: sums and differences of them fit an i64, whatever is claimed. Assumes nothing.
-use Prim.Native.Nat.{ℕ, ◌^◌, ◌≤◌, ◌<◌}
+use mathlib.Core.Path.{◌≡◌, ◌∙◌, ap}
+use Prim.Native.Nat.{ℕ, ◌*◌, ◌-◌, ◌^◌, ◌≤◌, ◌<◌}
 use native.Mathlib.Nat.{mul-le-mul}
 use native.Mathlib.Omega.{arith}
-use lib.IntN.{ℤ, pos, ◌+ℤ◌, ◌-ℤ◌, ◌*ℤ◌}
+use lib.IntN.{ℤ, pos, ◌+ℤ◌, ◌-ℤ◌, ◌*ℤ◌, pos-*ℤ-pos}
 use lib.Signed.{mag}
 use mir.Syntax.{w64}
 use mir.Val.{SFits, to_z, of_z}
@@ -25,6 +26,22 @@ sum_fits n x h p = omega (ints, size (pos n +ℤ x), sum (pos n) x, size x)
 
 pub bound_fits : (n : ℕ) (x y : ℤ) → n ≤ 1000000 → Figure x → Figure y → SFits w64 (pos n +ℤ x -ℤ y)
 bound_fits n x y h p q = omega (ints, size (pos n +ℤ x -ℤ y), sum (pos n) x, diff (pos n +ℤ x) y, size x, size y)
+
+-- what a loop's later visits may take is below 2^56, whatever number of visits is meant: which one it is shows in the answer
+pub later_most : (k x : ℕ) → k ≤ 2 ^ 40 → x ≤ 65535 → k * x < 2 ^ 56
+later_most k x h l = let most : k * x ≤ 2 ^ 40 * 65535 = mul-le-mul h l in omega arith
+
+pub later_sum_fits : (n k x : ℕ) → n ≤ 1000000 → k ≤ 2 ^ 40 → x ≤ 65535 → SFits w64 (to_z w64 n +ℤ to_z w64 (k * x))
+later_sum_fits n k x c h l =
+    let most : k * x < 2 ^ 56 = later_most k x h l in
+    rw (to_z_pos w64 {n = n} (omega arith), to_z_pos w64 {n = k * x} (omega arith)) (record { sfits = omega arith })
+
+-- and is the product of the definition
+pub later_is : (k b : ℕ) → 1 ≤ b → pos k *ℤ (pos b -ℤ pos 1) ≡ pos (k * (b - 1))
+later_is k b h = ap (λ (z : ℤ). pos k *ℤ z) less ∙ pos-*ℤ-pos k (b - 1)
+  where
+    less : pos b -ℤ pos 1 ≡ pos (b - 1)
+    less = omega (ints, diff (pos b) (pos 1))
 
 -- what the visits of a stay may take, less y of them
 product_most : (k x y : ℕ) → k ≤ 2 ^ 40 → x ≤ 65535 → y ≤ 1 → mag (pos k *ℤ (pos x -ℤ pos y)) < 2 ^ 57

@@ -2,10 +2,9 @@
 use mathlib.Core.Path.{◌≡◌, ◌∙◌}
 use mathlib.Core.List.{List, [], ◌∷◌}
 use Prim.Native.Nat.{ℕ, ◌≤◌, ◌<◌}
-use lib.Signed.{le_z}
 use Rattle.lists.specs.Search.{first_below}
 use Rattle.wcet.specs.Table.{Routine, block_count}
-use Rattle.wcet.specs.Rules.{accepted, refused, check, edge_holds, inequality_broken, inequality_rule, undeclared_rule, structure_rules, table_rules, bound, table_reply}
+use Rattle.wcet.specs.Rules.{accepted, refused, check, inequality_broken, inequality_rule, undeclared_rule, structure_rules, table_rules, bound, table_reply}
 use Rattle.wcet.specs.Claim.{AllHold}
 use Rattle.loopsets.specs.Sets.{sets_around}
 use Rattle.nesting.specs.Columns.{Ranged}
@@ -33,10 +32,9 @@ module _ (t : Routine) where
 
     -- 208, looked for by the sets
     module _ (all : block_count t ≤ r.count) (sets : List ℕ) (S : sets ≡ sets_around t.parents) (place : Place)
-        (found : place_of place ≡ first_below (block_count t) (any_broken_by_sets le_z sets t.firsts t.seconds (weight_columns t.costs t.loops t.figures t.headers t.limits t.multipliers))) where
+        (found : place_of place ≡ first_below (block_count t) (any_broken_by_sets sets t.firsts t.seconds (weight_columns t.costs t.loops t.figures t.headers t.limits t.multipliers))) where
       lowest : place_of place ≡ first_below (block_count t) (inequality_broken t)
-      unfolding inequality_broken edge_holds
-      lowest = found ∙ broken_places t (headed t h).ranged le_z t.figures t.limits t.multipliers sets S
+      lowest = found ∙ broken_places t (headed t h).ranged sets S
 
       last : check (inequality_rule t ∷ []) (accepted (bound t)) ≡ table_reply t
       unfolding table_reply table_rules

@@ -1,23 +1,25 @@
 // The certificate check: 209, by a topological order of the blocks; 208, the inequality of each edge, which serves 453 too; and the reply to a
 // pair of tables.
 // Figures and multipliers are claims, and are never believed: what an accepted bound means does not depend on who made them.
+#![tactic(auto)]
+
 ghost use Rattle.std.specs.Prelude.{◌≡◌, ◌^◌, ◌≤◌, ◌<◌, pos, ◌+ℤ◌, ◌-ℤ◌, ◌*ℤ◌, length};
-ghost use Rattle.std.specs.Int.Signed.{le_z};
 ghost use Rattle.lists.specs.Search.{first_below};
-ghost use Rattle.wcet.specs.Rules.{inequality, bound};
+ghost use Rattle.wcet.specs.Rules.{bound};
+ghost use Rattle.wcet.specs.Shortest.{inequality_by};
 ghost use Rattle.wcet.specs.Claim.{Checked};
 ghost use Rattle.nesting.specs.Columns.{routine, Names, Linked, of_edge};
 ghost use Rattle.nesting.specs.Answers.{place_of};
 ghost use Rattle.nesting.specs.declared.Structure.TheVariants.{Sound};
 ghost use Rattle.certificate.specs.Answers.{table_meaning};
 ghost use Rattle.certificate.specs.Figures.{Figure};
-ghost use Rattle.certificate.specs.Columns.{comparison, weight_columns, price_columns, Weighed, Priced, broken_by_sets, any_broken_by_sets, Certified, RepliedAfter};
+ghost use Rattle.certificate.specs.Columns.{comparison, weight_columns, price_columns, Weighed, Weighable, Priced, broken_by_sets, any_broken_by_sets, broken_by, Certified, RepliedAfter};
 
 use loopsets::Sets;
 use nesting::{Place, Structure, StructureFault, Structured};
 
 // The bound, or the first broken rule: 201 to 207 as the structure check names them, 208 at its source block, or 209, which comes ahead of 208.
-#[derive(Drop)]
+#[derive(Clone, Copy)]
 pub enum TableReply {
     Accepted(i64),
     Structure(StructureFault),
@@ -26,7 +28,7 @@ pub enum TableReply {
 }
 
 // Which way the inequalities are compared: for an upper bound, or turned round for a lower one.
-#[derive(Drop)]
+#[derive(Clone, Copy)]
 pub enum Sense {
     AtMost,
     AtLeast,
@@ -83,7 +85,7 @@ fn inequality_holds(
     visits: u32,
 ) -> bool
     requires { (cost ≤ 1000000) × Figure from × Figure to × (multiplier ≤ 2 ^ 40) × (visits ≤ 65535) }
-    ensures { result ≡ inequality (comparison sense) headed inside cost from to multiplier visits }
+    ensures { result ≡ inequality_by (comparison sense) headed inside cost from to multiplier visits }
 {
     if !headed {
         return plain_holds(sense, cost, from, to);
@@ -108,8 +110,8 @@ pub fn edge_broken(
     u: usize,
     v: u16,
 ) -> bool
-    requires { Weighed (weight_columns cost.now loops.now figure.now header.now visits.now multiplier.now) × (u < length cost.now) × Names (length cost.now) v }
-    ensures { result ≡ of_edge v (broken_by_sets (comparison sense) around.now (weight_columns cost.now loops.now figure.now header.now visits.now multiplier.now) u) }
+    requires { Weighable (weight_columns cost.now loops.now figure.now header.now visits.now multiplier.now) × (u < length cost.now) × Names (length cost.now) v }
+    ensures { result ≡ of_edge v (broken_by (comparison sense) around.now (weight_columns cost.now loops.now figure.now header.now visits.now multiplier.now) u) }
 {
     if v == 65535 {
         return false;
@@ -144,7 +146,7 @@ fn edge_breaks(
     v: u16,
 ) -> bool
     requires { Weighed (weight_columns cost.now loops.now figure.now header.now limit.now multiplier.now) × (u < length cost.now) × Names (length cost.now) v }
-    ensures { result ≡ of_edge v (broken_by_sets le_z around.now (weight_columns cost.now loops.now figure.now header.now limit.now multiplier.now) u) }
+    ensures { result ≡ of_edge v (broken_by_sets around.now (weight_columns cost.now loops.now figure.now header.now limit.now multiplier.now) u) }
 {
     edge_broken(
         Sense::AtMost,
@@ -172,7 +174,7 @@ fn first_broken_inequality(
     multiplier: &[u64],
 ) -> Place
     requires { Weighed (weight_columns cost.now loops.now figure.now header.now limit.now multiplier.now) × Linked (length cost.now) first.now second.now }
-    ensures { place_of result ≡ first_below (length cost.now) (any_broken_by_sets le_z around.now first.now second.now (weight_columns cost.now loops.now figure.now header.now limit.now multiplier.now)) }
+    ensures { place_of result ≡ first_below (length cost.now) (any_broken_by_sets around.now first.now second.now (weight_columns cost.now loops.now figure.now header.now limit.now multiplier.now)) }
 {
     let n = cost.len();
     let mut u = 0;
