@@ -7,15 +7,15 @@ use native.Mathlib.Omega.{arith}
 use lib.Dec.{eqb, ltb}
 use borrow.Author.Tests.{eqb-true, ltb-false, ne_eqb, not-false}
 use lib.ListN.{length}
-use Rattle.lists.specs.Search.{if◌then◌else◌}
+use Rattle.lists.specs.Search.{when◌then◌else◌}
 use Rattle.lists.proofs.Tests.{or_false, and-true}
 use Rattle.wcet.specs.Shortest.{LowCertificate, low_figure, low_multiplier, least, low_loop_wrong, low_figure_wrong}
 use Rattle.nesting.proofs.Stages.{figure_range}
-use Rattle.certificate.specs.Columns.{weight_columns, Comparable, Weighed}
+use Rattle.certificate.specs.Columns.{weight_columns, Comparable, Weighable}
 
 module _ (c : LowCertificate) where
   -- 451, with the loop's own number in both cases
-  pub loop_rule : (l : ℕ) → low_loop_wrong c l ≡ (if eqb l 0 then not (eqb (low_multiplier c l) 0 && eqb (least c l) 1) else (ltb (2 ^ 40) (low_multiplier c l) || ltb 65535 (least c l)))
+  pub loop_rule : (l : ℕ) → low_loop_wrong c l ≡ (when eqb l 0 then not (eqb (low_multiplier c l) 0 && eqb (least c l) 1) else (ltb (2 ^ 40) (low_multiplier c l) || ltb 65535 (least c l)))
   unfolding low_loop_wrong
   loop_rule zero = refl
   loop_rule (suc l) = rw (ne_eqb (suc l) 0 (λ e. omega arith))
@@ -23,7 +23,7 @@ module _ (c : LowCertificate) where
   loop_kept : (l : ℕ) → low_loop_wrong c l ≡ false → (low_multiplier c l ≤ 2 ^ 40) × (least c l ≤ 65535)
   loop_kept l e = go (eqb l 0) (sym (loop_rule l) ∙ e)
     where
-      go : (z : Bool) → (if z then not (eqb (low_multiplier c l) 0 && eqb (least c l) 1) else (ltb (2 ^ 40) (low_multiplier c l) || ltb 65535 (least c l))) ≡ false
+      go : (z : Bool) → (when z then not (eqb (low_multiplier c l) 0 && eqb (least c l) 1) else (ltb (2 ^ 40) (low_multiplier c l) || ltb 65535 (least c l))) ≡ false
           → (low_multiplier c l ≤ 2 ^ 40) × (least c l ≤ 65535)
       go true q =
           let p = and-true (eqb (low_multiplier c l) 0) (eqb (least c l) 1) (not-false _ q) in
@@ -34,7 +34,7 @@ module _ (c : LowCertificate) where
 
   pub weighed : (costs loops headers : List ℕ) → Comparable (weight_columns costs loops c.figures headers c.leasts c.multipliers)
       → ((l : ℕ) → l < length c.multipliers → low_loop_wrong c l ≡ false) → ((u : ℕ) → u < length c.figures → low_figure_wrong c u ≡ false)
-      → Weighed (weight_columns costs loops c.figures headers c.leasts c.multipliers)
+      → Weighable (weight_columns costs loops c.figures headers c.leasts c.multipliers)
   unfolding low_figure_wrong
   weighed costs loops headers C L F = record {
     comparable = C;

@@ -26,8 +26,8 @@ use Rattle.nesting.proofs.Stages.{headed}
 use Rattle.order.specs.Ordering.{Ordering}
 use Rattle.order.specs.declared.Order.{Order}
 use Rattle.order.proofs.Orders.{undeclared_decides, declared_hands_on}
-use Rattle.certificate.specs.Columns.{weight_columns, Comparable, any_broken_by_sets}
-use Rattle.certificate.proofs.Edge.{comparable, broken_places}
+use Rattle.certificate.specs.Columns.{weight_columns, Comparable, any_broken_by}
+use Rattle.certificate.proofs.Edge.{comparable, broken_places_by}
 
 module _ (t : Routine) (c : LowCertificate) where
   abbrev passed : Reply ℤ
@@ -93,10 +93,10 @@ module _ (t : Routine) (c : LowCertificate) where
 
             -- 453, looked for by the sets
             module _ (no_figure_lem : figure ≡ Nowhere) (sets : List ℕ) (S : sets ≡ sets_around t.parents) (edge : Place)
-                (at_Edge : place_of edge ≡ first_below (block_count t) (any_broken_by_sets ge_z sets t.firsts t.seconds (weight_columns t.costs t.loops c.figures t.headers c.leasts c.multipliers))) where
+                (at_Edge : place_of edge ≡ first_below (block_count t) (any_broken_by ge_z sets t.firsts t.seconds (weight_columns t.costs t.loops c.figures t.headers c.leasts c.multipliers))) where
               edge_place : place_of edge ≡ first_below (block_count t) (low_inequality_broken t c)
               unfolding low_inequality_broken low_edge_holds
-              edge_place = at_Edge ∙ broken_places t (headed t h).ranged ge_z c.figures c.leasts c.multipliers sets S
+              edge_place = at_Edge ∙ broken_places_by t (headed t h).ranged ge_z c.figures c.leasts c.multipliers sets S
 
               last : check (record { number = 453; places = block_count t; broken = low_inequality_broken t c } ∷ []) passed ≡ shortest_reply t c
               last =

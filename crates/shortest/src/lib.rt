@@ -1,14 +1,16 @@
 // The second certificate: 451 to 453 after the rules of its tables, and the lower bound of a routine. Its columns are claims, as the tables'
 // own figures and multipliers are, and are never believed.
+#![tactic(auto)]
+
 ghost use Rattle.std.specs.Prelude.{◌≡◌, not, ◌&&◌, ◌||◌, [], ◌^◌, ◌≤◌, ◌<◌, eqb, ltb, length};
 ghost use Rattle.limits.specs.Limits.{most_blocks, most_loops};
-ghost use Rattle.lists.specs.Search.{if◌then◌else◌, first_below};
+ghost use Rattle.lists.specs.Search.{when◌then◌else◌, first_below};
 ghost use Rattle.wcet.specs.Rules.{sized};
 ghost use Rattle.wcet.specs.Shortest.{ge_z, low_loop_wrong, low_figure_wrong};
 ghost use Rattle.wcet.specs.Claim.{ShortestChecked};
 ghost use Rattle.nesting.specs.Columns.{routine, Names, Linked, of_edge};
 ghost use Rattle.nesting.specs.Answers.{place_of};
-ghost use Rattle.certificate.specs.Columns.{weight_columns, Comparable, Weighed, broken_by_sets, any_broken_by_sets};
+ghost use Rattle.certificate.specs.Columns.{weight_columns, Comparable, Weighable, broken_by, any_broken_by};
 ghost use Rattle.shortest.specs.Answers.{low_certificate, shortest_meaning};
 ghost use Rattle.shortest.specs.Columns.{Certified};
 
@@ -18,7 +20,7 @@ use nesting::{Place, Structure, StructureFault};
 
 // The lower bound, or the first broken rule: 201 to 207 as the structure check names them, 209, 451 at its loop, 452 at its block, or 453 at
 // its source block.
-#[derive(Drop)]
+#[derive(Clone, Copy)]
 pub enum ShortestReply {
     Accepted(i64),
     Structure(StructureFault),
@@ -47,7 +49,7 @@ fn sizes_wrong(n: usize, m: usize, figure: &[i64], multiplier: &[u64], least: &[
 
 // Whether the multiplier or the least visits of loop l are out of range.
 fn loop_wrong(l: usize, multiplier: u64, least: u32) -> bool
-    ensures { result ≡ (if eqb l 0 then not (eqb multiplier 0 && eqb least 1) else (ltb (2 ^ 40) multiplier || ltb 65535 least)) }
+    ensures { result ≡ (when eqb l 0 then not (eqb multiplier 0 && eqb least 1) else (ltb (2 ^ 40) multiplier || ltb 65535 least)) }
 {
     if l == 0 {
         if multiplier != 0 {
@@ -106,8 +108,8 @@ fn edge_breaks(
     u: usize,
     v: u16,
 ) -> bool
-    requires { Weighed (weight_columns cost.now loops.now figure.now header.now least.now multiplier.now) × (u < length cost.now) × Names (length cost.now) v }
-    ensures { result ≡ of_edge v (broken_by_sets ge_z around.now (weight_columns cost.now loops.now figure.now header.now least.now multiplier.now) u) }
+    requires { Weighable (weight_columns cost.now loops.now figure.now header.now least.now multiplier.now) × (u < length cost.now) × Names (length cost.now) v }
+    ensures { result ≡ of_edge v (broken_by ge_z around.now (weight_columns cost.now loops.now figure.now header.now least.now multiplier.now) u) }
 {
     certificate::edge_broken(
         Sense::AtLeast,
@@ -135,8 +137,8 @@ fn first_broken_inequality(
     multiplier: &[u64],
     least: &[u32],
 ) -> Place
-    requires { Weighed (weight_columns cost.now loops.now figure.now header.now least.now multiplier.now) × Linked (length cost.now) first.now second.now }
-    ensures { place_of result ≡ first_below (length cost.now) (any_broken_by_sets ge_z around.now first.now second.now (weight_columns cost.now loops.now figure.now header.now least.now multiplier.now)) }
+    requires { Weighable (weight_columns cost.now loops.now figure.now header.now least.now multiplier.now) × Linked (length cost.now) first.now second.now }
+    ensures { place_of result ≡ first_below (length cost.now) (any_broken_by ge_z around.now first.now second.now (weight_columns cost.now loops.now figure.now header.now least.now multiplier.now)) }
 {
     let n = cost.len();
     let mut u = 0;
