@@ -1,10 +1,12 @@
 // Decimal digits as plain bytes: those that stand at a place of a text, gathered in 32 bits, or in 64 for multipliers and figures. The digits that write a
 // number are defined in specs/ and have their laws in proofs/.
+#![tactic(auto)]
+
 ghost use Rattle.std.specs.Prelude.{◌≡◌, ◌+◌, ◌-◌, ◌*◌, ◌^◌, ◌≤◌, ltb, drop};
 ghost use Rattle.digits.specs.Run.{digit_count, run_at, as_digit_run};
 
 // What a text says: a number, nothing, or something else.
-#[derive(Drop)]
+#[derive(Clone, Copy)]
 pub enum Value {
     Number(u32),
     Missing,
@@ -12,7 +14,7 @@ pub enum Value {
 }
 
 // The same of a number that may need 64 bits.
-#[derive(Drop)]
+#[derive(Clone, Copy)]
 pub enum WideValue {
     Number(u64),
     Missing,
@@ -20,14 +22,14 @@ pub enum WideValue {
 }
 
 // The digits at a place of a text: the number that they write, Bad where it does not fit 32 bits, and where they end.
-#[derive(Drop)]
+#[derive(Clone, Copy)]
 pub struct DigitRun {
     pub value: Value,
     pub end: usize,
 }
 
 // The same at 64 bits.
-#[derive(Drop)]
+#[derive(Clone, Copy)]
 pub struct WideRun {
     pub value: WideValue,
     pub end: usize,
