@@ -1,4 +1,6 @@
 // Decimal numbers as plain bytes: what a whole text says as a number, and what digits say where their number is known.
+#![tactic(auto)]
+
 ghost use Rattle.std.specs.Prelude.{◌≡◌, ◌+◌, ◌-◌, ◌^◌, drop};
 ghost use Rattle.digits.specs.Run.{as_value};
 ghost use Rattle.numbers.specs.Number.{natural, integer};
@@ -7,7 +9,7 @@ ghost use Rattle.numbers.specs.Steps.{sign_count, leading_zero, natural_by, inte
 use digits::{Value, WideValue};
 
 // What a text says where a minus sign is allowed.
-#[derive(Drop)]
+#[derive(Clone, Copy)]
 pub enum SignedValue {
     Number(i64),
     Missing,
