@@ -19,9 +19,9 @@ use Rattle.numbers.specs.Steps.{sign_count}
 use Rattle.numbers.specs.declared.SignedValue.{SignedValue}
 use Rattle.numbers.specs.declared.SignedValue.TheVariants.{Number as Signed, Bad as BadSigned}
 use Rattle.numbers.proofs.Numbers.{no_digits, no_integer, natural_fits, integer_fits}
-use Rattle.csv.specs.Grammar.{is_quote, content}
-use Rattle.csv.specs.Place.{inner}
-use Rattle.csv.proofs.Quotes.{has_mark, through}
+use Rattle.csv_text.specs.Grammar.{is_quote, content}
+use Rattle.csv_text.specs.Place.{inner}
+use Rattle.csv_text.proofs.Quotes.{has_mark, through}
 use Rattle.cells.specs.Cell.{unsigned, signed}
 
 -- a text that holds a quote mark is no number

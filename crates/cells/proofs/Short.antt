@@ -23,18 +23,18 @@ use Rattle.numbers.specs.Steps.{sign_count, natural_by, integer_by}
 use Rattle.numbers.specs.declared.SignedValue.{SignedValue}
 use Rattle.numbers.specs.declared.SignedValue.TheVariants.{Missing as NoSigned}
 use Rattle.numbers.proofs.Numbers.{sign_within, natural_by_is, integer_by_is}
-use Rattle.csv.specs.Grammar.{is_text, width, size, comma, ends, following, limited, field, content}
-use Rattle.csv.specs.Place.{found_at}
-use Rattle.csv.specs.Write.{bare, all_text}
-use Rattle.csv.specs.declared.Ending.{Ending}
-use Rattle.csv.specs.declared.Ending.TheVariants.{EndOfText}
-use Rattle.csv.specs.declared.Found.{Found}
-use Rattle.csv.specs.declared.Found.TheVariants.{Comma, Ends, Broken}
-use Rattle.csv.proofs.Fields.{found_from}
-use Rattle.csv.proofs.Records.{Within, field_within}
-use Rattle.csv.proofs.Splits.{comma_of, ends_of}
-use Rattle.csv.proofs.Inverse.{content_written}
-use Rattle.csv.proofs.Short.{short_field, Sized, short_sized}
+use Rattle.csv_text.specs.Grammar.{is_text, width, size, comma, ends, following, limited, field, content}
+use Rattle.csv_text.specs.Place.{found_at}
+use Rattle.csv_text.specs.Write.{bare, all_text}
+use Rattle.csv_text.specs.declared.Ending.{Ending}
+use Rattle.csv_text.specs.declared.Ending.TheVariants.{EndOfText}
+use Rattle.csv_text.specs.declared.Found.{Found}
+use Rattle.csv_text.specs.declared.Found.TheVariants.{Comma, Ends, Broken}
+use Rattle.csv_text.proofs.Fields.{found_from}
+use Rattle.csv_text.proofs.Records.{Within, field_within}
+use Rattle.csv_text.proofs.Splits.{comma_of, ends_of}
+use Rattle.csv_text.proofs.Inverse.{content_written}
+use Rattle.csv_text.proofs.Short.{short_field, Sized, short_sized}
 use Rattle.cells.specs.Cell.{unsigned, signed, cell_at, signed_count, signed_cell_at}
 use Rattle.cells.specs.declared.Cell.{Cell}
 use Rattle.cells.specs.declared.SignedCell.{SignedCell}

@@ -9,8 +9,8 @@ use Rattle.digits.specs.declared.Value.TheVariants.{Number}
 use Rattle.numbers.specs.Number.{natural, integer}
 use Rattle.numbers.specs.declared.SignedValue.TheVariants.{Number as Signed}
 use Rattle.numbers.proofs.Written.{natural_back, positive_back, negative_back}
-use Rattle.csv.specs.Write.{Entry, entry_text, written, Unmarked}
-use Rattle.csv.proofs.Inverse.{content_written}
+use Rattle.csv_text.specs.Write.{Entry, entry_text, written, Unmarked}
+use Rattle.csv_text.proofs.Inverse.{content_written}
 use Rattle.cells.specs.Cell.{unsigned, signed}
 
 module _ (f : Entry) (u : Unmarked f) where

@@ -6,8 +6,8 @@ use Rattle.digits.specs.declared.Value.{Value}
 use Rattle.numbers.specs.Number.{natural, integer}
 use Rattle.numbers.specs.Steps.{sign_count}
 use Rattle.numbers.specs.declared.SignedValue.{SignedValue}
-use Rattle.csv.specs.Grammar.{size, limited, content}
-use Rattle.csv.specs.Place.{found_at}
+use Rattle.csv_text.specs.Grammar.{size, limited, content}
+use Rattle.csv_text.specs.Place.{found_at}
 use Rattle.cells.specs.declared.Cell.{Cell}
 use Rattle.cells.specs.declared.SignedCell.{SignedCell}
 
