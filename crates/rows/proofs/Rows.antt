@@ -2,7 +2,6 @@
 -- Assumes nothing.
 use mathlib.Core.Path.{◌≡◌, refl, sym, ap, ◌∙◌}
 use mathlib.Core.Bool.{Bool, true, false}
-use mathlib.Core.Logic.{◌⊎◌, inl, inr}
 use mathlib.Core.List.{List}
 use Prim.Native.Nat.{ℕ, ◌+◌, ◌-◌, ◌<◌, ◌≤◌, ◌^◌}
 use native.Mathlib.Nat.{zero-add}
@@ -13,19 +12,16 @@ use lib.IntN.{ℤ}
 use mir.Syntax.{w16, w64}
 use mir.Val.{Fits, to_z, of_z}
 use mir.Facts.{to_z-of_z}
-use denote.Enum.Declared.{tag_of}
-use Rattle.csv.specs.Grammar.{record_of, alike}
-use Rattle.csv.specs.declared.Ending.{Ending}
-use Rattle.csv.specs.Place.{split_of, no_places, field_at}
-use Rattle.csv.specs.declared.Split.{Split}
-use Rattle.csv.proofs.Splits.{split_field}
+use Rattle.csv_text.specs.Grammar.{record_of, alike}
+use Rattle.csv_text.specs.declared.Ending.{Ending}
+use Rattle.csv_text.specs.Place.{split_of, no_places, field_at}
+use Rattle.csv_text.specs.declared.Split.{Split}
+use Rattle.csv_text.proofs.Splits.{split_field}
 use Rattle.digits.specs.declared.Value.{Value}
 use Rattle.digits.specs.declared.Value.TheVariants.{Number, Missing, Bad}
-use Rattle.digits.specs.contracts.Value.{the_type}
-use Rattle.digits.proofs.Values.{other_tag, NoNumber}
+use Rattle.digits.proofs.Values.{NoNumber}
 use Rattle.numbers.specs.declared.SignedValue.{SignedValue}
 use Rattle.numbers.specs.declared.SignedValue.TheVariants.{Number as Signed, Missing as NoSigned, Bad as BadSigned}
-use Rattle.numbers.specs.contracts.SignedValue as signed-enum
 use Rattle.cells.specs.Cell.{unsigned, signed}
 use Rattle.cells.proofs.Fields.{unsigned_fits, signed_fits}
 use Rattle.rows.specs.Row.{block_fields, loop_fields, Verdict, fault, needed, needed_signed, or_missing, turn_of, in_turn, block_cells, block_row, loop_cells, loop_row}
@@ -53,9 +49,6 @@ signed_in e q = q ∙ ap signed e
 abbrev pub NoSignedNumber : SignedValue → Type 0
 NoSignedNumber v = (z : ℤ) → v ≡ Signed z → ⊥
 
-pub no_signed_number : (v : SignedValue) → (tag_of signed-enum.the_type v ≡ 1) ⊎ (tag_of signed-enum.the_type v ≡ 2) → NoSignedNumber v
-no_signed_number v h z q = other_tag (λ (u : SignedValue). tag_of signed-enum.the_type u) v h (Signed z) refl q
-
 module _ {A : Type 0} where
   needed_none : (v : Value) (f : ℕ → Verdict A) → NoNumber v → needed v f ≡ fault 104
   needed_none (Number n) f h = absurd (h n refl)
@@ -68,10 +61,9 @@ module _ {A : Type 0} where
   signed_none BadSigned f h = refl
 
 -- Each way through `or_missing`.
-pub present_is : (v : Value) → (tag_of the_type v ≡ 0) ⊎ (tag_of the_type v ≡ 2) → v ≡ or_missing v
+pub present_is : (v : Value) → (v ≡ Missing → ⊥) → v ≡ or_missing v
 present_is (Number n) h = refl
-present_is Missing (inl e) = absurd (omega arith)
-present_is Missing (inr e) = absurd (omega arith)
+present_is Missing h = absurd (h refl)
 present_is Bad h = refl
 
 pub missing_is : {v : Value} → v ≡ Missing → Number 65535 ≡ or_missing v

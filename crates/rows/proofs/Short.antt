@@ -1,23 +1,23 @@
 -- A block whose fields one scan found and read is the block that its record says.
 -- Assumes nothing.
-use mathlib.Core.Path.{◌≡◌, refl, sym, ap, subst, ◌∙◌}
+use mathlib.Core.Path.{◌≡◌, sym, subst, ◌∙◌}
 use mathlib.Core.Bool.{Bool, true}
 use mathlib.Core.List.{List, [], ◌∷◌}
-use Prim.Native.Nat.{ℕ, ◌+◌, ◌-◌, ◌<◌, ◌≤◌, ◌^◌}
+use Prim.Native.Nat.{ℕ, ◌+◌, ◌-◌, ◌≤◌, ◌^◌}
 use native.Mathlib.Omega.{arith}
 use borrow.Author.Tests.{eq-eqb}
 use lib.ListN.{length, take, drop}
-use Rattle.csv.specs.Grammar.{width, record_of, ends, field, alike}
-use Rattle.csv.specs.declared.Ending.{Ending}
-use Rattle.csv.specs.declared.Found.TheVariants.{Comma, Ends}
-use Rattle.csv.proofs.Reading.{Reads, reads_last, reads_comma}
+use Rattle.csv_text.specs.Grammar.{width, record_of, alike}
+use Rattle.csv_text.specs.declared.Ending.{Ending}
+use Rattle.csv_text.specs.declared.Found.TheVariants.{Comma, Ends}
+use Rattle.csv_text.proofs.Reading.{Reads, reads_last, reads_comma}
 use Rattle.digits.specs.declared.Value.{Value}
 use Rattle.digits.specs.declared.Value.TheVariants.{Number}
 use Rattle.numbers.specs.declared.SignedValue.{SignedValue}
-use Rattle.cells.specs.Cell.{unsigned, signed, cell_at, signed_cell_at}
+use Rattle.cells.specs.Cell.{cell_at, signed_cell_at}
 use Rattle.cells.specs.declared.Cell.{Cell}
 use Rattle.cells.specs.declared.SignedCell.{SignedCell}
-use Rattle.cells.proofs.Short.{CellField, cell_comma, LastField, signed_ends}
+use Rattle.cells.proofs.Short.{cell_comma, signed_ends}
 use Rattle.rows.specs.Row.{block_fields, block_cells, block_row}
 use Rattle.rows.specs.Judge.{field_of, judge_block}
 use Rattle.rows.specs.Place.{block_verdict, block_step, BlockFits, CommaField, CommaAt, FigureField, LastAt, BlockAt, ShortAt}

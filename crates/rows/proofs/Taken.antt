@@ -1,6 +1,6 @@
 -- What is known of a row that is taken: its record is sound and ends as it may, it has a place, and its figure fits its column.
 -- Assumes nothing.
-use mathlib.Core.Path.{◌≡◌, refl, sym}
+use mathlib.Core.Path.{◌≡◌, refl}
 use mathlib.Core.Bool.{Bool, true, false, cond}
 use mathlib.Core.List.{List}
 use Prim.Native.Nat.{ℕ, ◌<◌}
@@ -11,16 +11,14 @@ use lib.Dec.{eqb, ltb}
 use lib.IntN.{ℤ}
 use mir.Syntax.{w64}
 use mir.Val.{SFits}
-use Rattle.csv.specs.Grammar.{Record, alike}
-use Rattle.csv.specs.declared.Ending.{Ending}
+use Rattle.csv_text.specs.Grammar.{Record, alike}
+use Rattle.csv_text.specs.declared.Ending.{Ending}
 use Rattle.digits.specs.declared.Value.{Value}
 use Rattle.digits.specs.declared.Value.TheVariants.{Number, Missing, Bad}
 use Rattle.numbers.specs.declared.SignedValue.{SignedValue}
 use Rattle.numbers.specs.declared.SignedValue.TheVariants.{Number as Signed, Missing as NoSigned, Bad as BadSigned}
 use Rattle.rows.specs.Row.{Verdict, taken, fault, needed, needed_signed, or_missing, turn_of, in_turn, block_fields, block_cells, block_row, loop_fields, loop_cells, loop_row}
 use Rattle.rows.specs.Judge.{field_of, judge, judge_block, judge_loop}
-use Rattle.rows.specs.Place.{BlockFits}
-use Rattle.rows.specs.declared.Turn.{Turn}
 use Rattle.rows.specs.declared.Turn.TheVariants.{Due, Fault}
 use Rattle.rows.specs.declared.BlockRow.{BlockRow}
 use Rattle.rows.specs.declared.LoopRow.{LoopRow}

@@ -1,8 +1,8 @@
 -- What a record says where a row is due: the row, or its first fault, 102 to 106 and then 108. One definition for both tables.
 -- Assumes nothing: these are definitions.
 use Rattle.std.specs.Prelude.{ℕ, Bool, cond, List, [], length, get_or, eqb}
-use Rattle.csv.specs.Grammar.{Record, alike}
-use Rattle.csv.specs.declared.Ending.{Ending}
+use Rattle.csv_text.specs.Grammar.{Record, alike}
+use Rattle.csv_text.specs.declared.Ending.{Ending}
 use Rattle.rows.specs.Row.{Verdict, fault, block_fields, block_cells, block_row, loop_fields, loop_cells, loop_row}
 use Rattle.rows.specs.declared.BlockRow.{BlockRow}
 use Rattle.rows.specs.declared.LoopRow.{LoopRow}

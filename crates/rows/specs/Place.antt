@@ -2,8 +2,8 @@
 use Rattle.std.specs.Prelude.{ℕ, ◌+◌, ◌-◌, ◌≤◌, ◌<◌, ◌≡◌, true, List, length, take, drop, ℤ}
 use Rattle.std.specs.Int.{w64}
 use Rattle.std.proofs.Common.{SFits}
-use Rattle.csv.specs.Grammar.{Record, comma, ends, field, width, record_of, alike}
-use Rattle.csv.specs.declared.Ending.{Ending}
+use Rattle.csv_text.specs.Grammar.{Record, comma, ends, field, width, record_of, alike}
+use Rattle.csv_text.specs.declared.Ending.{Ending}
 use Rattle.digits.specs.declared.Value.{Value}
 use Rattle.digits.specs.declared.Value.TheVariants.{Number}
 use Rattle.digits.specs.Run.{as_value}

@@ -1,13 +1,15 @@
 // What one record says where a row of a table is due: the row, or the number of its first fault.
+#![tactic(auto)]
+
 ghost use Rattle.std.specs.Prelude.{◌≡◌, ◌≤◌, length, drop};
-ghost use Rattle.csv.specs.Grammar.{record_of};
-ghost use Rattle.csv.specs.Place.{field_at};
+ghost use Rattle.csv_text.specs.Grammar.{record_of};
+ghost use Rattle.csv_text.specs.Place.{field_at};
 ghost use Rattle.digits.specs.Run.{as_value};
 ghost use Rattle.cells.specs.Cell.{unsigned, signed};
 ghost use Rattle.rows.specs.Row.{or_missing, turn_of, in_turn, block_cells, block_row, loop_cells, loop_row};
 ghost use Rattle.rows.specs.Place.{block_verdict, block_step, as_loop_cells, loop_verdict, loop_step, BlockFits, LoopFits, CommaAt, LastAt, ShortAt};
 
-use csv::{Ending, Found};
+use csv_text::{Ending, Found};
 use digits::{Value, WideValue};
 use numbers::SignedValue;
 
@@ -17,7 +19,7 @@ pub const BLOCK_FIELDS: usize = 6;
 pub const LOOP_FIELDS: usize = 5;
 
 // What the six fields of a block say. `innermost` is the innermost loop around it.
-#[derive(Drop)]
+#[derive(Clone, Copy)]
 pub struct BlockCells {
     pub number: Value,
     pub cost: Value,
@@ -28,7 +30,7 @@ pub struct BlockCells {
 }
 
 // A row of the block table. A missing successor is 65,535.
-#[derive(Drop)]
+#[derive(Clone, Copy)]
 pub struct BlockRow {
     pub number: u16,
     pub cost: u32,
@@ -39,42 +41,42 @@ pub struct BlockRow {
 }
 
 // What a record says where a block is due: its row, or the number of its first fault.
-#[derive(Drop)]
+#[derive(Clone, Copy)]
 pub enum BlockVerdict {
     Taken(BlockRow),
     Fault(u32),
 }
 
 // The verdict on a record, and where the next record starts.
-#[derive(Drop)]
+#[derive(Clone, Copy)]
 pub struct BlockStep {
     pub verdict: BlockVerdict,
     pub next: usize,
 }
 
 // A field that one scan finds and reads: what it says, and where its comma stands. Other: the record needs the long way.
-#[derive(Drop)]
+#[derive(Clone, Copy)]
 pub enum CommaCell {
     Field(Value, usize),
     Other,
 }
 
 // The last field of a record that ends as it may, that one scan finds and reads: what it says, and where the next record starts.
-#[derive(Drop)]
+#[derive(Clone, Copy)]
 pub enum LastCell {
     Field(SignedValue, usize),
     Other,
 }
 
 // The cells of a block that the short way can read, and where the next record starts. Other: the record needs the long way.
-#[derive(Drop)]
+#[derive(Clone, Copy)]
 pub enum ShortBlock {
     Cells(BlockCells, usize),
     Other,
 }
 
 // What the five fields of a loop say. Only a multiplier may need 64 bits.
-#[derive(Drop)]
+#[derive(Clone, Copy)]
 pub struct LoopValues {
     pub number: Value,
     pub parent: Value,
@@ -84,7 +86,7 @@ pub struct LoopValues {
 }
 
 // The same for contracts alone, where a number has no width. In the code a multiplier does not fit a `Value`.
-#[derive(Drop)]
+#[derive(Clone, Copy)]
 pub struct LoopCells {
     pub number: Value,
     pub parent: Value,
@@ -94,7 +96,7 @@ pub struct LoopCells {
 }
 
 // A row of the loop table.
-#[derive(Drop)]
+#[derive(Clone, Copy)]
 pub struct LoopRow {
     pub number: u16,
     pub parent: u16,
@@ -104,21 +106,21 @@ pub struct LoopRow {
 }
 
 // What a record says where a loop is due.
-#[derive(Drop)]
+#[derive(Clone, Copy)]
 pub enum LoopVerdict {
     Taken(LoopRow),
     Fault(u32),
 }
 
 // The verdict on a record, and where the next record starts.
-#[derive(Drop)]
+#[derive(Clone, Copy)]
 pub struct LoopStep {
     pub verdict: LoopVerdict,
     pub next: usize,
 }
 
 // Whether a row is due, has a place and may end as it does, or the number of its fault.
-#[derive(Drop)]
+#[derive(Clone, Copy)]
 pub enum Turn {
     Due,
     Fault(u32),
@@ -126,35 +128,35 @@ pub enum Turn {
 
 // ---- one field
 
-// What field i of a record says, by width. The bounds are those that `csv::scan_record` noted.
+// What field i of a record says, by width. The bounds are those that `csv_text::scan_record` noted.
 fn u16_in(text: &[u8], starts: &[usize; 8], ends: &[usize; 8], i: usize) -> Value
     ensures { result ≡ unsigned 65535 (field_at text.now starts.now ends.now i) }
 {
-    cells::u16_of(csv::find_field(text, starts, ends, i))
+    cells::u16_of(csv_text::find_field(text, starts, ends, i))
 }
 
 fn u32_in(text: &[u8], starts: &[usize; 8], ends: &[usize; 8], i: usize) -> Value
     ensures { result ≡ unsigned 4294967295 (field_at text.now starts.now ends.now i) }
 {
-    cells::u32_of(csv::find_field(text, starts, ends, i))
+    cells::u32_of(csv_text::find_field(text, starts, ends, i))
 }
 
 fn u64_in(text: &[u8], starts: &[usize; 8], ends: &[usize; 8], i: usize) -> WideValue
     ensures { as_value result ≡ unsigned 18446744073709551615 (field_at text.now starts.now ends.now i) }
 {
-    cells::u64_of(csv::find_field(text, starts, ends, i))
+    cells::u64_of(csv_text::find_field(text, starts, ends, i))
 }
 
 fn i64_in(text: &[u8], starts: &[usize; 8], ends: &[usize; 8], i: usize) -> SignedValue
     ensures { result ≡ signed (field_at text.now starts.now ends.now i) }
 {
-    cells::i64_of(csv::find_field(text, starts, ends, i))
+    cells::i64_of(csv_text::find_field(text, starts, ends, i))
 }
 
 fn successor_in(text: &[u8], starts: &[usize; 8], ends: &[usize; 8], i: usize) -> Value
     ensures { result ≡ unsigned 65534 (field_at text.now starts.now ends.now i) }
 {
-    cells::successor_of(csv::find_field(text, starts, ends, i))
+    cells::successor_of(csv_text::find_field(text, starts, ends, i))
 }
 
 // A missing successor is 65,535.
@@ -307,7 +309,7 @@ fn loop_values(text: &[u8], starts: &[usize; 8], ends: &[usize; 8]) -> LoopValue
 fn scanned_block(text: &[u8], at: usize, k: usize, room: usize, ending: Ending) -> BlockStep
     ensures { result ≡ block_step room ending k at (record_of (drop at text.now)) }
 {
-    let split = csv::scan_record(text, at);
+    let split = csv_text::scan_record(text, at);
     let next = split.next;
     if split.sound {
         if split.count != BLOCK_FIELDS {
@@ -318,7 +320,7 @@ fn scanned_block(text: &[u8], at: usize, k: usize, room: usize, ending: Ending) 
         let ends = split.ends;
         let cells = block_cells(text, &starts, &ends);
         let own = split.ending;
-        let alike = csv::ends_alike(ending, own);
+        let alike = csv_text::ends_alike(ending, own);
         let verdict = block_row(cells, k, room, alike);
         return BlockStep { verdict, next };
     }
@@ -330,7 +332,7 @@ fn scanned_block(text: &[u8], at: usize, k: usize, room: usize, ending: Ending) 
 pub fn loop_at(text: &[u8], at: usize, k: usize, room: usize, ending: Ending) -> LoopStep
     ensures { result ≡ loop_step room ending k at (record_of (drop at text.now)) }
 {
-    let split = csv::scan_record(text, at);
+    let split = csv_text::scan_record(text, at);
     let next = split.next;
     if split.sound {
         if split.count != LOOP_FIELDS {
@@ -341,7 +343,7 @@ pub fn loop_at(text: &[u8], at: usize, k: usize, room: usize, ending: Ending) ->
         let ends = split.ends;
         let values = loop_values(text, &starts, &ends);
         let own = split.ending;
-        let alike = csv::ends_alike(ending, own);
+        let alike = csv_text::ends_alike(ending, own);
         let verdict = loop_row(values, k, room, alike);
         return LoopStep { verdict, next };
     }
@@ -388,8 +390,8 @@ fn last_cell(text: &[u8], at: usize, ending: Ending) -> LastCell
     let Found::Ends(own, end) = found else {
         return LastCell::Other;
     };
-    if csv::ends_alike(ending, own) {
-        return LastCell::Field(value, end + csv::width_of(own));
+    if csv_text::ends_alike(ending, own) {
+        return LastCell::Field(value, end + csv_text::width_of(own));
     }
     LastCell::Other
 }
