@@ -2,14 +2,13 @@
 -- Assumes nothing.
 use mathlib.Core.Path.{◌≡◌, refl, sym, ap, ◌∙◌}
 use mathlib.Core.List.{List, [], ◌∷◌, ◌++◌, map}
-use Prim.Native.Nat.{ℕ, suc, ◌+◌, ◌-◌, ◌<◌, ◌≤◌}
+use Prim.Native.Nat.{ℕ, suc, ◌+◌, ◌<◌, ◌≤◌}
 use native.Mathlib.Nat.{zero-add}
 use native.Mathlib.Numerals.{add-one}
 use native.Mathlib.Omega.{arith}
 use lib.ListN.{length, take, drop, set, get_or, length-map, drop_of_length-le}
 use lib.Seq.{sets, sets-eq, length-sets, drop-cons, length-take-le, get_or-take, take-append_seam}
-use Rattle.rows.specs.Row.{taken}
-use Rattle.tables.specs.Table.{End, all, refused, Reading, reading}
+use Rattle.tables.specs.Table.{End, all, refused, Reading}
 use Rattle.tables.specs.Columns.{reply_by, reply_of, accepted_by, accepted, over}
 use Rattle.tables.specs.Place.{stores, Gathered, gathered, leaving, row_count}
 use Rattle.tables.specs.declared.ReadReply.{ReadReply}

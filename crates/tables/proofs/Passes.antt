@@ -1,8 +1,8 @@
 -- The pass over the records, one turn at a time, over rows and columns of any kind.
 -- Assumes nothing.
-use mathlib.Core.Path.{◌≡◌, refl, sym, ap, ◌∙◌}
+use mathlib.Core.Path.{◌≡◌, sym, ap, ◌∙◌}
 use mathlib.Core.Bool.{true}
-use mathlib.Core.List.{List, [], ◌∷◌}
+use mathlib.Core.List.{List, ◌∷◌}
 use Prim.Native.Nat.{ℕ, suc, ◌+◌, ◌-◌, ◌<◌, ◌≤◌}
 use native.Mathlib.Nat.{add-zero}
 use native.Mathlib.Numerals.{add-one}
@@ -12,10 +12,10 @@ use lib.Seq.{drop-drop}
 use mir.Syntax.{w64}
 use mir.Val.{to_z, of_z}
 use mir.Facts.{to_z-of_z}
-use Rattle.csv.specs.Grammar as grammar
-use Rattle.csv.specs.Grammar.{Record, record_of, records, alike}
-use Rattle.csv.specs.declared.Ending.{Ending}
-use Rattle.csv.proofs.Records.{Spans, record_spans, records_none, records_step}
+use Rattle.csv_text.specs.Grammar as grammar
+use Rattle.csv_text.specs.Grammar.{Record, record_of, records, alike}
+use Rattle.csv_text.specs.declared.Ending.{Ending}
+use Rattle.csv_text.proofs.Records.{Spans, record_spans, records_none, records_step}
 use Rattle.rows.specs.Row.{Verdict, taken, fault}
 use Rattle.tables.specs.Table.{End, reading_after, reading}
 use Rattle.rows.specs.Judge.{judge_block, judge_loop}

@@ -8,8 +8,8 @@ use native.Mathlib.Omega.{arith}
 use lib.ListN.{length}
 use lib.Dec.{leb, eqb}
 use Rattle.limits.specs.Limits.{most_text_bytes}
-use Rattle.csv.specs.Grammar.{Record, records, first_ending}
-use Rattle.csv.specs.declared.Ending.{Ending}
+use Rattle.csv_text.specs.Grammar.{Record, records, first_ending}
+use Rattle.csv_text.specs.declared.Ending.{Ending}
 use Rattle.rows.specs.Row.{Verdict, taken, fault}
 use Rattle.tables.specs.Table.{refused, Reading, stopped, reading_after, reading, after_header_row, table_of}
 

@@ -10,12 +10,12 @@ use borrow.Author.Tests.{eq-eqb, ne_eqb, le-leb, lt-leb}
 use lib.ListN.{length, drop}
 use lib.Dec.{leb, eqb}
 use Rattle.limits.specs.Limits.{most_text_bytes}
-use Rattle.csv.specs.Grammar as grammar
-use Rattle.csv.specs.Grammar.{Record, record_of, records, first_ending}
-use Rattle.csv.specs.declared.Ending.{Ending}
-use Rattle.csv.specs.Place.{split_of, no_places}
-use Rattle.csv.specs.declared.Split.{Split}
-use Rattle.csv.proofs.Records.{Spans, record_spans, records_none, records_step}
+use Rattle.csv_text.specs.Grammar as grammar
+use Rattle.csv_text.specs.Grammar.{Record, record_of, records, first_ending}
+use Rattle.csv_text.specs.declared.Ending.{Ending}
+use Rattle.csv_text.specs.Place.{split_of, no_places}
+use Rattle.csv_text.specs.declared.Split.{Split}
+use Rattle.csv_text.proofs.Records.{record_spans, records_none, records_step}
 use Rattle.rows.specs.Row.{Verdict}
 use Rattle.tables.specs.Table.{Reading, stopped, reading, after_header_row, table_of}
 use Rattle.tables.specs.Place.{start_after, start_of, stores, Gathered, gathered, leaving}

@@ -9,10 +9,10 @@ use borrow.Author.Tests.{le-leb}
 use lib.ListN.{length}
 use lib.Dec.{eqb, leb}
 use Rattle.limits.specs.Limits.{most_blocks, most_loops, most_text_bytes}
-use Rattle.csv.specs.Grammar.{Record, records, first_ending, alike}
-use Rattle.csv.specs.declared.Ending.{Ending}
-use Rattle.csv.specs.Write.{Line, LineEnd, write, Allowed, records_as, SoundAlike, Written}
-use Rattle.csv.proofs.Inverse.{alike_same, read_back, write_again}
+use Rattle.csv_text.specs.Grammar.{Record, records, first_ending, alike}
+use Rattle.csv_text.specs.declared.Ending.{Ending}
+use Rattle.csv_text.specs.Write.{Line, LineEnd, write, Allowed, records_as, SoundAlike, Written}
+use Rattle.csv_text.proofs.Inverse.{alike_same, read_back, write_again}
 use Rattle.rows.specs.Row.{block_fields, loop_fields, Verdict, taken, fault}
 use Rattle.rows.specs.Judge.{judge_block, judge_loop}
 use Rattle.rows.proofs.Taken.{block_taken, loop_taken}

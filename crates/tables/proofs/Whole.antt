@@ -6,7 +6,6 @@ use mathlib.Core.List.{List}
 use Prim.Native.Nat.{ℕ, ◌+◌, ◌≤◌, min}
 use native.Mathlib.Omega.{arith}
 use lib.ListN.{length, take}
-use lib.IntN.{ℤ}
 use Rattle.limits.specs.Limits.{most_blocks, most_loops}
 use Rattle.rows.specs.Row.{block_fields, loop_fields, cost_of, innermost_of, first_of, second_of, figure_of, parent_of, loop_header_of, limit_of, multiplier_of}
 use Rattle.rows.specs.Judge.{judge_block, judge_loop}

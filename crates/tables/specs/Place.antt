@@ -1,7 +1,7 @@
 -- What the functions under the two readers answer, by the definitions of Table.
 use Rattle.std.specs.Prelude.{ℕ, suc, ◌+◌, Bool, cond, List, [], ◌∷◌, length, set, leb, eqb}
 use Rattle.limits.specs.Limits.{most_text_bytes}
-use Rattle.csv.specs.Grammar.{Record, records, first_ending}
+use Rattle.csv_text.specs.Grammar.{Record, records, first_ending}
 use Rattle.rows.specs.declared.BlockRow.{BlockRow}
 use Rattle.rows.specs.declared.LoopRow.{LoopRow}
 use Rattle.tables.specs.Table.{Reading}

@@ -3,8 +3,8 @@
 -- Assumes nothing: these are definitions.
 use Rattle.std.specs.Prelude.{ℕ, suc, ◌+◌, min, Bool, cond, List, [], ◌∷◌, length, leb, eqb}
 use Rattle.limits.specs.Limits.{most_blocks, most_loops, most_text_bytes}
-use Rattle.csv.specs.Grammar.{Record, records, first_ending}
-use Rattle.csv.specs.declared.Ending.{Ending}
+use Rattle.csv_text.specs.Grammar.{Record, records, first_ending}
+use Rattle.csv_text.specs.declared.Ending.{Ending}
 use Rattle.rows.specs.Row.{Verdict, taken, fault, block_fields, loop_fields}
 use Rattle.rows.specs.Judge.{judge_block, judge_loop}
 use Rattle.rows.specs.declared.BlockRow.{BlockRow}

@@ -1,27 +1,29 @@
 // The two tables of a routine, read from comma-separated text into lent columns. Rows wait in columns on the stack until the whole text is
 // accepted.
+#![tactic(auto)]
+
 ghost use Rattle.std.specs.Prelude.{◌≡◌, ◌≤◌, min, length, take, drop};
 ghost use Rattle.limits.specs.Limits.{most_blocks, most_loops};
-ghost use Rattle.csv.specs.Grammar.{records};
+ghost use Rattle.csv_text.specs.Grammar.{records};
 ghost use Rattle.rows.specs.Judge.{judge_block, judge_loop};
 ghost use Rattle.tables.specs.Table.{reading, table_of};
 ghost use Rattle.rows.specs.Row.{block_fields, loop_fields};
 ghost use Rattle.tables.specs.Columns.{over, blocks, loops, BlocksRead, LoopsRead};
 ghost use Rattle.tables.specs.Place.{start_after, start_of, store_block, store_loop, gathered, leaving, row_count};
 
-use csv::Ending;
+use csv_text::Ending;
 use limits::{MOST_BLOCKS, MOST_LOOPS, MOST_TEXT_BYTES};
 use rows::{BLOCK_FIELDS, BlockVerdict, LOOP_FIELDS, LoopVerdict};
 
 // The reply of a reader: the count of rows and how the first record ends, or the number of a refusal and its place, a record (0 for 101).
-#[derive(Drop)]
+#[derive(Clone, Copy)]
 pub enum ReadReply {
     Rows { count: usize, ending: Ending },
     Refused { number: u32, record: usize },
 }
 
 // Where the rows of a text start, in which record, and how the first record ends; or a refusal before the first row.
-#[derive(Drop)]
+#[derive(Clone, Copy)]
 pub enum Start {
     At {
         at: usize,
@@ -46,7 +48,7 @@ fn header_start(text: &[u8], count: usize) -> Start
             record: 1,
         };
     }
-    let split = csv::scan_record(text, 0);
+    let split = csv_text::scan_record(text, 0);
     if split.sound {
         if split.count != count {
             return Start::Refused {
@@ -80,7 +82,7 @@ fn start_of(text: &[u8], header_row: bool, count: usize) -> Start
     if header_row {
         return header_start(text, count);
     }
-    let ending = csv::first_ending(text);
+    let ending = csv_text::first_ending(text);
     Start::At {
         at: 0,
         record: 1,
