@@ -12,7 +12,7 @@ use native.Mathlib.Omega.{arith}
 use lib.Dec.{eqb, ltb}
 use borrow.Author.Tests.{eqb-true, eqb-false, le-ltb, not-true}
 use lib.IntN.{pos}
-use Rattle.lists.specs.Search.{if◌then◌else◌}
+use Rattle.lists.specs.Search.{when◌then◌else◌}
 use Rattle.lists.proofs.Tests.{and-true, both}
 use Rattle.lists.proofs.Search.{any_none}
 use Rattle.integers.proofs.Laws.{ints}
@@ -79,7 +79,7 @@ module _ (t : Routine) (N : Nested t) (M : LocallyMade t) (K : Ranked t) where
         bk : k < loop_count t
         bk = target_loop t N x v bx e
 
-        go : (h : Bool) → is_header t v ≡ h → Hop t l x v (if h then cost t v + multiplier t k * (limit t k - 1) else cost t v)
+        go : (h : Bool) → is_header t v ≡ h → Hop t l x v (when h then cost t v + multiplier t k * (limit t k - 1) else cost t v)
         go false h = (v ∷ [], one_edge t N l x v bl bx ix iv e r, omega arith)
         go true h =
             let q : header t k ≡ v = eqb-true (header t k) v h in
@@ -128,7 +128,7 @@ keeps_inner_lem t l (u ∷ w) s v k h =
     let p : (not (passes_limit t s) ≡ true) × (keeps_limits t (next t s u) w ≡ true) = and-true _ _ k in
     both (kept_inner t l s (λ j b ne. limits_kept t s (not-true _ p.0) j b)) (keeps_inner_lem t l w (next t s u) v p.1 h)
 
-at_most_once : (b : Bool) (n : ℕ) → 1 ≤ n → (if b then 1 else 0) ≤ n
+at_most_once : (b : Bool) (n : ℕ) → 1 ≤ n → (when b then 1 else 0) ≤ n
 at_most_once true n h = h
 at_most_once false n h = omega arith
 

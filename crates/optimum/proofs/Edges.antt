@@ -8,7 +8,7 @@ use borrow.Author.Tests.{eq-eqb}
 use lib.IntN.{ℤ, pos, ◌+ℤ◌, ◌-ℤ◌}
 use lib.ListN.{get_or}
 use lib.Signed.{◌≤ℤ◌}
-use Rattle.lists.specs.Search.{if◌then◌else◌}
+use Rattle.lists.specs.Search.{when◌then◌else◌}
 use Rattle.integers.proofs.Laws.{ints, sum, diff}
 use Rattle.wcet.specs.Table.{Routine, block_count, exit, cost, loop_of, figure, header, multiplier, some_edge, edge, inside}
 use Rattle.wcet.specs.Cycles.{back_edge, undeclared_loop}
@@ -25,7 +25,7 @@ use Rattle.optimum.proofs.Remade.{remade_nested, remade_local}
 -- what the edge from x to v asks of x's figure, by the remade columns
 unfoldable pub asks : Routine → ℕ → ℕ → ℤ
 asks t x v =
-    if back_edge t x v
+    when back_edge t x v
     then (pos (cost t v) -ℤ pos (get_or (remade_multipliers t) (loop_of t v) 0)) +ℤ get_or (remade_figures t) v (pos 0)
     else pos (weight (remultiplied t) v) +ℤ get_or (remade_figures t) v (pos 0)
 
@@ -33,7 +33,7 @@ asks t x v =
 
 -- the same by t's own columns, given whether the edge is a back edge
 abbrev own_asks : Routine → Bool → ℕ → ℤ
-own_asks t r v = if r then (pos (cost t v) -ℤ pos (multiplier t (loop_of t v))) +ℤ figure t v else pos (weight t v) +ℤ figure t v
+own_asks t r v = when r then (pos (cost t v) -ℤ pos (multiplier t (loop_of t v))) +ℤ figure t v else pos (weight t v) +ℤ figure t v
 
 module _ (t : Routine) (N : Nested t) (L : LocallyMade t) where
   open L use {tail, tails, to_exit, by_back_edge, from}

@@ -12,7 +12,7 @@ use borrow.Author.Tests.{eq-eqb, ne_eqb}
 use lib.IntN.{pos, ◌+ℤ◌, ◌-ℤ◌}
 use lib.ListN.{length, get_or}
 use lib.Signed.{◌≤ℤ◌}
-use Rattle.lists.specs.Search.{if◌then◌else◌}
+use Rattle.lists.specs.Search.{when◌then◌else◌}
 use Rattle.lists.proofs.Tests.{and-true}
 use Rattle.wcet.specs.Table.{Routine, block_count, loop_count, exit, cost, loop_of, header, multiplier, edge, inside}
 use Rattle.wcet.specs.Run.{path}
@@ -94,7 +94,7 @@ module _ (t : Routine) (N : Nested t) (tail : (l x : ℕ) → Option ℕ) (E : T
   module _ (K : Ranked t) where
     -- by a tail, where there is a path from where it leads
     tail_path : (l x k : ℕ) → l < loop_count t → x < block_count t → inside t x l ≡ true → tail l x ≡ some k
-        → PathToExit t (if eqb l 0 then exit t else header t l) → PathToExit t x
+        → PathToExit t (when eqb l 0 then exit t else header t l) → PathToExit t x
     tail_path l x k m b i e p =
         along_paths t N K tail E l m (λ x k. PathToExit t x)
         (λ x b i z q. rw q (exit_path t))

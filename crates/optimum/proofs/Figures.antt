@@ -13,7 +13,7 @@ use borrow.Author.Tests.{eq-eqb, ne_eqb}
 use lib.IntN.{ℤ, pos, ◌+ℤ◌, ◌-ℤ◌, ◌*ℤ◌}
 use lib.ListN.{get_or}
 use lib.Signed.{le_z, ◌≤ℤ◌}
-use Rattle.lists.specs.Search.{if◌then◌else◌}
+use Rattle.lists.specs.Search.{when◌then◌else◌}
 use Rattle.integers.proofs.Laws.{ints, sum, diff, le_z_le}
 use Rattle.wcet.specs.Table.{Routine, block_count, loop_count, exit, cost, loop_of, figure, header, limit, multiplier, some_edge, edge, inside, is_header}
 use Rattle.wcet.specs.Rules.{inequality, edge_holds}
@@ -39,8 +39,8 @@ module _ (t : Routine) (u : ℕ) where
       less = omega (ints, diff (pos (limit t l)) (pos 1))
 
       go : (h i : Bool) (c : ℕ) (d : ℤ) → (h && i) ≡ false
-          → (if not h then le_z (pos c) d else if i then le_z (pos c) (d +ℤ pos (multiplier t l)) else le_z (pos c +ℤ pos (multiplier t l) *ℤ (pos (limit t l) -ℤ pos 1)) d)
-          ≡ le_z (pos (if h then c + multiplier t l * (limit t l - 1) else c)) d
+          → (when not h then le_z (pos c) d else when i then le_z (pos c) (d +ℤ pos (multiplier t l)) else le_z (pos c +ℤ pos (multiplier t l) *ℤ (pos (limit t l) -ℤ pos 1)) d)
+          ≡ le_z (pos (when h then c + multiplier t l * (limit t l - 1) else c)) d
       go false i c d r = refl
       go true true c d r = absurd (true≢false r)
       go true false c d r = rw less
@@ -146,7 +146,7 @@ module _ (t : Routine) (N : Nested t) (fs : List ℤ) (F : Feasible (with_column
 
     -- where a tail of loop l leads: to the exit's 0, or to the figure of l's header, less l's multiplier
     abbrev beyond : ℕ → ℤ
-    beyond l = if eqb l 0 then pos 0 else other (header t l) -ℤ pos (multiplier t l)
+    beyond l = when eqb l 0 then pos 0 else other (header t l) -ℤ pos (multiplier t l)
 
     -- the figures fall along a path by its weight
     tail_least : (l x k : ℕ) → l < loop_count t → x < block_count t → inside t x l ≡ true → tail l x ≡ some k → (pos k +ℤ beyond l) ≤ℤ other x

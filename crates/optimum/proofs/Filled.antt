@@ -12,7 +12,7 @@ use lib.Dec.{eqb}
 use borrow.Author.Tests.{eqb-true, eqb-false, eq-eqb, ne_eqb}
 use lib.IntN.{ℤ, pos, ◌+ℤ◌, ◌-ℤ◌}
 use lib.Signed.{lt_z, ◌≤ℤ◌}
-use Rattle.lists.specs.Search.{if◌then◌else◌}
+use Rattle.lists.specs.Search.{when◌then◌else◌}
 use Rattle.integers.proofs.Laws.{ints, sum, diff}
 use Rattle.wcet.specs.Table.{Routine, block_count, loop_count, figure, header, multiplier, inside}
 use Rattle.wcet.proofs.Nesting.{Nested}
@@ -43,7 +43,7 @@ module _ (t : Routine) (tail : (l x : ℕ) → Option ℕ) where
   turn_gives l x f e = go (inside t x l) (eqb l 0) (eqb x (header t l)) (tail l x) (figure_by t tail l (header t l)) refl refl refl refl refl e
     where
       go : (i z h : Bool) (o : Option ℕ) (p : Option ℤ) → inside t x l ≡ i → eqb l 0 ≡ z → eqb x (header t l) ≡ h → tail l x ≡ o → figure_by t tail l (header t l) ≡ p
-          → (if not i then none else if z then from_exit o else if h then none else from_header (multiplier t l) o p) ≡ some f → Gives l x f
+          → (when not i then none else when z then from_exit o else when h then none else from_header (multiplier t l) o p) ≡ some f → Gives l x f
       go false z h o p ei ez eh eo ep e = none_some e
       go true true h none p ei ez eh eo ep e = none_some e
       go true true h (some k) p ei ez eh eo ep e = let q : l ≡ 0 = eqb-true l 0 ez in to_exit k q (rw q at eo) (sym (some_same e))

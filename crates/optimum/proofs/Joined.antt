@@ -7,7 +7,7 @@ use native.Mathlib.Omega.{arith}
 use lib.Dec.{eqb}
 use borrow.Author.Tests.{eqb-false}
 use lib.ListN.{length, get_or}
-use Rattle.lists.specs.Search.{if◌then◌else◌}
+use Rattle.lists.specs.Search.{when◌then◌else◌}
 use Rattle.lists.proofs.Tests.{and-true, both}
 use Rattle.wcet.specs.Table.{Routine, edge}
 use Rattle.wcet.specs.Run.{path, run_cost, State, next, after, passes_limit, keeps_limits}
@@ -37,7 +37,7 @@ pub not_first : (h v : ℕ) (w : List ℕ) → visits h (v ∷ w) ≡ 0 → (v �
 unfolding visits
 not_first h v w e = go (eqb h v) refl e
   where
-    go : (x : Bool) → eqb h v ≡ x → (if x then 1 else 0) + visits h w ≡ 0 → (v ≡ h → ⊥) × (visits h w ≡ 0)
+    go : (x : Bool) → eqb h v ≡ x → (when x then 1 else 0) + visits h w ≡ 0 → (v ≡ h → ⊥) × (visits h w ≡ 0)
     go true x e = absurd (omega arith)
     go false x e = (λ q. eqb-false h v x (sym q), omega arith)
 

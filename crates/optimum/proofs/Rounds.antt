@@ -15,7 +15,7 @@ use lib.Dec.{eqb, ltb}
 use borrow.Author.Tests.{eqb-true, ltb-false, ne_eqb, not-true}
 use lib.IntN.{ℤ, pos, ◌+ℤ◌, ◌-ℤ◌, +ℤ_idr, zero-*ℤ}
 use lib.Signed.{◌≤ℤ◌}
-use Rattle.lists.specs.Search.{if◌then◌else◌}
+use Rattle.lists.specs.Search.{when◌then◌else◌}
 use Rattle.lists.proofs.Tests.{and-true}
 use Rattle.lists.proofs.Search.{none_of}
 use Rattle.integers.proofs.Laws.{ints, sum, diff, le_z_le}
@@ -45,7 +45,7 @@ use Rattle.optimum.proofs.Figures.{back_test, feasible}
 
 -- the tables' own certificate, without the multipliers of loop l and of the loops around it
 abbrev without : Routine → ℕ → Certificate
-without t l = record { figure = figure t; multiplier = λ k. if inside t (header t l) k then 0 else multiplier t k; visits = limit t }
+without t l = record { figure = figure t; multiplier = λ k. when inside t (header t l) k then 0 else multiplier t k; visits = limit t }
 
 -- no loop but l is over its limit
 abbrev pub InnerKept : Routine → ℕ → State → Type 0
@@ -71,7 +71,7 @@ module _ (t : Routine) (N : Nested t) (F : Feasible t) (l : ℕ) (m : l < loop_c
   start_potential =
       rw (sum_zero (loop_count t) (term t (without t l) h (round_start t l).count) (λ k b. go (inside t h k) k ((round_start t l).count k))) (+ℤ_idr (figure t h))
     where
-      go : (x : Bool) (k c : ℕ) → (if x then remaining (if x then 0 else multiplier t k) (limit t k) c else pos 0) ≡ pos 0
+      go : (x : Bool) (k c : ℕ) → (when x then remaining (when x then 0 else multiplier t k) (limit t k) c else pos 0) ≡ pos 0
       go true k c = zero-*ℤ (pos (limit t k) -ℤ pos c)
       go false k c = refl
 

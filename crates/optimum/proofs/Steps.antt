@@ -11,7 +11,7 @@ use lib.Dec.{eqb}
 use borrow.Author.Tests.{eqb-true}
 use lib.IntN.{ℤ}
 use lib.ListN.{get_or}
-use Rattle.lists.specs.Search.{if◌then◌else◌}
+use Rattle.lists.specs.Search.{when◌then◌else◌}
 use Rattle.wcet.specs.Table.{Routine, block_count, loop_count, missing, cost, loop_of, first, second, header, limit, multiplier, edge, inside, is_header}
 use Rattle.wcet.specs.Cycles.{back_edge, forward_edge}
 use Rattle.wcet.proofs.Nesting.{Nested, first_edge, second_edge}
@@ -32,8 +32,8 @@ module _ (t : Routine) (fs : List ℤ) (ks : List ℕ) (l x : ℕ) (f g : ℕ �
   via_same v e = go (eqb v missing) (inside t v l) (back_edge t x v) e refl refl
     where
       go : (m i r : Bool) → (m ≡ false → edge t x v ≡ true) → inside t v l ≡ i → back_edge t x v ≡ r
-          → (if m then none else if not i then none else if r then (if not (eqb l 0) && eqb v (header t l) then some (cost t v) else none) else more (weight t v) (f v))
-          ≡ (if m then none else if not i then none else if r then (if not (eqb l 0) && eqb v (header t l) then some (cost t v) else none) else more (weight (with_columns t fs ks) v) (g v))
+          → (when m then none else when not i then none else when r then (when not (eqb l 0) && eqb v (header t l) then some (cost t v) else none) else more (weight t v) (f v))
+          ≡ (when m then none else when not i then none else when r then (when not (eqb l 0) && eqb v (header t l) then some (cost t v) else none) else more (weight (with_columns t fs ks) v) (g v))
       go true i r e p q = refl
       go false false r e p q = refl
       go false true true e p q = refl
@@ -64,7 +64,7 @@ module _ (t : Routine) (N : Nested t) (l : ℕ) where
         k = loop_of t v
 
         go : (h : Bool) → is_header t v ≡ h
-            → (if h then cost t v + multiplier t k * (limit t k - 1) else cost t v) ≡ (if h then cost t v + get_or ks k 0 * (limit t k - 1) else cost t v)
+            → (when h then cost t v + multiplier t k * (limit t k - 1) else cost t v) ≡ (when h then cost t v + get_or ks k 0 * (limit t k - 1) else cost t v)
         go true h =
             let a : l < k = enters_above t N x v b e l m i j h r in
             rw (inner k (target_loop t N x v b e) (rw (eqb-true (header t k) v h) j) (λ q. omega arith))

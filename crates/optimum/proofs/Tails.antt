@@ -8,7 +8,7 @@ use Prim.Native.Nat.{ℕ, zero, suc, ◌+◌, ◌≤◌, ◌<◌}
 use native.Mathlib.Omega.{arith}
 use lib.Dec.{eqb, ltb}
 use borrow.Author.Tests.{eqb-true, eqb-false, ltb-true, ltb-false, eq-eqb, ne_eqb}
-use Rattle.lists.specs.Search.{if◌then◌else◌}
+use Rattle.lists.specs.Search.{when◌then◌else◌}
 use Rattle.lists.proofs.Tests.{neither, and-true}
 use Rattle.wcet.specs.Table.{Routine, block_count, loop_count, exit, missing, cost, first, second, header, some_edge, edge, inside}
 use Rattle.wcet.specs.Cycles.{back_edge, forward_edge}
@@ -47,7 +47,7 @@ module _ {A : Type 0} (less : A → A → Bool) where
   best_one (some b) none a e = inl e
   best_one (some b) (some c) a e = go (less b c) e
     where
-      go : (x : Bool) → (if x then some c else some b) ≡ some a → (some b ≡ some a) ⊎ (some c ≡ some a)
+      go : (x : Bool) → (when x then some c else some b) ≡ some a → (some b ≡ some a) ⊎ (some c ≡ some a)
       go true e = inr e
       go false e = inl e
 
@@ -57,7 +57,7 @@ module _ {A : Type 0} (less : A → A → Bool) where
     best_left a none = (a, refl, O.same a)
     best_left a (some b) = go (less a b) refl
       where
-        go : (x : Bool) → less a b ≡ x → AtLeast R (if x then some b else some a) a
+        go : (x : Bool) → less a b ≡ x → AtLeast R (when x then some b else some a) a
         go true e = (b, refl, O.is_less a b e)
         go false e = (a, refl, O.same a)
 
@@ -66,7 +66,7 @@ module _ {A : Type 0} (less : A → A → Bool) where
     best_right none b = (b, refl, O.same b)
     best_right (some a) b = go (less a b) refl
       where
-        go : (x : Bool) → less a b ≡ x → AtLeast R (if x then some b else some a) b
+        go : (x : Bool) → less a b ≡ x → AtLeast R (when x then some b else some a) b
         go true e = (b, refl, O.same b)
         go false e = (a, refl, O.not_less a b e)
 
@@ -86,7 +86,7 @@ module _ (t : Routine) (l : ℕ) (tail : ℕ → Option ℕ) (x c : ℕ) where
     where
       go : (m i r z h : Bool) (o : Option ℕ) → (m ≡ false → edge t x v ≡ true) → inside t v l ≡ i → back_edge t x v ≡ r → eqb l 0 ≡ z
           → eqb v (header t l) ≡ h → tail v ≡ o
-          → (if m then none else if not i then none else if r then (if not z && h then some (cost t v) else none) else more (weight t v) o) ≡ some c
+          → (when m then none else when not i then none else when r then (when not z && h then some (cost t v) else none) else more (weight t v) o) ≡ some c
           → Comes t l tail x c
       go true i r z h o e ei er ez eh eo q = none_some q
       go false false r z h o e ei er ez eh eo q = none_some q
@@ -102,7 +102,7 @@ module _ (t : Routine) (l : ℕ) (tail : ℕ → Option ℕ) (x c : ℕ) where
   unfolding tail_at
   comes = go (eqb l 0 && eqb x (exit t)) refl
     where
-      go : (b : Bool) → (eqb l 0 && eqb x (exit t)) ≡ b → (if b then some 0 else best ltb (via t l tail x (first t x)) (via t l tail x (second t x))) ≡ some c
+      go : (b : Bool) → (eqb l 0 && eqb x (exit t)) ≡ b → (when b then some 0 else best ltb (via t l tail x (first t x)) (via t l tail x (second t x))) ≡ some c
           → Comes t l tail x c
       go true b q =
           let p : (eqb l 0 ≡ true) × (eqb x (exit t) ≡ true) = and-true _ _ b in
@@ -152,7 +152,7 @@ module _ (t : Routine) (N : Nested t) (tail : (l x : ℕ) → Option ℕ) (E : T
   unfolding tail_at
   edge_tail l u v k m b i e g = rw (E l u m b i) (go (eqb u (exit t)) refl)
     where
-      go : (x : Bool) → eqb u (exit t) ≡ x → AtLeast ◌≤◌ (if eqb l 0 && x then some 0 else best ltb (via t l (tail l) u (first t u)) (via t l (tail l) u (second t u))) k
+      go : (x : Bool) → eqb u (exit t) ≡ x → AtLeast ◌≤◌ (when eqb l 0 && x then some 0 else best ltb (via t l (tail l) u (first t u)) (via t l (tail l) u (second t u))) k
       go true x = absurd (N.exit_ends v (rw (eqb-true u (exit t) x) at e))
       go false x = rw (and-false (eqb l 0)) (edge_best t u v (via t l (tail l) u) k e g)
 

@@ -3,7 +3,7 @@
 use Rattle.std.specs.Prelude.{ℕ, zero, suc, ◌-◌, not, List, [], eqb, ℤ, pos, ◌+ℤ◌, ◌-ℤ◌, replicate, set}
 use Rattle.std.proofs.Math.Option.{Option, none, some}
 use Rattle.std.specs.Int.Signed.{lt_z}
-use Rattle.lists.specs.Search.{if◌then◌else◌, tabulate}
+use Rattle.lists.specs.Search.{when◌then◌else◌, tabulate}
 use Rattle.wcet.specs.Table.{Routine, block_count, loop_count, header, multiplier, inside}
 use Rattle.optimum.specs.Remade.{with_columns}
 use Rattle.optimum.specs.Tails.{best, tail_by}
@@ -41,9 +41,9 @@ from_header m (some k) (some f) = some (pos k -ℤ pos m +ℤ f)
 -- back edge. Loop l gives this in its turn, when the figure of its header is h.
 unfoldable pub turn : Routine → ((l x : ℕ) → Option ℕ) → ℕ → ℕ → Option ℤ → Option ℤ
 turn t tail l x h =
-    if not (inside t x l) then none else
-    if eqb l 0 then from_exit (tail l x) else
-    if eqb x (header t l) then none else
+    when not (inside t x l) then none else
+    when eqb l 0 then from_exit (tail l x) else
+    when eqb x (header t l) then none else
     from_header (multiplier t l) (tail l x) h
 
 -- x's figure when the loops below d have had their turns

@@ -1,7 +1,7 @@
 -- Document 02, §3: "A loop's multiplier is the greatest cost of one round from its header back to it, staying inside, inner limits kept, the
 -- header counted once; it is 0 if no round exists."
 use Rattle.std.specs.Prelude.{ℕ, ◌≤◌, ◌≡◌, Bool, true, not, ◌&&◌, List, [], ◌∷◌, ◌++◌, ◌⊎◌, eqb, ltb}
-use Rattle.lists.specs.Search.{if◌then◌else◌, any_below}
+use Rattle.lists.specs.Search.{when◌then◌else◌, any_below}
 use Rattle.wcet.specs.Table.{Routine, loop_count, header, limit}
 use Rattle.wcet.specs.Run.{State, next, path, run_cost}
 use Rattle.wcet.specs.Stays.{all_inside, visits}
@@ -9,7 +9,7 @@ use Rattle.wcet.specs.Stays.{all_inside, visits}
 -- Where a round of loop l begins: at its header, with no inner loop under way. Loops around l stand at 0 here, unlike in a run, and are never
 -- touched.
 unfoldable pub round_start : Routine → ℕ → State
-round_start t l = record { block = header t l; count = λ k. if eqb k l then 1 else 0 }
+round_start t l = record { block = header t l; count = λ k. when eqb k l then 1 else 0 }
 
 -- Some loop other than l is over its limit. Within a round these are the inner loops: a walk inside l comes to no header but l's own and those
 -- of loops inside l (204).
