@@ -10,7 +10,7 @@ use lib.ListN.{length, get_or, set, length-set, replicate, get_or-replicate}
 use lib.Seq.{get_or-set_same, get_or-set_other}
 use borrow.Author.Tests.{eq-eqb, ne_eqb, not-true}
 use Rattle.limits.specs.Limits.{most_blocks}
-use Rattle.lists.specs.Search.{if◌then◌else◌}
+use Rattle.lists.specs.Search.{when◌then◌else◌}
 use Rattle.lists.proofs.Tests.{and-true, both}
 use Rattle.lists.proofs.Search.{count_ext, count_remove}
 use Rattle.wcet.specs.Table.{Routine, block_count, exit, some_edge, edge}
@@ -52,7 +52,7 @@ pub record PassedFrom (t : Routine) (order : List ℕ) (old marks : List Bool) (
   pub kept : (u : ℕ) → marked old u ≡ true → marked marks u ≡ true
   pub sound : Sound t old → Sound t marks
   pub closed : more ≡ false → (j : ℕ) → i ≤ j → j < block_count t → can_mark t marks (get_or order j 0) ≡ false
-  pub fewer : unmarked (block_count t) marks + (if more then 1 else 0) ≤ unmarked (block_count t) old
+  pub fewer : unmarked (block_count t) marks + (when more then 1 else 0) ≤ unmarked (block_count t) old
 
 module _ (t : Routine) (order : List ℕ) (old : List Bool) where
   pub pass_start : length old ≡ most_blocks → PassedFrom t order old old false (block_count t)

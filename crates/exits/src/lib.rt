@@ -1,5 +1,7 @@
 // Rule 401: the lowest block without a path to the exit. The exit is marked, and then the blocks with an edge to a marked block, in passes over
 // all blocks until a pass marks none.
+#![tactic(auto)]
+
 ghost use Rattle.std.specs.Prelude.{◌≡◌, not, ◌≤◌, ◌<◌, length};
 ghost use Rattle.limits.specs.Limits.{most_blocks};
 ghost use Rattle.lists.specs.Search.{first_below};
