@@ -11,7 +11,7 @@ use lib.Dec.{eqb, ltb}
 use borrow.Author.Tests.{ltb-true, ltb-false, eqb-true, eq-eqb, ne_eqb}
 use lib.ListN.{length, get_or, get_or-eq_default}
 use Rattle.limits.specs.Limits.{most_loops, most_depth}
-use Rattle.lists.specs.Search.{if◌then◌else◌, count_below}
+use Rattle.lists.specs.Search.{when◌then◌else◌, count_below}
 use Rattle.lists.proofs.Search.{count_ext, count_none, count_remove}
 use Rattle.wcet.specs.Table.{Routine, loop_count, parent, around, inside}
 use Rattle.wcet.specs.Rules.{too_deep, structure_rules}
@@ -38,7 +38,7 @@ unfolding depth_by
 depth_by_least parents zero l = omega arith
 depth_by_least parents (suc d) l = go (eqb l 0)
   where
-    go : (b : Bool) → 1 ≤ (if b then 1 else suc (depth_by parents d (get_or parents l 0)))
+    go : (b : Bool) → 1 ≤ (when b then 1 else suc (depth_by parents d (get_or parents l 0)))
     go true = omega arith
     go false = omega arith
 
@@ -47,7 +47,7 @@ unfolding depth_by
 depth_by_most parents zero l = omega arith
 depth_by_most parents (suc d) l = go (eqb l 0) (depth_by_most parents d (get_or parents l 0))
   where
-    go : (b : Bool) → depth_by parents d (get_or parents l 0) ≤ suc d → (if b then 1 else suc (depth_by parents d (get_or parents l 0))) ≤ suc (suc d)
+    go : (b : Bool) → depth_by parents d (get_or parents l 0) ≤ suc d → (when b then 1 else suc (depth_by parents d (get_or parents l 0))) ≤ suc (suc d)
     go true h = omega arith
     go false h = omega arith
 
@@ -60,7 +60,7 @@ module _ (parents : List ℕ) (P : Parents parents) where
   depth_steps (suc d) (suc e) l hd he = go (ℕ_discrete l 0) (λ a b. depth_steps d e (get_or parents l 0) a b)
     where
       go : Dec (l ≡ 0) → (get_or parents l 0 ≤ d → get_or parents l 0 ≤ e → depth_by parents d (get_or parents l 0) ≡ depth_by parents e (get_or parents l 0))
-          → (if eqb l 0 then 1 else suc (depth_by parents d (get_or parents l 0))) ≡ (if eqb l 0 then 1 else suc (depth_by parents e (get_or parents l 0)))
+          → (when eqb l 0 then 1 else suc (depth_by parents d (get_or parents l 0))) ≡ (when eqb l 0 then 1 else suc (depth_by parents e (get_or parents l 0)))
       go (yes z) rest = rw (eq-eqb l 0 z)
       go (no ne) rest =
           let b : get_or parents l 0 < l = P.below l (omega arith) in

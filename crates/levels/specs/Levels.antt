@@ -1,14 +1,14 @@
 -- The depth of a loop in the nesting, and the loop of one depth around each loop.
 use Rattle.std.specs.Prelude.{ℕ, zero, suc, ◌≤◌, ◌<◌, ◌≡◌, true, List, eqb, length, get_or}
 use Rattle.limits.specs.Limits.{most_loops}
-use Rattle.lists.specs.Search.{if◌then◌else◌}
+use Rattle.lists.specs.Search.{when◌then◌else◌}
 use Rattle.wcet.specs.Table.{around}
 use Rattle.levels.specs.declared.Depths.{Depths}
 
 -- how many loops are around loop l, loop 0 and its own counted, by d steps from a loop to its parent
 unfoldable pub depth_by : List ℕ → ℕ → ℕ → ℕ
 depth_by parents zero l = 1
-depth_by parents (suc d) l = if eqb l 0 then 1 else suc (depth_by parents d (get_or parents l 0))
+depth_by parents (suc d) l = when eqb l 0 then 1 else suc (depth_by parents d (get_or parents l 0))
 
 -- a parent is below its loop (202), so as many steps as there are loops reach loop 0
 abbrev pub depth : List ℕ → ℕ → ℕ

@@ -1,5 +1,7 @@
 // The nesting depths of the loops, and for one depth the loop of that depth around each loop. Around a block there is at most one loop of each
 // depth, so one pass over the blocks can serve all loops of a depth.
+#![tactic(auto)]
+
 ghost use Rattle.std.specs.Prelude.{◌≡◌, ℕ, ◌≤◌, ◌<◌, length, get_or};
 ghost use Rattle.limits.specs.Limits.{most_loops};
 ghost use Rattle.loopsets.specs.Sets.{Parents};
