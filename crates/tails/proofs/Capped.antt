@@ -6,7 +6,7 @@ use Prim.Native.Nat.{ℕ, min}
 use native.Mathlib.Omega.{arith}
 use lib.Dec.{ltb}
 use borrow.Author.Tests.{ltb-true, ltb-false}
-use Rattle.lists.specs.Search.{if◌then◌else◌}
+use Rattle.lists.specs.Search.{when◌then◌else◌}
 use Rattle.optimum.specs.Tails.{best, more}
 use Rattle.tails.specs.Words.{cap, more_capped}
 
@@ -27,7 +27,7 @@ module _ (k : ℕ) where
   best_capped (some a) none = refl
   best_capped (some a) (some b) = go (ltb a b) (ltb (min k a) (min k b)) refl refl
     where
-      go : (p q : Bool) → ltb a b ≡ p → ltb (min k a) (min k b) ≡ q → (if q then some (min k b) else some (min k a)) ≡ cap k (if p then some b else some a)
+      go : (p q : Bool) → ltb a b ≡ p → ltb (min k a) (min k b) ≡ q → (when q then some (min k b) else some (min k a)) ≡ cap k (when p then some b else some a)
       go true true p q = refl
       go true false p q = ap some (omega (arith, ltb-true a b p, ltb-false (min k a) (min k b) q))
       go false true p q = ap some (omega (arith, ltb-false a b p, ltb-true (min k a) (min k b) q))

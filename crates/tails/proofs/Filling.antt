@@ -13,7 +13,7 @@ use lib.IntN.{ℤ, pos}
 use lib.ListN.{length, get_or, set}
 use lib.Seq.{get_or-set_same, get_or-set_other}
 use Rattle.limits.specs.Limits.{most_blocks}
-use Rattle.lists.specs.Search.{if◌then◌else◌}
+use Rattle.lists.specs.Search.{when◌then◌else◌}
 use Rattle.lists.proofs.Tests.{and-true}
 use Rattle.wcet.specs.Table.{Routine, block_count, loop_count, exit, missing, cost, loop_of, first, second, header, edge, inside, is_header}
 use Rattle.wcet.specs.Cycles.{back_edge, forward_edge}
@@ -37,7 +37,7 @@ use Rattle.tails.proofs.Passes.{passed_nested, passed_parents, passed_loops, pas
 
 -- the value of block x after its weight is added, by its loop of depth d
 abbrev value_at : Routine → (d l x : ℕ) → Option ℕ
-value_at t d l x = if closed t d x then none else cap most_tail (more (weight t x) (tails t l x))
+value_at t d l x = when closed t d x then none else cap most_tail (more (weight t x) (tails t l x))
 
 -- the value of block x is right
 pub record Says (t : Routine) (d : ℕ) (values : List ℤ) (x : ℕ) : Type 0 where
@@ -116,7 +116,7 @@ module _ (t : Routine) (d : ℕ) (sets : List ℕ) (weights : List ℤ) (firstSl
   -- ---- slots
 
   module _ (least : 1 ≤ d) (values : List ℤ) (same : (i : ℕ) → n ≤ i → get_or values i (pos 0) ≡ get_or old i (pos 0)) where
-    gate_at_lem : (k : ℕ) → k < m → word_of (get_or values (most_blocks + k) (pos 0)) ≡ (if eqb (depth_of k) d then (if eqb k 0 then some 0 else some (cost t (header t k))) else none)
+    gate_at_lem : (k : ℕ) → k < m → word_of (get_or values (most_blocks + k) (pos 0)) ≡ (when eqb (depth_of k) d then (when eqb k 0 then some 0 else some (cost t (header t k))) else none)
     gate_at_lem k h = ap word_of (same (most_blocks + k) (omega (arith, passed_few_blocks t Q.passed))) ∙ Q.gates.gate k h
 
     nothing : word_of (get_or values nowhere (pos 0)) ≡ none
@@ -159,7 +159,7 @@ module _ (t : Routine) (d : ℕ) (sets : List ℕ) (weights : List ℤ) (firstSl
 
     module _ (x v : ℕ) (b : x < n) (present : eqb v missing ≡ false → edge t x v ≡ true) (later : forward_edge t x v ≡ true → Says t d values v) where
       abbrev slot : Bool → Bool → ℕ
-      slot gone r = if gone then nowhere else if r then most_blocks + loop_of t v else v
+      slot gone r = when gone then nowhere else when r then most_blocks + loop_of t v else v
 
       slot_same : (gone : Bool) → eqb v missing ≡ gone → slot_by_sets sets t.loops t.headers x v ≡ slot gone (back_edge t x v)
       unfolding slot_by_sets
@@ -174,7 +174,7 @@ module _ (t : Routine) (d : ℕ) (sets : List ℕ) (weights : List ℤ) (firstSl
         where
           back : edge t x v ≡ true → back_edge t x v ≡ true → Dec (depth_of (loop_of t v) ≡ d)
               → word_of (get_or values (most_blocks + loop_of t v) (pos 0))
-              ≡ cap most_tail (if not (inside t v l) then none else if not (eqb l 0) && eqb v (header t l) then some (cost t v) else none)
+              ≡ cap most_tail (when not (inside t v l) then none else when not (eqb l 0) && eqb v (header t l) then some (cost t v) else none)
           back e r (yes same-depth) =
               let (z, at, own) = back_to t N x v b e r in
               let k : loop_of t v ≡ l = only_one x (loop_of t v) l b own i (same-depth ∙ sym q) in
@@ -187,11 +187,11 @@ module _ (t : Routine) (d : ℕ) (sets : List ℕ) (weights : List ℤ) (firstSl
               ∙ rw (ne_eqb (depth_of (loop_of t v)) d other, ne_eqb v (header t l) (λ at. other (ap depth_of (sym (header_of t N l v h (sym at))) ∙ q)), and-false (not (eqb l 0)))
               (both (inside t v l))
             where
-              both : (y : Bool) → none ≡ cap most_tail (if not y then none else none)
+              both : (y : Bool) → none ≡ cap most_tail (when not y then none else none)
               both true = refl
               both false = refl
 
-          forward : edge t x v ≡ true → back_edge t x v ≡ false → (y : Bool) → inside t v l ≡ y → word_of (get_or values v (pos 0)) ≡ cap most_tail (if not y then none else more (weight t v) (tails t l v))
+          forward : edge t x v ≡ true → back_edge t x v ≡ false → (y : Bool) → inside t v l ≡ y → word_of (get_or values v (pos 0)) ≡ cap most_tail (when not y then none else more (weight t v) (tails t l v))
           forward e r true j = (later (is_forward x v e r)).within l h j q ∙ rw (open_inside x v b e l h i j q r)
           forward e r false j = none_there x v b e (later (is_forward x v e r)) (λ k low a p. out k a p (inside t x k) refl)
             where
@@ -236,9 +236,9 @@ module _ (t : Routine) (d : ℕ) (sets : List ℕ) (weights : List ℤ) (firstSl
       exit_is : exit t ≡ length t.loops - 1
       exit_is = ap (λ (k : ℕ). k - 1) (sym (passed_loops t Q.passed))
 
-      exit_gate : x ≡ exit t → (word_of one ≡ (if eqb 1 d then some 0 else none)) × (word_of two ≡ (if eqb 1 d then some 0 else none))
+      exit_gate : x ≡ exit t → (word_of one ≡ (when eqb 1 d then some 0 else none)) × (word_of two ≡ (when eqb 1 d then some 0 else none))
       exit_gate e =
-          let g : word_of (get_or values most_blocks (pos 0)) ≡ (if eqb 1 d then some 0 else none) = rw (depth_root t.parents P) at (gate_at_lem 0 N.some_loop) in
+          let g : word_of (get_or values most_blocks (pos 0)) ≡ (when eqb 1 d then some 0 else none) = rw (depth_root t.parents P) at (gate_at_lem 0 N.some_loop) in
           let f : get_or firstSlots x 0 ≡ most_blocks = ap (λ (k : ℕ). get_or firstSlots k 0) (e ∙ exit_is) ∙ Q.first_slots.at_exit in
           let s : get_or secondSlots x 0 ≡ most_blocks = ap (λ (k : ℕ). get_or secondSlots k 0) (e ∙ exit_is) ∙ Q.second_slots.at_exit in
           (rw f g, rw s g)
@@ -311,7 +311,7 @@ module _ (t : Routine) (d : ℕ) (sets : List ℕ) (weights : List ℤ) (firstSl
         kept = get_or-set_same values x w (pos 0) (omega (arith, here))
 
         own : (l : ℕ) → l < m → inside t x l ≡ true → depth_of l ≡ d → (y : Bool) → closed t d x ≡ y
-            → word_of w ≡ (if y then none else cap most_tail (more (weight t x) (tails t l x)))
+            → word_of w ≡ (when y then none else cap most_tail (more (weight t x) (tails t l x)))
         own l low k q true y = e ∙ rw (Q.weights_say.says x here, y) (unfold more_capped in refl)
         own l low k q false y =
             e ∙ rw (Q.weights_say.says x here, y, tail_in_lem x here (later_says i h done) l low k q) (more_capped_lem most_tail (weight t x) (tails t l x))

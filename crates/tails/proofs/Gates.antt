@@ -9,12 +9,12 @@ use lib.IntN.{ℤ, pos}
 use lib.ListN.{length, get_or, set, length-set}
 use lib.Seq.{get_or-set_same, get_or-set_other}
 use Rattle.limits.specs.Limits.{most_blocks}
-use Rattle.lists.specs.Search.{if◌then◌else◌}
+use Rattle.lists.specs.Search.{when◌then◌else◌}
 use Rattle.tails.specs.Words.{no_tail}
 use Rattle.tails.specs.Passes.{GatesSet}
 
 abbrev pub gate_at : (costs headers depths : List ℕ) → (d l : ℕ) → ℤ
-gate_at costs headers depths d l = if eqb (get_or depths l 0) d then (if eqb l 0 then pos 0 else pos (get_or costs (get_or headers l 0) 0)) else no_tail
+gate_at costs headers depths d l = when eqb (get_or depths l 0) d then (when eqb l 0 then pos 0 else pos (get_or costs (get_or headers l 0) 0)) else no_tail
 
 -- the gates of the loops below k are set
 pub record Setting (costs headers depths : List ℕ) (d : ℕ) (old new : List ℤ) (k : ℕ) : Type 0 where

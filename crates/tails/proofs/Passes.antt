@@ -12,7 +12,7 @@ use Rattle.wcet.proofs.Nesting.{Nested, nested}
 use Rattle.loopsets.specs.Sets.{sets_around, Parents}
 use Rattle.loopsets.proofs.Laws.{member_around}
 use Rattle.nesting.specs.Columns.{Headed}
-use Rattle.nesting.proofs.Stages.{headed, innermost}
+use Rattle.nesting.proofs.Stages.{headed}
 use Rattle.order.specs.Edges.{back_by_sets}
 use Rattle.optimum.specs.Remade.{with_columns}
 use Rattle.optimum.proofs.Columns.{nested_too}

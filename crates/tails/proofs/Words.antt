@@ -14,7 +14,7 @@ use lib.Signed.{lt_z, ◌≤ℤ◌, ◌<ℤ◌}
 use mir.Syntax.{w64}
 use mir.Val.{SFits}
 use Rattle.integers.proofs.Laws.{ints, sum, size}
-use Rattle.lists.specs.Search.{if◌then◌else◌}
+use Rattle.lists.specs.Search.{when◌then◌else◌}
 use Rattle.optimum.specs.Tails.{best}
 use Rattle.tails.specs.Words.{most_tail, no_tail, word_of, greater_of, more_capped, Word, Low}
 
@@ -34,7 +34,7 @@ module _ (a b z : ℤ) where
   unfolding greater_of
   greater_least p q = go (lt_z a b)
     where
-      go : (l : Bool) → z ≤ℤ (if l then b else a)
+      go : (l : Bool) → z ≤ℤ (when l then b else a)
       go true = q
       go false = p
 
@@ -42,7 +42,7 @@ module _ (a b z : ℤ) where
   unfolding greater_of
   greater_most p q = go (lt_z a b)
     where
-      go : (l : Bool) → (if l then b else a) ≤ℤ z
+      go : (l : Bool) → (when l then b else a) ≤ℤ z
       go true = q
       go false = p
 
@@ -57,14 +57,14 @@ pub word_greater : (a b : ℤ) → word_of (greater_of a b) ≡ best ltb (word_o
 unfolding greater_of word_of best
 word_greater (pos a) (pos b) = go (ltb a b)
   where
-    go : (l : Bool) → word_of (if l then pos b else pos a) ≡ (if l then some b else some a)
+    go : (l : Bool) → word_of (when l then pos b else pos a) ≡ (when l then some b else some a)
     go true = refl
     go false = refl
 word_greater (pos a) (negsuc b) = refl
 word_greater (negsuc a) (pos b) = refl
 word_greater (negsuc a) (negsuc b) = go (lt_z (negsuc a) (negsuc b))
   where
-    go : (l : Bool) → word_of (if l then negsuc b else negsuc a) ≡ none
+    go : (l : Bool) → word_of (when l then negsuc b else negsuc a) ≡ none
     go true = refl
     go false = refl
 

@@ -2,7 +2,7 @@
 use Rattle.std.specs.Prelude.{ℕ, ◌+◌, ◌^◌, ◌≤◌, ◌<◌, ◌≡◌, Bool, true, not, ◌&&◌, List, eqb, ltb, ℤ, pos, length, get_or}
 use Rattle.std.proofs.Math.Option.{none, some}
 use Rattle.limits.specs.Limits.{most_blocks}
-use Rattle.lists.specs.Search.{if◌then◌else◌}
+use Rattle.lists.specs.Search.{when◌then◌else◌}
 use Rattle.wcet.specs.Table.{Routine, block_count, loop_count, cost, loop_of, header, multiplier, inside, is_header}
 use Rattle.wcet.specs.Rules.{structure_rules}
 use Rattle.wcet.specs.Claim.{AllHold}
@@ -27,7 +27,7 @@ pub record Passed (t : Routine) : Type 0 where
 pub record GatesSet (costs headers depths : List ℕ) (d : ℕ) (old new : List ℤ) : Type 0 where
   pub size : length new ≡ length old
   pub gate : (l : ℕ) → l < length headers
-      → get_or new (most_blocks + l) (pos 0) ≡ (if eqb (get_or depths l 0) d then (if eqb l 0 then pos 0 else pos (get_or costs (get_or headers l 0) 0)) else no_tail)
+      → get_or new (most_blocks + l) (pos 0) ≡ (when eqb (get_or depths l 0) d then (when eqb l 0 then pos 0 else pos (get_or costs (get_or headers l 0) 0)) else no_tail)
   pub rest : (i : ℕ) → (i < most_blocks) → get_or new i (pos 0) ≡ get_or old i (pos 0)
   pub after : (i : ℕ) → most_blocks + length headers ≤ i → get_or new i (pos 0) ≡ get_or old i (pos 0)
 
@@ -36,12 +36,12 @@ unfoldable pub closed : Routine → ℕ → ℕ → Bool
 closed t d x = is_header t x && not (eqb (loop_of t x) 0) && not (ltb d (depth t.parents (loop_of t x)))
 
 pub record Weights (t : Routine) (d : ℕ) (weights : List ℤ) : Type 0 where
-  pub says : (x : ℕ) → x < block_count t → word_of (get_or weights x (pos 0)) ≡ (if closed t d x then none else some (weight t x))
+  pub says : (x : ℕ) → x < block_count t → word_of (get_or weights x (pos 0)) ≡ (when closed t d x then none else some (weight t x))
 
 -- the gates of the loops of depth d are open, the others closed
 pub record Gates (t : Routine) (d : ℕ) (values : List ℤ) : Type 0 where
   pub gate : (k : ℕ) → k < loop_count t
-      → word_of (get_or values (most_blocks + k) (pos 0)) ≡ (if eqb (depth t.parents k) d then (if eqb k 0 then some 0 else some (cost t (header t k))) else none)
+      → word_of (get_or values (most_blocks + k) (pos 0)) ≡ (when eqb (depth t.parents k) d then (when eqb k 0 then some 0 else some (cost t (header t k))) else none)
   pub empty : word_of (get_or values nowhere (pos 0)) ≡ none
 
 -- what a pass of depth d over t is about

@@ -1,7 +1,7 @@
 -- The slots of the edges, read off the loop sets.
 use Rattle.std.specs.Prelude.{ℕ, ◌+◌, ◌-◌, ◌≤◌, ◌<◌, ◌≡◌, List, eqb, length, get_or}
 use Rattle.limits.specs.Limits.{most_blocks}
-use Rattle.lists.specs.Search.{if◌then◌else◌}
+use Rattle.lists.specs.Search.{when◌then◌else◌}
 use Rattle.wcet.specs.Table.{missing}
 use Rattle.order.specs.Edges.{back_by_sets}
 
@@ -15,8 +15,8 @@ nowhere = 1088
 -- the slot of the edge from x to v: v's place, or the gate of the loop that it returns to
 unfoldable pub slot_by_sets : (sets loops headers : List ℕ) → ℕ → ℕ → ℕ
 slot_by_sets sets loops headers x v =
-    if eqb v missing then nowhere else
-    if back_by_sets sets loops headers x v then most_blocks + get_or loops v 0 else
+    when eqb v missing then nowhere else
+    when back_by_sets sets loops headers x v then most_blocks + get_or loops v 0 else
     v
 
 -- the slots of the edges to these successors; the exit, from which no edge leads on, has the gate of loop 0

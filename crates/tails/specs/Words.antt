@@ -2,7 +2,7 @@
 use Rattle.std.specs.Prelude.{ℕ, ◌+◌, ◌^◌, min, List, ℤ, pos, negsuc, get_or, ◌≤ℤ◌}
 use Rattle.std.proofs.Math.Option.{Option, none, some}
 use Rattle.std.specs.Int.Signed.{lt_z}
-use Rattle.lists.specs.Search.{if◌then◌else◌}
+use Rattle.lists.specs.Search.{when◌then◌else◌}
 
 -- The cap. It is over the limits of a multiplier (2^40) and of a figure (2^60), whatever is taken off it: what is at the cap is refused.
 abbrev pub most_tail : ℕ
@@ -19,7 +19,7 @@ word_of (negsuc k) = none
 
 -- the greater of two
 unfoldable pub greater_of : ℤ → ℤ → ℤ
-greater_of a b = if lt_z a b then b else a
+greater_of a b = when lt_z a b then b else a
 
 -- k for each number over k
 unfoldable pub cap : ℕ → Option ℕ → Option ℕ

@@ -4,9 +4,11 @@
 // Each edge has a slot, the place where its value stands: that of its target, or for a back edge the gate of the loop that it returns to. A pass
 // opens the gates of the loops of its depth only, and nothing passes the header of a loop whose multiplier is not made yet: its weight is none.
 // So a pass needs no test of which loop a block is in. Mispredicted branches would cost more than all else.
+#![tactic(auto)]
+
 ghost use Rattle.std.specs.Prelude.{◌≡◌, ℕ, ◌-◌, ◌≤◌, ◌<◌, eqb, pos, length, get_or};
 ghost use Rattle.limits.specs.Limits.{most_blocks, most_loops};
-ghost use Rattle.lists.specs.Search.{if◌then◌else◌};
+ghost use Rattle.lists.specs.Search.{when◌then◌else◌};
 ghost use Rattle.nesting.specs.Columns.{Names, Innermost};
 ghost use Rattle.tails.specs.Words.{most_tail, no_tail, word_of, greater_of, more_capped, Word, Low};
 ghost use Rattle.tails.specs.Slots.{places, slot_by_sets, SlotsOf, Slotted};
@@ -91,7 +93,7 @@ pub fn slots_of(around: &Sets, loops: &[u16], header: &[u16], next: &[u16]) -> S
 
 // The value of a gate: the cost of the loop's header where the loop is of depth d, for loop 0 no cost.
 fn gate(l: usize, depth: u16, d: u16, cost: u32) -> i64
-    ensures { result ≡ (if eqb depth d then (if eqb l 0 then pos 0 else pos cost) else no_tail) }
+    ensures { result ≡ (when eqb depth d then (when eqb l 0 then pos 0 else pos cost) else no_tail) }
 {
     if depth != d {
         return NO_TAIL;
