@@ -10,7 +10,7 @@ use lib.Dec.{eqb, ltb}
 use borrow.Author.Tests.{eqb-true, eqb-false, eq-eqb, ltb-true, ltb-false, lt-ltb, le-ltb}
 use lib.IntN.{ℤ, pos, negsuc}
 use lib.ListN.{length, get_or}
-use Rattle.lists.specs.Search.{if◌then◌else◌}
+use Rattle.lists.specs.Search.{when◌then◌else◌}
 use Rattle.wcet.specs.Table.{Routine, block_count, loop_count, cost, loop_of, header, limit, is_header}
 use Rattle.wcet.specs.Rules.{structure_rules}
 use Rattle.wcet.specs.Claim.{AllHold}
@@ -90,7 +90,7 @@ module _ (t : Routine) (rules : AllHold (structure_rules t)) where
   weight_same ks ks' x same = go (is_header t x) refl
     where
       go : (h : Bool) → is_header t x ≡ h
-          → (if h then cost t x + get_or ks' (loop_of t x) 0 * (limit t (loop_of t x) - 1) else cost t x) ≡ (if h then cost t x + get_or ks (loop_of t x) 0 * (limit t (loop_of t x) - 1) else cost t x)
+          → (when h then cost t x + get_or ks' (loop_of t x) 0 * (limit t (loop_of t x) - 1) else cost t x) ≡ (when h then cost t x + get_or ks (loop_of t x) 0 * (limit t (loop_of t x) - 1) else cost t x)
       go true h = rw (same h) refl
       go false h = refl
 
@@ -102,7 +102,7 @@ module _ (t : Routine) (rules : AllHold (structure_rules t)) where
     where
       says : (x : ℕ) → x < block_count t → (h z : Bool) → is_header t x ≡ h → eqb (loop_of t x) 0 ≡ z
           → word_of (get_or weights x (pos 0))
-          ≡ (if (h && not z && not (ltb d (deep_of (loop_of t x)))) then none else some (if h then cost t x + get_or made (loop_of t x) 0 * (limit t (loop_of t x) - 1) else cost t x))
+          ≡ (when (h && not z && not (ltb d (deep_of (loop_of t x)))) then none else some (when h then cost t x + get_or made (loop_of t x) 0 * (limit t (loop_of t x) - 1) else cost t x))
       says x b false z a e = ap word_of (C.plain x b (λ l p c q. true≢false (sym (is_header_lem l x (omega (arith, R.sized.headers)) q) ∙ a))) ∙ word_more (cost t x)
       says x b true true a e =
           let m : cost t x + 0 * (limit t (loop_of t x) - 1) ≡ cost t x = omega arith in
@@ -121,7 +121,7 @@ module _ (t : Routine) (rules : AllHold (structure_rules t)) where
     apart : (k l : ℕ) → k < length t.headers → l < length t.headers → header t k ≡ header t l → k ≡ l
     apart k l a b q = sym (of_header k (header t l) (omega (arith, R.sized.headers)) q) ∙ N.own l (omega (arith, R.sized.headers))
 
-    taken_weight : (x : ℕ) → x < block_count t → is_header t x ≡ true → deep_of (loop_of t x) ≡ d → word_of (get_or weights' x (pos 0)) ≡ (if closed (with made') (d - 1) x then none else some (weight (with made') x))
+    taken_weight : (x : ℕ) → x < block_count t → is_header t x ≡ true → deep_of (loop_of t x) ≡ d → word_of (get_or weights' x (pos 0)) ≡ (when closed (with made') (d - 1) x then none else some (weight (with made') x))
     unfolding closed weight
     taken_weight x b h o =
         let k = loop_of t x in
@@ -130,11 +130,11 @@ module _ (t : Routine) (rules : AllHold (structure_rules t)) where
         let f : get_or weights' x (pos 0) ≡ pos (cost t x + get_or made' k 0 * (limit t k - 1)) = rw (eqb-true (header t k) x h) at e in
         rw (h, lt-ltb (d - 1) (deep_of k) (omega (arith, o))) (go (not (eqb k 0)) (ap word_of f ∙ word_more (cost t x + get_or made' k 0 * (limit t k - 1))))
       where
-        go : {o : Option ℕ} {w : Option ℕ} → (z : Bool) → w ≡ o → w ≡ (if z && false then none else o)
+        go : {o : Option ℕ} {w : Option ℕ} → (z : Bool) → w ≡ o → w ≡ (when z && false then none else o)
         go true e = e
         go false e = e
 
-    other_weight : (x : ℕ) → x < block_count t → (is_header t x ≡ true → deep_of (loop_of t x) ≡ d → ⊥) → word_of (get_or weights' x (pos 0)) ≡ (if closed (with made') (d - 1) x then none else some (weight (with made') x))
+    other_weight : (x : ℕ) → x < block_count t → (is_header t x ≡ true → deep_of (loop_of t x) ≡ d → ⊥) → word_of (get_or weights' x (pos 0)) ≡ (when closed (with made') (d - 1) x then none else some (weight (with made') x))
     other_weight x b ne =
         let e : get_or weights' x (pos 0) ≡ get_or weights x (pos 0) = T.other_weights refl x (λ l a o q. let c : l < loop_count t = omega (arith, R.sized.headers) in ne (is_header_lem l x c q) (ap deep_of (of_header l x c q) ∙ sym (same l c) ∙ o)) in
         rw (closed_same made made' d x (omega arith) (λ h z o. ne h o), weight_same made made' x (λ h. T.others refl (loop_of t x) (λ o. ne h (sym (same (loop_of t x) (N.innermost x b)) ∙ o))))
@@ -143,7 +143,7 @@ module _ (t : Routine) (rules : AllHold (structure_rules t)) where
     pub weights_next : Weights (with made') (d - 1) weights'
     weights_next = record { says = λ x b. go x b (is_header t x) refl (ℕ_discrete (deep_of (loop_of t x)) d) }
       where
-        go : (x : ℕ) → x < block_count t → (h : Bool) → is_header t x ≡ h → Dec (deep_of (loop_of t x) ≡ d) → word_of (get_or weights' x (pos 0)) ≡ (if closed (with made') (d - 1) x then none else some (weight (with made') x))
+        go : (x : ℕ) → x < block_count t → (h : Bool) → is_header t x ≡ h → Dec (deep_of (loop_of t x) ≡ d) → word_of (get_or weights' x (pos 0)) ≡ (when closed (with made') (d - 1) x then none else some (weight (with made') x))
         go x b true h (yes o) = taken_weight x b h o
         go x b true h (no ne) = other_weight x b (λ a o. ne o)
         go x b false h o = other_weight x b (λ a. absurd (true≢false (sym a ∙ h)))

@@ -12,7 +12,7 @@ use borrow.Author.Tests.{lt-ltb, le-ltb}
 use lib.IntN.{ℤ, pos}
 use lib.ListN.{length, get_or}
 use Rattle.limits.specs.Limits.{most_blocks, most_depth}
-use Rattle.lists.specs.Search.{if◌then◌else◌}
+use Rattle.lists.specs.Search.{when◌then◌else◌}
 use Rattle.lists.proofs.Search.{any_none, any_at}
 use Rattle.wcet.specs.Table.{Routine, block_count, loop_count, cost, header, some_edge, edge, inside}
 use Rattle.wcet.specs.Rules.{structure_rules}
@@ -59,7 +59,7 @@ topological_with t fs ks order O = record { position = O.position; within = O.wi
 
 -- ---- gates
 
-gate_word : (a b : Bool) (c : ℕ) → word_of (if a then (if b then pos 0 else pos c) else no_tail) ≡ (if a then (if b then some 0 else some c) else none)
+gate_word : (a b : Bool) (c : ℕ) → word_of (when a then (when b then pos 0 else pos c) else no_tail) ≡ (when a then (when b then some 0 else some c) else none)
 gate_word true true c = word_more 0
 gate_word true false c = word_more c
 gate_word false b c = no_tail_lem
@@ -112,7 +112,7 @@ module _ (t : Routine) (rules : AllHold (structure_rules t)) (depths : List ℕ)
     gates : Gates so_far d gated
     gates = record { gate = gate; empty = ap word_of (G.after nowhere (omega (arith, R.sized.headers, R.sized.few_loops)) ∙ empty) ∙ no_tail_lem }
       where
-        gate : (k : ℕ) → k < loop_count t → word_of (get_or gated (most_blocks + k) (pos 0)) ≡ (if eqb (deep_of k) d then (if eqb k 0 then some 0 else some (cost t (header t k))) else none)
+        gate : (k : ℕ) → k < loop_count t → word_of (get_or gated (most_blocks + k) (pos 0)) ≡ (when eqb (deep_of k) d then (when eqb k 0 then some 0 else some (cost t (header t k))) else none)
         gate k b = rw (sym (D.same k b)) (ap word_of (G.gate k (in_headers k b)) ∙ gate_word (eqb (get_or depths k 0) d) (eqb k 0) (cost t (header t k)))
 
     pass : PassOf so_far d sets weights firstSlots secondSlots order gated

@@ -10,7 +10,7 @@ use borrow.Author.Tests.{ltb-true, ltb-false}
 use lib.IntN.{ℤ, pos}
 use lib.ListN.{length, get_or, replicate, get_or-replicate}
 use Rattle.limits.specs.Limits.{most_blocks, most_loops}
-use Rattle.lists.specs.Search.{if◌then◌else◌}
+use Rattle.lists.specs.Search.{when◌then◌else◌}
 use Rattle.wcet.specs.Table.{Routine, block_count}
 use Rattle.wcet.specs.Rules.{structure_rules}
 use Rattle.wcet.specs.Claim.{AllHold}
@@ -25,7 +25,7 @@ use Rattle.multipliers.specs.Columns.{HeadersClosed, TailsKept, RoundsTaken, Rea
 use Rattle.multipliers.proofs.Weights.{none_low, cost_word}
 use Rattle.multipliers.proofs.Multipliers.{Multiplying, multiplying_first, multiplying_last, multiplying_over, multiplying_next, multiplied_over, multiplied_all}
 
-gate_low : (a b : Bool) (c : ℕ) → c ≤ 1000000 → Word (if a then (if b then pos 0 else pos c) else no_tail)
+gate_low : (a b : Bool) (c : ℕ) → c ≤ 1000000 → Word (when a then (when b then pos 0 else pos c) else no_tail)
 gate_low true true c h = record { least = omega ints; most = omega ints }
 gate_low true false c h = cost_word c (omega arith)
 gate_low false b c h = record { least = omega ints; most = omega ints }
@@ -85,7 +85,7 @@ module _ (costs headers limits depths : List ℕ) (deepest : ℕ) (firstSlots se
               let l = i - most_blocks in
               let e : most_blocks + l ≡ i = omega (arith, ltb-false i most_blocks p) in
               let c : l < length headers = omega (arith, ltb-true i (most_blocks + length headers) q, ltb-false i most_blocks p) in
-              let g : get_or gated i (pos 0) ≡ (if eqb (get_or depths l 0) d then (if eqb l 0 then pos 0 else pos (get_or costs (get_or headers l 0) 0)) else no_tail) = rw e at (G.gate l c) in
+              let g : get_or gated i (pos 0) ≡ (when eqb (get_or depths l 0) d then (when eqb l 0 then pos 0 else pos (get_or costs (get_or headers l 0) 0)) else no_tail) = rw e at (G.gate l c) in
               rw g (gate_low (eqb (get_or depths l 0) d) (eqb l 0) (get_or costs (get_or headers l 0) 0) (Y.cost_most (get_or headers l 0) (Y.header_block l c)))
           go false false p q = rw (G.after i (ltb-false i (most_blocks + length headers) q)) (M.values_low i)
 

@@ -1,5 +1,7 @@
 // The multipliers of a routine, remade: the greatest cost of a round of each loop, by one pass over the blocks for each nesting depth. Beside
 // them the weights of the blocks, and for each loop the tails at its header, which the figures are made from.
+#![tactic(auto)]
+
 ghost use Rattle.std.specs.Prelude.{◌≡◌, ℕ, ◌+◌, ◌*◌, ◌-◌, ◌^◌, ◌≤◌, ◌<◌, pos, length, get_or};
 ghost use Rattle.limits.specs.Limits.{most_blocks, most_loops, most_depth};
 ghost use Rattle.optimum.specs.Columns.{or_default};
@@ -21,6 +23,9 @@ type Values = [i64; PLACES];
 type Multipliers = [u64; MOST_LOOPS];
 
 type Depths = [u16; MOST_LOOPS];
+
+// The greatest multiplier, 2^40.
+const MOST_MULTIPLIER: u64 = 1099511627776;
 
 // ---- weights
 
@@ -116,7 +121,7 @@ fn take_rounds(
     while l < header.len() {
         if depths[l] == d {
             let k = round_of(kept[l * 16 + d as usize - 1]);
-            if 1099511627776 < k {
+            if MOST_MULTIPLIER < k {
                 return true;
             }
             made[l] = k;
