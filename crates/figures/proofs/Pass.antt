@@ -16,7 +16,7 @@ use mir.Syntax.{w64}
 use mir.Val.{SFits}
 use Rattle.integers.proofs.Laws.{ints, sum, diff, size}
 use Rattle.limits.specs.Limits.{most_blocks}
-use Rattle.lists.specs.Search.{if◌then◌else◌}
+use Rattle.lists.specs.Search.{when◌then◌else◌}
 use Rattle.lists.proofs.Tests.{neither}
 use Rattle.wcet.specs.Rules.{figure_outside}
 use Rattle.tails.specs.Words.{greater_of}
@@ -162,7 +162,7 @@ module _ (weights : List ℤ) (firstSlots secondSlots order : List ℕ) (n : ℕ
       in_slot : (s : ℕ) → (s < n → i ≤ W.position s) → get_or values s (pos 0) ≡ slot_value (λ x. get_or figures x (pos 0)) n weights gates s
       in_slot s later = go (ltb s n) refl
         where
-          go : (b : Bool) → ltb s n ≡ b → get_or values s (pos 0) ≡ (if b then get_or figures s (pos 0) +ℤ get_or weights s (pos 0) else get_or gates s (pos 0))
+          go : (b : Bool) → ltb s n ≡ b → get_or values s (pos 0) ≡ (when b then get_or figures s (pos 0) +ℤ get_or weights s (pos 0) else get_or gates s (pos 0))
           go false b = P.rest s (ltb-false s n b)
           go true b =
               let h : s < n = ltb-true s n b in
@@ -173,7 +173,7 @@ module _ (weights : List ℤ) (firstSlots secondSlots order : List ℕ) (n : ℕ
         slot_same : (s : ℕ) → (s < n → i ≤ W.position s) → (s < n → get_or figures s (pos 0) ≡ F s) → get_or values s (pos 0) ≡ slot_value F n weights gates s
         slot_same s later same = in_slot s later ∙ go (ltb s n) refl
           where
-            go : (b : Bool) → ltb s n ≡ b → (if b then get_or figures s (pos 0) +ℤ get_or weights s (pos 0) else get_or gates s (pos 0)) ≡ (if b then F s +ℤ get_or weights s (pos 0) else get_or gates s (pos 0))
+            go : (b : Bool) → ltb s n ≡ b → (when b then get_or figures s (pos 0) +ℤ get_or weights s (pos 0) else get_or gates s (pos 0)) ≡ (when b then F s +ℤ get_or weights s (pos 0) else get_or gates s (pos 0))
             go false b = refl
             go true b = ap (λ (f : ℤ). f +ℤ get_or weights s (pos 0)) (same (ltb-true s n b))
 

@@ -14,7 +14,7 @@ use lib.ListN.{get_or}
 use lib.Signed.{lt_z, ◌≤ℤ◌}
 use Rattle.integers.proofs.Laws.{ints, sum, diff}
 use Rattle.limits.specs.Limits.{most_blocks}
-use Rattle.lists.specs.Search.{if◌then◌else◌}
+use Rattle.lists.specs.Search.{when◌then◌else◌}
 use Rattle.lists.proofs.Tests.{or_false}
 use Rattle.lists.proofs.Search.{any_none, any_at}
 use Rattle.wcet.specs.Table.{Routine, block_count, loop_count, exit, missing, cost, loop_of, header, edge, inside}
@@ -103,7 +103,7 @@ module _ (t : Routine) (rules : AllHold (structure_rules t)) (declared : undecla
           two : ℤ
           two = slot_value F n weights gates (get_or secondSlots x 0)
 
-          go : (x ≡ exit t → ⊥) → (l : Bool) → lt_z one two ≡ l → F x ≡ (if l then two else one) → PathToExit t x
+          go : (x ≡ exit t → ⊥) → (l : Bool) → lt_z one two ≡ l → F x ≡ (when l then two else one) → PathToExit t x
           go ne true q e = led F t.seconds secondSlots S₂ (second_edge t) x b ne later (rw e at (low x b))
           go ne false q e = led F t.firsts firstSlots S₁ (first_edge t) x b ne later (rw e at (low x b))
 

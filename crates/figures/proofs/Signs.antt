@@ -9,7 +9,7 @@ use mir.Syntax.{w64}
 use mir.Val.{SFits}
 use Rattle.integers.specs.Parts.{up, dn}
 use Rattle.integers.proofs.Laws.{ints, sum, diff, size}
-use Rattle.lists.specs.Search.{if◌then◌else◌}
+use Rattle.lists.specs.Search.{when◌then◌else◌}
 use Rattle.optimum.specs.Tails.{best}
 use Rattle.optimum.proofs.Tails.{none_some}
 use Rattle.optimum.specs.Columns.{from_exit, from_header}
@@ -39,7 +39,7 @@ pub figure_same : (z f : ℤ) → figure_of z ≡ some f → z ≡ f
 unfolding figure_of
 figure_same z f e = go (lt_z z (neg_ℤ (pos (2 ^ 61)))) e
   where
-    go : (b : Bool) → (if b then none else some z) ≡ some f → z ≡ f
+    go : (b : Bool) → (when b then none else some z) ≡ some f → z ≡ f
     go true e = none_some e
     go false e = cc
 
@@ -47,16 +47,16 @@ pub figure_there : (z f : ℤ) → figure_of z ≡ some f → neg_ℤ (pos (2 ^ 
 unfolding figure_of
 figure_there z f e = go (lt_z z (neg_ℤ (pos (2 ^ 61)))) refl e
   where
-    go : (b : Bool) → lt_z z (neg_ℤ (pos (2 ^ 61))) ≡ b → (if b then none else some z) ≡ some f → neg_ℤ (pos (2 ^ 61)) ≤ℤ z
+    go : (b : Bool) → lt_z z (neg_ℤ (pos (2 ^ 61))) ≡ b → (when b then none else some z) ≡ some f → neg_ℤ (pos (2 ^ 61)) ≤ℤ z
     go true b e = none_some e
     go false b e = omega ints
 
-pub higher_is : (a b : ℤ) → (if lt_z a b then figure_of b else figure_of a) ≡ best lt_z (figure_of a) (figure_of b)
+pub higher_is : (a b : ℤ) → (when lt_z a b then figure_of b else figure_of a) ≡ best lt_z (figure_of a) (figure_of b)
 unfolding figure_of best
 higher_is a b = go (lt_z a b) (lt_z a (neg_ℤ (pos (2 ^ 61)))) (lt_z b (neg_ℤ (pos (2 ^ 61)))) refl refl refl
   where
     go : (l p q : Bool) → lt_z a b ≡ l → lt_z a (neg_ℤ (pos (2 ^ 61))) ≡ p → lt_z b (neg_ℤ (pos (2 ^ 61))) ≡ q
-        → (if l then (if q then none else some b) else (if p then none else some a)) ≡ best lt_z (if p then none else some a) (if q then none else some b)
+        → (when l then (when q then none else some b) else (when p then none else some a)) ≡ best lt_z (when p then none else some a) (when q then none else some b)
     go true true q e f g = refl
     go true false true e f g = absurd (omega ints)
     go true false false e f g = rw e

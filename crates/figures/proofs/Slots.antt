@@ -10,7 +10,7 @@ use native.Mathlib.Omega.{arith}
 use lib.Dec.{eqb}
 use lib.ListN.{length, get_or}
 use Rattle.limits.specs.Limits.{most_blocks, most_loops}
-use Rattle.lists.specs.Search.{if◌then◌else◌}
+use Rattle.lists.specs.Search.{when◌then◌else◌}
 use Rattle.wcet.specs.Table.{Routine, block_count, loop_count, exit, missing, loop_of, edge, inside, is_header}
 use Rattle.wcet.specs.Cycles.{back_edge, forward_edge}
 use Rattle.wcet.specs.Rules.{structure_rules}
@@ -62,11 +62,11 @@ module _ (t : Routine) (rules : AllHold (structure_rules t)) (sets : List ℕ) (
         v : ℕ
         v = get_or next x 0
 
-        go : (m : Bool) → eqb v missing ≡ m → get_or slots x 0 ≡ (if m then nowhere else if back_by_sets sets t.loops t.headers x v then most_blocks + loop_of t v else v) → Slot t x v (get_or slots x 0)
+        go : (m : Bool) → eqb v missing ≡ m → get_or slots x 0 ≡ (when m then nowhere else when back_by_sets sets t.loops t.headers x v then most_blocks + loop_of t v else v) → Slot t x v (get_or slots x 0)
         go true m q = inl (m, q)
         go false m q = inr (edges x m, by (back_edge t x v) refl (rw (back_same x v b (N.target x v b (edges x m))) at q))
           where
-            by : (r : Bool) → back_edge t x v ≡ r → get_or slots x 0 ≡ (if r then most_blocks + loop_of t v else v) → EdgeSlot t x v (get_or slots x 0)
+            by : (r : Bool) → back_edge t x v ≡ r → get_or slots x 0 ≡ (when r then most_blocks + loop_of t v else v) → EdgeSlot t x v (get_or slots x 0)
             by true r q = inl (r, q)
             by false r q = inr (r, q)
 

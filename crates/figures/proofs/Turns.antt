@@ -16,7 +16,7 @@ use lib.Seq.{get_or-set_same, get_or-set_other}
 use lib.Signed.{lt_z, ◌≤ℤ◌, ◌<ℤ◌}
 use Rattle.integers.proofs.Laws.{ints, sum, diff}
 use Rattle.limits.specs.Limits.{most_loops}
-use Rattle.lists.specs.Search.{if◌then◌else◌}
+use Rattle.lists.specs.Search.{when◌then◌else◌}
 use Rattle.levels.specs.Levels.{no_loop}
 use Rattle.optimum.specs.Tails.{best}
 use Rattle.optimum.specs.Columns.{from_exit, from_header}
@@ -40,7 +40,7 @@ module _ (b k : ℕ) (low : k ≤ 2 ^ 40) (y : ℤ) (B : Bounded b y) where
   from_least none f e = none_some e
   from_least (some a) f e = go (lt_z y (neg_ℤ (pos (2 ^ 61)))) refl e
     where
-      go : (r : Bool) → lt_z y (neg_ℤ (pos (2 ^ 61))) ≡ r → from_header k (some a) (if r then none else some y) ≡ some f → neg_ℤ (pos (b + 2 ^ 40)) ≤ℤ f
+      go : (r : Bool) → lt_z y (neg_ℤ (pos (2 ^ 61))) ≡ r → from_header k (some a) (when r then none else some y) ≡ some f → neg_ℤ (pos (b + 2 ^ 40)) ≤ℤ f
       go true r e = none_some e
       go false r e =
           let q : (pos a -ℤ pos k +ℤ y) ≡ f = cc in

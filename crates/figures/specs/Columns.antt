@@ -3,7 +3,7 @@ use Rattle.std.specs.Prelude.{ℕ, ◌+◌, ◌*◌, ◌-◌, ◌^◌, ◌≤◌
 use Rattle.std.proofs.Math.Option.{Option, none, some}
 use Rattle.std.specs.Int.Signed.{lt_z}
 use Rattle.limits.specs.Limits.{most_blocks, most_loops, most_depth}
-use Rattle.lists.specs.Search.{if◌then◌else◌}
+use Rattle.lists.specs.Search.{when◌then◌else◌}
 use Rattle.wcet.specs.Table.{Routine, block_count, loop_count, cost, header}
 use Rattle.wcet.specs.Rules.{structure_rules, figure_outside}
 use Rattle.wcet.specs.Claim.{AllHold}
@@ -23,7 +23,7 @@ use Rattle.figures.specs.Figures.{no_figure, figure_of, turn_of}
 -- what a level of depth d gives to the figure of l's header, none where l is inside no loop of it; and the figure then
 abbrev pub turn_by : (kept : List ℤ) (made level : List ℕ) (d : ℕ) (heads : List ℤ) → ℕ → Option ℤ
 turn_by kept made level d heads l =
-    if eqb (get_or level l 0) no_loop then none else
+    when eqb (get_or level l 0) no_loop then none else
     turn_of (eqb (get_or level l 0) 0) (eqb l (get_or level l 0)) (get_or made (get_or level l 0) 0) (word_of (get_or kept (kept_at l d) (pos 0))) (figure_of (get_or heads (get_or level l 0) (pos 0)))
 
 unfoldable pub filled_by : (kept : List ℤ) (made level : List ℕ) (d : ℕ) (heads : List ℤ) → ℕ → Option ℤ
@@ -86,7 +86,7 @@ pub record GatesSet (costs headers made : List ℕ) (heads old new : List ℤ) :
 
 -- the value in slot s by the figures F: a block's figure and weight, or a gate
 abbrev pub slot_value : (F : ℕ → ℤ) (n : ℕ) (weights gates : List ℤ) → ℕ → ℤ
-slot_value F n weights gates s = if ltb s n then F s +ℤ get_or weights s (pos 0) else get_or gates s (pos 0)
+slot_value F n weights gates s = when ltb s n then F s +ℤ get_or weights s (pos 0) else get_or gates s (pos 0)
 
 -- F are figures of n blocks by these slots
 abbrev pub Equations : (F : ℕ → ℤ) (n : ℕ) (weights : List ℤ) (firstSlots secondSlots : List ℕ) (gates : List ℤ) → Type 0

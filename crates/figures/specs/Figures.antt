@@ -2,12 +2,12 @@
 use Rattle.std.specs.Prelude.{ℕ, ◌+◌, ◌^◌, Bool, List, ℤ, pos, neg_ℤ, get_or, ◌≤ℤ◌}
 use Rattle.std.proofs.Math.Option.{Option, none, some}
 use Rattle.std.specs.Int.Signed.{lt_z}
-use Rattle.lists.specs.Search.{if◌then◌else◌}
+use Rattle.lists.specs.Search.{when◌then◌else◌}
 use Rattle.optimum.specs.Columns.{from_exit, from_header}
 
 -- a figure, and none below −2^61
 unfoldable pub figure_of : ℤ → Option ℤ
-figure_of z = if lt_z z (neg_ℤ (pos (2 ^ 61))) then none else some z
+figure_of z = when lt_z z (neg_ℤ (pos (2 ^ 61))) then none else some z
 
 abbrev pub no_figure : ℤ
 no_figure = neg_ℤ (pos (2 ^ 62))
@@ -21,8 +21,8 @@ pub record Known (z : ℤ) : Type 0 where
 -- is loop 0 or not, the header is the loop's own or not
 unfoldable pub turn_of : (whole own : Bool) (k : ℕ) → Option ℕ → Option ℤ → Option ℤ
 turn_of whole own k tail h =
-    if whole then from_exit tail else
-    if own then none else
+    when whole then from_exit tail else
+    when own then none else
     from_header k tail h
 
 -- ranges that keep the sums of a pass within 64 bits

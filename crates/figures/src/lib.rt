@@ -1,5 +1,7 @@
 // The figures of a routine, remade: the smallest that meet all inequalities with its multipliers. First those of the headers, by the tails at
 // them, depth by depth; then those of all blocks by one pass, since a block's figure is the greatest that one of its edges asks for.
+#![tactic(auto)]
+
 ghost use Rattle.std.specs.Prelude.{◌≡◌, ℕ, ◌+◌, ◌^◌, ◌≤◌, ◌<◌, eqb, pos, length, get_or, ◌≤ℤ◌};
 ghost use Rattle.std.specs.Int.Signed.{lt_z};
 ghost use Rattle.limits.specs.Limits.{most_blocks, most_loops};
@@ -159,11 +161,14 @@ pub fn set_gates(
     }
 }
 
+// The least figure, -2^60.
+const LEAST_FIGURE: i64 = -1152921504606846976;
+
 // Whether a number is no figure within the limits of 203.
 fn outside(f: i64) -> bool
     ensures { result ≡ figure_outside f }
 {
-    if f < -1152921504606846976 {
+    if f < LEAST_FIGURE {
         return true;
     }
     1152921504606846976 < f
