@@ -2,10 +2,8 @@
 use mathlib.Core.Path.{◌≡◌, refl, sym, ◌∙◌}
 use mathlib.Core.Bool.{Bool, true, false}
 use mathlib.Core.List.{List}
-use mathlib.Core.Logic.{◌⊎◌, inl, inr}
 use Prim.Native.Nat.{ℕ, ◌^◌, ◌≤◌, ◌<◌}
 use native.Mathlib.Omega.{arith}
-use denote.Enum.Declared.{tag_of}
 use lib.IntN.{ℤ, pos}
 use lib.ListN.{length, get_or, replicate, get_or-replicate}
 use Rattle.limits.specs.Limits.{most_blocks, most_loops}
@@ -25,7 +23,6 @@ use Rattle.figures.proofs.Paths.{figured as by-paths}
 use Rattle.solver.specs.declared.Outcome.{Outcome}
 use Rattle.solver.specs.declared.Outcome.TheVariants.{Made, Multiplier, Figure}
 use Rattle.solver.specs.Columns.{Solvable, Laid, Columned, Makeable, OutcomeOf, Headed, ColumnsMade, HeadedBy}
-use Rattle.solver.specs.contracts.Outcome.{the_type}
 use Rattle.solver.proofs.Columns.{multiplier_over_lem, multipliers_fit, made_most, figure_over_lem}
 use Rattle.solver.proofs.Steps.{slotted, rounds_readied, deep_of, heads_readied, weight_range}
 
@@ -34,9 +31,8 @@ use Rattle.solver.proofs.Steps.{slotted, rounds_readied, deep_of, heads_readied,
 pub done : (r : Outcome) (t : Routine) (A : Type 0) → r ≡ Made → OutcomeOf r t A → A
 done r t A e x = rw e at x
 
-pub not_done : (r : Outcome) (t : Routine) (A B : Type 0) → (tag_of the_type r ≡ 1) ⊎ (tag_of the_type r ≡ 2) → OutcomeOf r t A → OutcomeOf r t B
-not_done Made t A B (inl e) x = absurd (omega arith)
-not_done Made t A B (inr e) x = absurd (omega arith)
+pub not_done : (r : Outcome) (t : Routine) (A B : Type 0) → (r ≡ Made → ⊥) → OutcomeOf r t A → OutcomeOf r t B
+not_done Made t A B h x = absurd (h refl)
 not_done Multiplier t A B h x = x
 not_done Figure t A B h x = x
 

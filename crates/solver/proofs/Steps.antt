@@ -12,7 +12,7 @@ use lib.IntN.{ℤ, pos}
 use lib.ListN.{length, get_or}
 use Rattle.integers.proofs.Laws.{ints}
 use Rattle.limits.specs.Limits.{most_blocks, most_depth}
-use Rattle.lists.specs.Search.{if◌then◌else◌}
+use Rattle.lists.specs.Search.{when◌then◌else◌}
 use Rattle.wcet.specs.Table.{Routine, block_count, loop_count, missing, cost, loop_of, limit, is_header}
 use Rattle.wcet.specs.Rules.{structure_rules}
 use Rattle.wcet.specs.Claim.{AllHold}
@@ -46,7 +46,7 @@ module _ (t : Routine) (h : AllHold (structure_rules t)) where
       n : length t.loops ≡ block_count t
       n = R.sized.loops
 
-      by : (v : ℕ) (m k : Bool) → eqb v missing ≡ m → Names (block_count t) v → (if m then nowhere else if k then most_blocks + loop_of t v else v) < places
+      by : (v : ℕ) (m k : Bool) → eqb v missing ≡ m → Names (block_count t) v → (when m then nowhere else when k then most_blocks + loop_of t v else v) < places
       by v true k e names = omega arith
       by v false true e names = omega (arith, R.loop_below v (names (eqb-false v missing e)), R.sized.few_loops)
       by v false false e names = omega (arith, names (eqb-false v missing e), R.sized.few_blocks)
@@ -115,7 +115,7 @@ module _ (t : Routine) (sets order : List ℕ) (S : Solvable t sets order) (made
           let less : limit t l - 1 ≤ 65534 = omega (arith, Q.limit_most l m) in
           mul-le-mul (multiplier_low t sets order S made weights kept M l m) less
 
-      go : (b : Bool) → (if b then cost t x + get_or (remade_multipliers t) l 0 * (limit t l - 1) else cost t x) ≤ 2 ^ 57
+      go : (b : Bool) → (when b then cost t x + get_or (remade_multipliers t) l 0 * (limit t l - 1) else cost t x) ≤ 2 ^ 57
       go true = omega (arith, later, Q.cost_most x b)
       go false = omega (arith, Q.cost_most x b)
 

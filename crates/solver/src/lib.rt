@@ -1,5 +1,7 @@
 // The solver: remakes the figure and multiplier columns of a pair of tables, so that no certificate gives a smaller bound, or replies the first
 // reason why it cannot: 201 to 207, 209, 401 to 403. Both columns are made in arrays, and written only when every value is in range.
+#![tactic(auto)]
+
 ghost use Rattle.std.specs.Prelude.{◌≡◌, List, ℕ, ◌≤◌, ◌<◌, ℤ, pos, length, get_or};
 ghost use Rattle.limits.specs.Limits.{most_blocks, most_loops};
 ghost use Rattle.wcet.specs.Rules.{structure_rules};
@@ -23,7 +25,7 @@ use tails::{NO_TAIL, PLACES};
 
 // The bound, or the first broken rule: 201 to 207 as the structure check names them, 209, 401 at the lowest block without a path to the exit,
 // 402 or 403.
-#[derive(Drop)]
+#[derive(Clone, Copy)]
 pub enum SolveReply {
     Accepted(i64),
     Structure(StructureFault),
@@ -76,7 +78,7 @@ fn finish(
 // ---- the making of the columns
 
 // What came of a step: it is done, or a multiplier is over its limit, or a figure is outside its limits or is none.
-#[derive(Drop)]
+#[derive(Clone, Copy)]
 enum Outcome {
     Made,
     Multiplier,
