@@ -1,22 +1,20 @@
 -- The pass over the commands, at the turn that begins at p, and what it leaves in the buffer. Assumes nothing.
 use mathlib.Core.Path.{◌≡◌, refl, sym, ap, ◌∙◌}
-use mathlib.Core.Bool.{Bool, true, false, cond}
+use mathlib.Core.Bool.{Bool, false}
 use mathlib.Core.List.{List, [], ◌∷◌, ◌++◌, append-nil, append_assoc}
-use mathlib.Core.Option.{Option, none, some}
-use Prim.Native.Nat.{ℕ, zero, suc, ◌+◌, ◌-◌, ◌<◌, ◌≤◌}
+use Prim.Native.Nat.{ℕ, suc, ◌+◌, ◌-◌, ◌<◌, ◌≤◌}
 use native.Mathlib.Nat.{zero-add}
 use native.Mathlib.Numerals.{add-one}
 use native.Mathlib.Omega.{arith}
 use borrow.Author.Tests.{eq-eqb, ne_eqb}
 use lib.ListN.{length, take, drop, set, get_or, length-set, drop_of_length-le}
 use lib.Seq.{sets, sets-eq, drop-cons, take-suc-set, length-take-le}
-use lib.Dec.{eqb}
 use Rattle.limits.specs.Limits.{most_text_bytes}
 use Rattle.wcet.specs.Rules.{Reply, accepted, refused}
-use Rattle.vcd.specs.Syntax.{command, Value, Reading, stopped, more, reading_of}
-use Rattle.vcd.specs.Recording.{changed, recorded, counted, buffer_after, most_changes}
-use Rattle.vcd.proofs.Lowest.{before, ended, in_turn, few_values, lowest}
-use Rattle.commands.specs.Reads.{reading_from, follows, Moves, Follows, CommandRead}
+use Rattle.vcd.specs.Syntax.{command, Reading, stopped, more, reading_of}
+use Rattle.vcd.specs.Recording.{changed, recorded, most_changes}
+use Rattle.vcd.proofs.Lowest.{before, in_turn, few_values, lowest}
+use Rattle.commands.specs.Reads.{reading_from, follows, Moves, CommandRead}
 use Rattle.commands.specs.declared.Command.{Command}
 use Rattle.commands.specs.declared.Command.TheVariants.{Passed, Value as ValueAt, Bad, Ended}
 use Rattle.declarations.specs.Reads.{BodyRead}

@@ -1,21 +1,18 @@
 -- The reply to a recording from what is looked at in turn: the tables, the edges to themselves, the text. Assumes nothing.
 use mathlib.Core.Path.{◌≡◌, refl, sym, ap, ◌∙◌}
 use mathlib.Core.Bool.{Bool, true, false, not, ◌&&◌, and-false}
-use mathlib.Core.List.{List, [], ◌∷◌, ◌++◌}
-use mathlib.Core.Option.{none, some}
+use mathlib.Core.List.{List, [], ◌∷◌}
 use Prim.Native.Nat.{ℕ, ◌+◌, ◌<◌, ◌≤◌}
 use native.Mathlib.Omega.{arith}
 use borrow.Author.Tests.{eq-eqb, ne_eqb, eqb-true, lt-ltb, le-ltb}
 use borrow.Author.Count.{below_more}
-use lib.Dec.{eqb, ltb}
+use lib.Dec.{eqb}
 use lib.ListN.{length, get_or}
 use Rattle.lists.specs.Search.{first_below}
-use Rattle.lists.proofs.Search.{not_found}
 use Rattle.limits.specs.Limits.{most_text_bytes}
 use Rattle.wcet.specs.Table.{Routine, block_count, some_edge, edge}
-use Rattle.wcet.specs.Rules.{Reply, accepted, refused, Rule, check, structure_rules}
-use Rattle.wcet.specs.Claim.{AllHold}
-use Rattle.wcet.proofs.Replies.{hands_on, past_all}
+use Rattle.wcet.specs.Rules.{Reply, refused, check, structure_rules}
+use Rattle.wcet.proofs.Replies.{past_all}
 use Rattle.nesting.specs.Columns.{edge_columns, Sized}
 use Rattle.nesting.specs.Answers.{place_of, refusal, StructureChecked}
 use Rattle.nesting.specs.declared.Place.{Place}
@@ -27,7 +24,7 @@ use Rattle.nesting.specs.declared.Structured.{Structured}
 use Rattle.nesting.proofs.Chain.{refused_by, refusal_stands, sound_holds, place_decides, place_clear}
 use Rattle.nesting.proofs.Stages.{headed}
 use Rattle.nesting.proofs.Scan.{Kept, stops, clear}
-use Rattle.vcd.specs.Recording.{recorded, self_edge_rule, text_rule, recording_reply, counted, buffer_after, most_changes, Recorded}
+use Rattle.vcd.specs.Recording.{recorded, self_edge_rule, text_rule, recording_reply, counted, buffer_after, Recorded}
 use Rattle.recordings.specs.Answers.{vcd_meaning, first_self_edge, TextRecorded}
 use Rattle.recordings.specs.declared.VcdReply.TheVariants.{Structure, SelfEdge, TextLength}
 

@@ -1,4 +1,6 @@
 // The walk that a recording of a logic analyser gives (document 02, §8): the changed values of one vector, in a lent buffer.
+#![tactic(auto)]
+
 ghost use Rattle.std.specs.Prelude.{◌≡◌, [], ◌++◌, ◌≤◌, ◌<◌, eqb, length, drop};
 ghost use Rattle.limits.specs.Limits.{most_text_bytes};
 ghost use Rattle.wcet.specs.Table.{edge};
@@ -12,7 +14,7 @@ use declarations::Body;
 use nesting::{Place, Structure, StructureFault};
 
 // The reply to a recording: the count of places filled, or a refusal with its block or byte.
-#[derive(Drop)]
+#[derive(Clone, Copy)]
 pub enum VcdReply {
     Filled(usize),
     Structure(StructureFault),
@@ -23,7 +25,7 @@ pub enum VcdReply {
 }
 
 // The count of the values gathered, or the first refusal, 432 or 433.
-#[derive(Drop)]
+#[derive(Clone, Copy)]
 pub enum Gathered {
     Count(usize),
     Word(usize),
