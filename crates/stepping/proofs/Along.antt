@@ -2,14 +2,14 @@
 use mathlib.Core.Path.{◌≡◌, refl, sym, ◌∙◌, ap}
 use mathlib.Core.Bool.{Bool, true, false, not}
 use mathlib.Core.List.{List}
-use Prim.Native.Nat.{ℕ, suc, ◌+◌, ◌-◌, ◌*◌, ◌≤◌, ◌<◌}
+use Prim.Native.Nat.{ℕ, suc, ◌+◌, ◌*◌, ◌≤◌, ◌<◌}
 use native.Mathlib.Numerals.{add-one}
 use native.Mathlib.Omega.{arith}
 use lib.Dec.{eqb, ltb}
 use borrow.Author.Tests.{eqb-true, ltb-true, ltb-false}
 use lib.ListN.{length, get_or, drop, set, length-set}
 use lib.Seq.{drop-cons}
-use Rattle.lists.specs.Search.{if◌then◌else◌}
+use Rattle.lists.specs.Search.{when◌then◌else◌}
 use Rattle.lists.proofs.Tests.{or_false}
 use Rattle.wcet.specs.Table.{Routine, block_count, exit, cost, header, edge, inside}
 use Rattle.wcet.specs.Rules.{Reply, refused, out_of_range}
@@ -51,7 +51,7 @@ unfolding entry_answer
 starts n w = go (out_of_range 1 longest_walk (length w)) refl (ltb (get_or w 0 0) n) (eqb (get_or w 0 0) 0) refl
   where
     go : (a : Bool) → out_of_range 1 longest_walk (length w) ≡ a → (b d : Bool) → eqb (get_or w 0 0) 0 ≡ d
-        → (if a then entry.Length else if not b then entry.NoBlock else if not d then entry.NotEntry else entry.Entered) ≡ entry.Entered
+        → (when a then entry.Length else when not b then entry.NoBlock else when not d then entry.NotEntry else entry.Entered) ≡ entry.Entered
         → (0 < length w) × (length w ≤ longest_walk) × (get_or w 0 0 ≡ 0)
     go false p true true q e = ((in_length w p).0, (in_length w p).1, eqb-true (get_or w 0 0) 0 q)
     go true p b d q e = absurd (let z : ◌≡◌ {A = ℕ} 0 1 = cc in omega arith)
@@ -69,7 +69,7 @@ decided NoEdge i rest = refused 312 i
 
 -- 302, 311 and 312 as the step answers them
 pub step_decides : {A : Type 0} (t : Routine) (s : State) (c v i : ℕ) (rest : Reply A)
-    → (if not (ltb v (block_count t)) then refused 302 i else if eqb s.block (exit t) then refused 311 i else if not (edge t s.block v) then refused 312 i else rest)
+    → (when not (ltb v (block_count t)) then refused 302 i else when eqb s.block (exit t) then refused 311 i else when not (edge t s.block v) then refused 312 i else rest)
     ≡ decided (stepped t s c v).answer i rest
 unfolding stepped
 step_decides t s c v i rest = go (not (ltb v (block_count t))) (eqb s.block (exit t)) (not (edge t s.block v))
@@ -77,8 +77,8 @@ step_decides t s c v i rest = go (not (ltb v (block_count t))) (eqb s.block (exi
     on : Outcome
     on = record { state = next t s v; spent = c + cost t v; visits = visits_to t s v; answer = Moved }
 
-    go : (a b d : Bool) → (if a then refused 302 i else if b then refused 311 i else if d then refused 312 i else rest)
-        ≡ decided (if a then unmoved s c NoBlock else if b then unmoved s c AfterExit else if d then unmoved s c NoEdge else on).answer i rest
+    go : (a b d : Bool) → (when a then refused 302 i else when b then refused 311 i else when d then refused 312 i else rest)
+        ≡ decided (when a then unmoved s c NoBlock else when b then unmoved s c AfterExit else when d then unmoved s c NoEdge else on).answer i rest
     go true b d = refl
     go false true d = refl
     go false false true = refl
@@ -100,8 +100,8 @@ moves t s c v e =
     on = record { state = next t s v; spent = c + cost t v; visits = visits_to t s v; answer = Moved }
 
     go : (a : Bool) → ltb v (block_count t) ≡ a → (b d : Bool) → edge t s.block v ≡ d
-        → (if not a then unmoved s c NoBlock else if b then unmoved s c AfterExit else if not d then unmoved s c NoEdge else on).answer ≡ Moved
-        → (v < block_count t) × (edge t s.block v ≡ true) × ((if not a then unmoved s c NoBlock else if b then unmoved s c AfterExit else if not d then unmoved s c NoEdge else on) ≡ on)
+        → (when not a then unmoved s c NoBlock else when b then unmoved s c AfterExit else when not d then unmoved s c NoEdge else on).answer ≡ Moved
+        → (v < block_count t) × (edge t s.block v ≡ true) × ((when not a then unmoved s c NoBlock else when b then unmoved s c AfterExit else when not d then unmoved s c NoEdge else on) ≡ on)
     go true p false true q e = (ltb-true v (block_count t) p, q, refl)
     go false p b d q e = absurd (let z : ◌≡◌ {A = ℕ} 0 1 = cc in omega arith)
     go true p true d q e = absurd (let z : ◌≡◌ {A = ℕ} 0 1 = cc in omega arith)
@@ -112,7 +112,7 @@ next_most : (t : Routine) (u v l c : ℕ) → next_count t u v l c ≤ c + 1
 unfolding next_count
 next_most t u v l c = go (leaves t u v l) (not (eqb (header t l) v)) (inside t u l)
   where
-    go : (a b d : Bool) → (if a then 0 else if b then c else if d then c + 1 else 1) ≤ c + 1
+    go : (a b d : Bool) → (when a then 0 else when b then c else when d then c + 1 else 1) ≤ c + 1
     go true b d = omega arith
     go false true d = omega arith
     go false false true = omega arith
@@ -124,7 +124,7 @@ next_most t u v l c = go (leaves t u v l) (not (eqb (header t l) v)) (inside t u
 pub still_sized : (counts counts' : List ℕ) (l visits : ℕ) → counts' ≡ counts_after counts l visits → length counts ≡ most_loops → length counts' ≡ most_loops
 still_sized counts counts' l visits e size = ap (λ (xs : List ℕ). length xs) e ∙ go (eqb visits 0)
   where
-    go : (b : Bool) → length (if b then counts else set counts l visits) ≡ most_loops
+    go : (b : Bool) → length (when b then counts else set counts l visits) ≡ most_loops
     go true = size
     go false = length-set counts l visits ∙ size
 
@@ -158,7 +158,7 @@ module _ (t : Routine) (sets : List ℕ) (S : Walkable t sets) (w : List ℕ) wh
     spent = rw (c, ap (cost t) (sym first)) (sym (spent_next t w 0 some));
   }
     where
-      one : (b : Bool) → (if b then 1 else 0) ≤ 1
+      one : (b : Bool) → (when b then 1 else 0) ≤ 1
       one true = omega arith
       one false = omega arith
 

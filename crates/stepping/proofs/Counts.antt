@@ -1,7 +1,7 @@
 -- The counts: a step changes one of them at most, and they are then the counts of the definition for every loop. Assumes nothing.
 use mathlib.Core.Path.{◌≡◌, refl, sym, ◌∙◌, ap, fun_ext}
 use mathlib.Core.Bool.{Bool, true, false, not, ◌&&◌, true≢false}
-use mathlib.Core.List.{List, ◌∷◌}
+use mathlib.Core.List.{List}
 use Prim.Native.Nat.{ℕ, zero, suc, ◌+◌, ◌-◌, ◌≤◌, ◌<◌}
 use native.Mathlib.Decide.{ℕ_discrete}
 use native.Mathlib.Omega.{arith}
@@ -10,8 +10,8 @@ use borrow.Author.Tests.{eqb-false, ne_eqb, ltb-true, ltb-false}
 use lib.ListN.{length, get_or, set, replicate, get_or-eq_default}
 use lib.Seq.{get_or-set_same, get_or-set_other}
 use Rattle.limits.specs.Limits.{most_loops}
-use Rattle.lists.specs.Search.{if◌then◌else◌}
-use Rattle.wcet.specs.Table.{Routine, block_count, loop_count, loop_of, header, edge, around, inside, is_header}
+use Rattle.lists.specs.Search.{when◌then◌else◌}
+use Rattle.wcet.specs.Table.{Routine, block_count, loop_count, loop_of, header, edge, inside, is_header}
 use Rattle.wcet.specs.Rules.{structure_rules}
 use Rattle.wcet.specs.Run.{next_count, start}
 use Rattle.wcet.specs.Claim.{AllHold}
@@ -71,7 +71,7 @@ module _ (t : Routine) (sets : List ℕ) (S : Walkable t sets) where
       unfolding next_count
       next_outside j o = rw (o, ne_eqb (header t j) v (other_header j (λ z. true≢false (sym (inside_own t v) ∙ ap (inside t v) (sym z) ∙ o)))) (go (inside t u j))
         where
-          go : (i : Bool) → 0 ≡ (if i && true then 0 else if i then get_or counts j 0 else 0)
+          go : (i : Bool) → 0 ≡ (when i && true then 0 else when i then get_or counts j 0 else 0)
           go true = refl
           go false = refl
 
@@ -84,7 +84,7 @@ module _ (t : Routine) (sets : List ℕ) (S : Walkable t sets) where
           was true e = e
           was false e = absurd (ne (enters_one t nesting u v j block there (is_loop v j v_block i) i e))
 
-          go : (b : Bool) → get_or (if b then counts else set counts (loop_of t v) k) j 0 ≡ get_or counts j 0
+          go : (b : Bool) → get_or (when b then counts else set counts (loop_of t v) k) j 0 ≡ get_or counts j 0
           go true = refl
           go false = get_or-set_other counts (loop_of t v) j k 0 ne
 
@@ -101,7 +101,7 @@ module _ (t : Routine) (sets : List ℕ) (S : Walkable t sets) where
 
           go : (b : Bool) → is_header t v ≡ b → (i : Bool) → inside t u l ≡ i
               → get_or (counts_after counts l (header_visits (get_or counts l 0) b i)) l 0
-              ≡ (if i && false then 0 else if not b then (if i then get_or counts l 0 else 0) else if i then (if i then get_or counts l 0 else 0) + 1 else 1)
+              ≡ (when i && false then 0 else when not b then (when i then get_or counts l 0 else 0) else when i then (when i then get_or counts l 0 else 0) + 1 else 1)
           go true p true q = rw (ne_eqb (get_or counts l 0 + 1) 0 (λ z. omega arith)) (get_or-set_same counts l (get_or counts l 0 + 1) 0 small)
           go true p false q = get_or-set_same counts l 1 0 small
           go false p true q = refl
@@ -123,7 +123,7 @@ zeros (suc n) zero = refl
 zeros (suc n) (suc l) = zeros n l
 
 -- each loop's number
-pub first_number : (l : ℕ) → ◌≡◌ {A = ℕ} (get_or first_numbers l 0) (if eqb l 0 then 1 else 0)
+pub first_number : (l : ℕ) → ◌≡◌ {A = ℕ} (get_or first_numbers l 0) (when eqb l 0 then 1 else 0)
 first_number zero = refl
 first_number (suc l) = zeros (most_loops - 1) l ∙ rw (eqb-suc-zero l)
 
@@ -132,9 +132,9 @@ pub start_is : (t : Routine) → AllHold (structure_rules t) → (r : Run) → r
 unfolding start
 start_is t rules r e = rw e (ap (λ (f : ℕ → ℕ). record { block = 0; count = f }) (fun_ext first))
   where
-    first : (l : ℕ) → count_in t first_numbers 0 l ≡ (if eqb l 0 then 1 else 0)
+    first : (l : ℕ) → count_in t first_numbers 0 l ≡ (when eqb l 0 then 1 else 0)
     first l = rw (inside_0 t (nested t rules) l, first_number l) (go (ℕ_discrete l 0))
       where
-        go : Dec (l ≡ 0) → ◌≡◌ {A = ℕ} (if eqb 0 l then (if eqb l 0 then 1 else 0) else 0) (if eqb l 0 then 1 else 0)
+        go : Dec (l ≡ 0) → ◌≡◌ {A = ℕ} (when eqb 0 l then (when eqb l 0 then 1 else 0) else 0) (when eqb l 0 then 1 else 0)
         go (yes z) = rw z
         go (no ne) = rw (ne_eqb l 0 ne, ne_eqb 0 l (λ e. ne (sym e)))

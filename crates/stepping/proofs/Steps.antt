@@ -1,17 +1,15 @@
 -- What the code finds out in a step, and what the definition says of it. Assumes nothing.
-use mathlib.Core.Path.{◌≡◌, refl, sym, ◌∙◌, ap, ap₂, fun_ext}
+use mathlib.Core.Path.{◌≡◌, refl, sym, ◌∙◌, ap₂, fun_ext}
 use mathlib.Core.Bool.{Bool, true, false, not, ◌&&◌, ◌||◌, and-false}
 use mathlib.Core.List.{List}
-use mathlib.Core.Logic.{◌⊎◌, inl, inr}
-use Prim.Native.Nat.{ℕ, ◌+◌, ◌-◌, ◌*◌, ◌≤◌, ◌<◌}
+use Prim.Native.Nat.{ℕ, ◌+◌, ◌*◌, ◌≤◌, ◌<◌}
 use native.Mathlib.Decide.{ℕ_discrete}
 use native.Mathlib.Omega.{arith}
 use lib.Dec.{eqb, ltb}
 use borrow.Author.Tests.{lt-ltb, ne_eqb, eqb-false, ltb-true}
 use lib.ListN.{length, get_or}
-use denote.Enum.Declared.{tag_of}
 use Rattle.limits.specs.Limits.{most_blocks, most_loops, longest_walk}
-use Rattle.lists.specs.Search.{if◌then◌else◌}
+use Rattle.lists.specs.Search.{when◌then◌else◌}
 use Rattle.wcet.specs.Table.{Routine, block_count, loop_count, exit, missing, cost, loop_of, first, second, some_edge, edge, inside, is_header}
 use Rattle.wcet.specs.Run.{State, next_count, next}
 use Rattle.loopsets.specs.Sets.{member, set_at}
@@ -19,8 +17,7 @@ use Rattle.loopsets.specs.declared.LoopSet.{LoopSet}
 use Rattle.stepping.specs.declared.Run.{Run}
 use Rattle.stepping.specs.declared.Answer.{Answer}
 use Rattle.stepping.specs.declared.Answer.TheVariants.{Moved, NoBlock, AfterExit, NoEdge}
-use Rattle.stepping.specs.Step.{header_visits, counts_after, count_in, state_of, visits_to, Outcome, unmoved, stepped, edge_answer, Walkable, Standing}
-use Rattle.stepping.specs.contracts.Answer.{the_type}
+use Rattle.stepping.specs.Step.{header_visits, counts_after, count_in, state_of, visits_to, Outcome, unmoved, stepped, edge_answer, Walkable, Standing, Unread, Stands}
 use Rattle.stepping.proofs.Counts.{nesting, member_inside, counts_next}
 
 -- ---- the edge
@@ -45,22 +42,13 @@ pub record OnEdge (t : Routine) (u v : ℕ) : Type 0 where
   pub on : u ≡ exit t → ⊥
   pub there : edge t u v ≡ true
 
--- the answer's variant, as the code numbers it, is not `Moved`
-abbrev pub Refuses : ℕ → Type 0
-Refuses n = (n ≡ 1) ⊎ ((n ≡ 2) ⊎ (n ≡ 3))
-
-not_moved : (n : ℕ) → Refuses n → n ≡ 0 → ⊥
-not_moved n (inl e) z = omega arith
-not_moved n (inr (inl e)) z = omega arith
-not_moved n (inr (inr e)) z = omega arith
-
 module _ (t : Routine) (few : block_count t ≤ most_blocks) (s : State) (c v : ℕ) where
   pub on_edge : edge_answer (block_count t) (first t s.block) (second t s.block) s.block v ≡ Moved → OnEdge t s.block v
   unfolding edge_answer
   on_edge = go (ltb v (block_count t)) refl (eqb s.block (exit t)) refl (eqb (first t s.block) v || eqb (second t s.block) v) refl
     where
       go : (a : Bool) → ltb v (block_count t) ≡ a → (b : Bool) → eqb s.block (exit t) ≡ b → (d : Bool) → (eqb (first t s.block) v || eqb (second t s.block) v) ≡ d
-          → (if not a then NoBlock else if b then AfterExit else if not d then NoEdge else Moved) ≡ Moved → OnEdge t s.block v
+          → (when not a then NoBlock else when b then AfterExit else when not d then NoEdge else Moved) ≡ Moved → OnEdge t s.block v
       go true p false q true r e = record {
         block = ltb-true v (block_count t) p;
         on = eqb-false s.block (exit t) q;
@@ -70,7 +58,7 @@ module _ (t : Routine) (few : block_count t ≤ most_blocks) (s : State) (c v : 
       go true p true q d r e = absurd (let z : ◌≡◌ {A = ℕ} 0 1 = cc in omega arith)
       go true p false q false r e = absurd (let z : ◌≡◌ {A = ℕ} 0 1 = cc in omega arith)
 
-  pub step_refused : (a : Answer) → a ≡ edge_answer (block_count t) (first t s.block) (second t s.block) s.block v → Refuses (tag_of the_type a) → unmoved s c a ≡ stepped t s c v
+  pub step_refused : (a : Answer) → a ≡ edge_answer (block_count t) (first t s.block) (second t s.block) s.block v → (a ≡ Moved → ⊥) → unmoved s c a ≡ stepped t s c v
   unfolding edge_answer stepped
   step_refused a e f = go (ltb v (block_count t)) refl (eqb s.block (exit t)) (eqb (first t s.block) v || eqb (second t s.block) v) refl e
     where
@@ -78,12 +66,12 @@ module _ (t : Routine) (few : block_count t ≤ most_blocks) (s : State) (c v : 
       further = record { state = next t s v; spent = c + cost t v; visits = visits_to t s v; answer = Moved }
 
       go : (x : Bool) → ltb v (block_count t) ≡ x → (b d : Bool) → (eqb (first t s.block) v || eqb (second t s.block) v) ≡ d
-          → a ≡ (if not x then NoBlock else if b then AfterExit else if not d then NoEdge else Moved)
-          → unmoved s c a ≡ (if not x then unmoved s c NoBlock else if b then unmoved s c AfterExit else if not (edge t s.block v) then unmoved s c NoEdge else further)
+          → a ≡ (when not x then NoBlock else when b then AfterExit else when not d then NoEdge else Moved)
+          → unmoved s c a ≡ (when not x then unmoved s c NoBlock else when b then unmoved s c AfterExit else when not (edge t s.block v) then unmoved s c NoEdge else further)
       go false p b d r e = rw e
       go true p true d r e = rw e
       go true p false false r e = rw (e, edge_is t s.block v (omega (arith, ltb-true v (block_count t) p)), r)
-      go true p false true r e = absurd (not_moved (tag_of the_type a) f (ap (λ (x : Answer). tag_of the_type x) e))
+      go true p false true r e = absurd (f e)
 
 -- what is known once the edge is found
 pub record InStep (t : Routine) (r : Run) (v : ℕ) : Type 0 where
@@ -110,6 +98,12 @@ in_step t sets counts S r v stands E = record {
   room = stands.room;
 }
 
+-- at the edge that the code finds, of the columns that the step relies on
+pub passed : (t : Unread → Routine) (sets counts : List ℕ) (r : Run) (v : ℕ) (p : Stands t sets counts r)
+    → edge_answer (block_count (t p.unread)) (first (t p.unread) r.at) (second (t p.unread) r.at) r.at v ≡ Moved → InStep (t p.unread) r v
+passed t sets counts r v p e =
+    in_step (t p.unread) sets counts p.walkable r v p.standing (on_edge (t p.unread) p.walkable.ranged.sized.few_blocks (state_of (t p.unread) counts r) r.cost v e)
+
 -- ---- the counts
 
 module _ (t : Routine) (sets counts : List ℕ) (S : Walkable t sets) (r : Run) (v : ℕ) (stands : Standing t counts r) (E : OnEdge t r.at v)
@@ -135,7 +129,7 @@ module _ (t : Routine) (sets counts : List ℕ) (S : Walkable t sets) (r : Run) 
         c : ℕ
         c = get_or counts (loop_of t v) 0
 
-        go : (h i : Bool) → header_visits c h i ≡ header_visits (if i then c else 0) h i
+        go : (h i : Bool) → header_visits c h i ≡ header_visits (when i then c else 0) h i
         go true true = refl
         go true false = refl
         go false i = refl

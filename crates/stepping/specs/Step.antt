@@ -1,10 +1,10 @@
 -- The state of a run as the code has it, and what one block more makes of it. No limit plays a part.
 use Rattle.std.specs.Prelude.{ℕ, ◌+◌, ◌-◌, ◌*◌, ◌≤◌, ◌<◌, ◌≡◌, Bool, not, ◌||◌, List, ◌∷◌, eqb, ltb, ℤ, length, get_or, set, replicate}
 use Rattle.limits.specs.Limits.{most_loops, longest_walk}
-use Rattle.lists.specs.Search.{if◌then◌else◌}
-use Rattle.wcet.specs.Table.{Routine, block_count, loop_count, exit, cost, loop_of, edge, inside, is_header}
+use Rattle.lists.specs.Search.{when◌then◌else◌}
+use Rattle.wcet.specs.Table.{Routine, block_count, exit, cost, loop_of, edge, inside, is_header}
 use Rattle.wcet.specs.Rules.{out_of_range, structure_rules}
-use Rattle.wcet.specs.Run.{State, start, next}
+use Rattle.wcet.specs.Run.{State, next}
 use Rattle.wcet.specs.Claim.{AllHold}
 use Rattle.nesting.specs.Columns.{routine, Ranged}
 use Rattle.loopsets.specs.Sets.{sets_around}
@@ -23,21 +23,21 @@ first_numbers = 1 ∷ replicate (most_loops - 1) 0
 
 -- the visits to a header in this stay after a step to it, where its count was this: one more, or 1 where the step comes from outside
 abbrev pub visits_after : ℕ → Bool → ℕ
-visits_after count inside = if inside then count + 1 else 1
+visits_after count inside = when inside then count + 1 else 1
 
 -- the same of the loop that a step ends in, and 0 where the step ends at another block than its header
 abbrev pub header_visits : ℕ → Bool → Bool → ℕ
-header_visits count heading inside = if not heading then 0 else visits_after count inside
+header_visits count heading inside = when not heading then 0 else visits_after count inside
 
 -- the counts after a step into loop l that ends with these visits to its header: 0 visits change nothing
 abbrev pub counts_after : List ℕ → ℕ → ℕ → List ℕ
-counts_after counts l visits = if eqb visits 0 then counts else set counts l visits
+counts_after counts l visits = when eqb visits 0 then counts else set counts l visits
 
 -- ---- the state and the step
 
 -- the count of loop l where the run stands at block u: a loop that is not around u stands at 0
 abbrev pub count_in : Routine → List ℕ → ℕ → ℕ → ℕ
-count_in t counts u l = if inside t u l then get_or counts l 0 else 0
+count_in t counts u l = when inside t u l then get_or counts l 0 else 0
 
 -- where the run stands, in the terms of document 01's definition: its block, and the count of every loop
 abbrev pub state_of : Routine → List ℕ → Run → State
@@ -69,9 +69,9 @@ unmoved s c a = record { state = s; spent = c; visits = 0; answer = a }
 -- step).
 unfoldable pub stepped : Routine → State → ℕ → ℕ → Outcome
 stepped t s c v =
-    if not (ltb v (block_count t)) then unmoved s c NoBlock else
-    if eqb s.block (exit t) then unmoved s c AfterExit else
-    if not (edge t s.block v) then unmoved s c NoEdge else
+    when not (ltb v (block_count t)) then unmoved s c NoBlock else
+    when eqb s.block (exit t) then unmoved s c AfterExit else
+    when not (edge t s.block v) then unmoved s c NoEdge else
     record { state = next t s v; spent = c + cost t v; visits = visits_to t s v; answer = Moved }
 
 -- ---- the first tests of a step, and of a walk
@@ -79,17 +79,17 @@ stepped t s c v =
 -- 302, 311 and 312 of a step from u, with these two successors, to v, in a routine of n blocks
 unfoldable pub edge_answer : ℕ → ℕ → ℕ → ℕ → ℕ → Answer
 edge_answer n first second u v =
-    if not (ltb v n) then NoBlock else
-    if eqb u (n - 1) then AfterExit else
-    if not (eqb first v || eqb second v) then NoEdge else
+    when not (ltb v n) then NoBlock else
+    when eqb u (n - 1) then AfterExit else
+    when not (eqb first v || eqb second v) then NoEdge else
     Moved
 
 -- 301, 302 and 303 of the walk w in a routine of n blocks
 unfoldable pub entry_answer : ℕ → List ℕ → Entry
 entry_answer n w =
-    if out_of_range 1 longest_walk (length w) then entry.Length else
-    if not (ltb (get_or w 0 0) n) then entry.NoBlock else
-    if not (eqb (get_or w 0 0) 0) then entry.NotEntry else
+    when out_of_range 1 longest_walk (length w) then entry.Length else
+    when not (ltb (get_or w 0 0) n) then entry.NoBlock else
+    when not (eqb (get_or w 0 0) 0) then entry.NotEntry else
     entry.Entered
 
 -- ---- what a step may rely on

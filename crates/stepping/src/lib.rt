@@ -1,5 +1,7 @@
 // A run, block by block: its state, and what one block more makes of it. No limit plays a part here: the checker of a walk asks for the limit
 // after a step, and the tally of a recording counts after it.
+#![tactic(auto)]
+
 ghost use Rattle.std.specs.Prelude.{◌≡◌, true, ◌||◌, ◌≤◌, ◌<◌, eqb, length, get_or};
 ghost use Rattle.limits.specs.Limits.{most_loops, longest_walk};
 ghost use Rattle.stepping.specs.Step.{first_numbers, visits_after, header_visits, counts_after, first_step, edge_answer, entry_answer, step_columns, Stands, Steps};
@@ -13,14 +15,14 @@ pub type Numbers = [u32; MOST_LOOPS];
 // Where a run stands: its block, and the cost of its blocks. The visits to each loop's header in the present stay are lent beside it, a number
 // for each loop. A loop that is not around the block stands at 0, whatever its number is: nothing is cleared when a loop is left, and the number
 // is not read until the header is visited from outside, which sets it to 1.
-#[derive(Drop)]
+#[derive(Clone, Copy)]
 pub struct Run {
     pub at: usize,
     pub cost: u64,
 }
 
 // What the first block answers.
-#[derive(Drop)]
+#[derive(Clone, Copy)]
 pub enum Entry {
     Entered,
     Length,
@@ -29,7 +31,7 @@ pub enum Entry {
 }
 
 // What a step answers.
-#[derive(Drop)]
+#[derive(Clone, Copy)]
 pub enum Answer {
     Moved,
     NoBlock,
@@ -38,7 +40,7 @@ pub enum Answer {
 }
 
 // The state after a step, the visits to the header that it ends at in this stay, 0 where it ends at no header, and the answer.
-#[derive(Drop)]
+#[derive(Clone, Copy)]
 pub struct Stepped {
     pub run: Run,
     pub visits: u32,
