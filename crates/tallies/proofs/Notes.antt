@@ -20,6 +20,6 @@ set_own (x ∷ xs) (suc i) h = ap (λ (ys : List ℕ). x ∷ ys) (set_own xs i (
 -- 0 visits change nothing
 pub noted_none : (stayed visited : List ℕ) (l visits : ℕ) → visits ≡ 0 → TallyFits stayed visited l → Noted stayed visited l visits stayed visited
 noted_none stayed visited l visits z F = rw z (record {
-  more_stays = sym (ap (set stayed l) (omega arith) ∙ set_own stayed l (omega (arith, F.stays_sized, F.is_Loop)));
-  more_visits = sym (ap (set visited l) (omega arith) ∙ set_own visited l (omega (arith, F.visits_sized, F.is_Loop)));
+  more_stays = sym (ap (set stayed l) (omega arith) ∙ set_own stayed l (omega (arith, F.stays_sized, F.is_loop)));
+  more_visits = sym (ap (set visited l) (omega arith) ∙ set_own visited l (omega (arith, F.visits_sized, F.is_loop)));
 })

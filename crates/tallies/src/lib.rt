@@ -1,12 +1,14 @@
 // The tally of a recorded walk (document 02, §7): for each loop the number of stays in it, and the greatest number of visits to its header in one
 // stay.
+#![tactic(auto)]
+
 ghost use Rattle.std.specs.Prelude.{◌≡◌, ◌≤◌, ◌<◌, length, get_or};
 ghost use Rattle.limits.specs.Limits.{longest_walk};
 ghost use Rattle.tallies.specs.Tally.{seen_after, TallyFits, Noted};
 
 use stepping::Numbers;
 
-#[derive(Drop)]
+#[derive(Clone, Copy)]
 pub struct LoopTally {
     pub stays: u32,
     pub greatest: u32,
@@ -33,7 +35,7 @@ impl LoopTally {
     }
 }
 
-// The same step on a tally that is lent. It is thin, since code over a lent struct is proved by a walk by hand: `seen` does the work.
+// The same step on a tally that is lent.
 fn see(one: &mut LoopTally, visits: u32)
     requires { one.old.stays ≤ longest_walk }
     ensures { one.new ≡ seen_after one.old visits }
@@ -41,7 +43,7 @@ fn see(one: &mut LoopTally, visits: u32)
     *one = one.seen(visits);
 }
 
-// The step on a lent tally, for `note`, which has the tally by value: its proof is then not by hand.
+// The step on a lent tally, for `note`, which has the tally by value.
 fn tallied(mut one: LoopTally, visits: u32) -> LoopTally
     requires { one.stays ≤ longest_walk }
     ensures { result ≡ seen_after one visits }
