@@ -10,7 +10,7 @@ use borrow.Author.Tests.{le-ltb}
 use lib.ListN.{length, get_or, drop, drop_of_length-le}
 use lib.Seq.{drop-cons}
 use Rattle.limits.specs.Limits.{most_loops}
-use Rattle.lists.specs.Search.{if◌then◌else◌}
+use Rattle.lists.specs.Search.{when◌then◌else◌}
 use Rattle.wcet.specs.Table.{Routine, block_count, exit, cost, loop_of, limit, edge, inside, is_header}
 use Rattle.wcet.specs.Rules.{Reply, accepted, refused}
 use Rattle.wcet.specs.Run.{State, start, next_count, next, passes_limit, run_cost}
@@ -45,7 +45,7 @@ limit_next t sets S s v block there kept =
     c : ℕ
     c = s.count (loop_of t v)
 
-    go : (heading inner : Bool) → (heading && ltb most (if not heading then c else if inner then c + 1 else 1)) ≡ ltb most (header_visits c heading inner)
+    go : (heading inner : Bool) → (heading && ltb most (when not heading then c else when inner then c + 1 else 1)) ≡ ltb most (header_visits c heading inner)
     go true inner = refl
     go false inner = sym (le-ltb most 0 (omega arith))
 
@@ -70,14 +70,14 @@ module _ (t : Routine) (sets : List ℕ) (S : Walkable t sets) (w : List ℕ) wh
         total : r.cost ≡ run_cost t w
         total = omega (arith, U.along.spent, ap (run_cost t) (drop_of_length-le w h))
 
-        go : (b : Bool) → meaning (if not b then Unfinished i else Accepted r.cost (i - 1)) ≡ (if b then accepted (walked t w) else refused 314 i)
+        go : (b : Bool) → meaning (when not b then Unfinished i else Accepted r.cost (i - 1)) ≡ (when b then accepted (walked t w) else refused 314 i)
         go true = rw (total, all)
         go false = refl
 
     module _ (h : i < length w) (counts' : List ℕ) (s : Stepped) (size : length counts' ≡ most_loops) (step : outcome t counts' s ≡ stepped t (state_of t counts r) r.cost (get_or w i 0)) where
       -- the reply after a step that goes on
       rest : Reply Walked
-      rest = if passes_limit t (next t (state_of t counts r) (get_or w i 0)) then refused 313 i else walk_from t (next t (state_of t counts r) (get_or w i 0)) (suc i) (drop (suc i) w) (accepted (walked t w))
+      rest = when passes_limit t (next t (state_of t counts r) (get_or w i 0)) then refused 313 i else walk_from t (next t (state_of t counts r) (get_or w i 0)) (suc i) (drop (suc i) w) (accepted (walked t w))
 
       stops : (a : Answer) → s.answer ≡ a → walk_from t start 1 (drop 1 w) (accepted (walked t w)) ≡ decided a i rest
       unfolding walk_from rest

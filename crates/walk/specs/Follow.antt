@@ -1,6 +1,6 @@
 -- What is promised of a walk's blocks, over the columns that a walk reads.
 use Rattle.std.specs.Prelude.{ℕ, ◌-◌, not, ◌≡◌, List, [], ◌∷◌, eqb, ℤ, drop}
-use Rattle.lists.specs.Search.{if◌then◌else◌}
+use Rattle.lists.specs.Search.{when◌then◌else◌}
 use Rattle.wcet.specs.Table.{Routine}
 use Rattle.wcet.specs.Rules.{accepted, check}
 use Rattle.wcet.specs.Run.{start}
@@ -14,7 +14,7 @@ use Rattle.walk.specs.Reply.{meaning}
 
 -- the reply to a walk of this length that stops at no index and ends in state r, in a routine of n blocks
 unfoldable pub end_of : Run → ℕ → ℕ → WalkReply
-end_of r n length = if not (eqb r.at (n - 1)) then Unfinished length else Accepted r.cost (length - 1)
+end_of r n length = when not (eqb r.at (n - 1)) then Unfinished length else Accepted r.cost (length - 1)
 
 -- ---- the columns that a walk does not read
 

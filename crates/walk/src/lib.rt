@@ -1,5 +1,7 @@
 // A walk (a trace of blocks) through a routine: accepted exactly where it is a finished counted run, with its cost. A step is a few word
 // operations, and stores one count at most.
+#![tactic(auto)]
+
 ghost use Rattle.std.specs.Prelude.{◌≡◌, ◌<◌, ltb, length, get_or};
 ghost use Rattle.wcet.specs.Claim.{WalkChecked};
 ghost use Rattle.nesting.specs.Columns.{routine};
@@ -12,7 +14,7 @@ use nesting::{Structure, StructureFault};
 use stepping::{Answer, Entry, Run, Stepped};
 
 // The reply to a walk; a refusal with its index.
-#[derive(Drop)]
+#[derive(Clone, Copy)]
 pub enum WalkReply {
     Accepted { cost: u64, steps: usize },
     Structure(StructureFault),
