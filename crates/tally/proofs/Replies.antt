@@ -3,13 +3,11 @@
 use mathlib.Core.Path.{◌≡◌, refl, sym, ◌∙◌, ap}
 use mathlib.Core.Bool.{true, not, ◌&&◌, and-false}
 use mathlib.Core.List.{List, [], ◌∷◌}
-use mathlib.Core.Logic.{◌⊎◌, inl, inr}
 use Prim.Native.Nat.{ℕ, ◌-◌}
 use native.Mathlib.Omega.{arith}
 use lib.Dec.{eqb}
 use borrow.Author.Tests.{eq-eqb, ne_eqb}
 use lib.ListN.{length, get_or, drop}
-use denote.Enum.Declared.{tag_of}
 use Rattle.lists.proofs.Search.{tabulated, tabulate-at}
 use Rattle.wcet.specs.Table.{Routine, block_count, loop_count}
 use Rattle.wcet.specs.Rules.{Reply, accepted, refused, check, structure_rules}
@@ -30,25 +28,10 @@ use Rattle.stepping.proofs.Along.{opens}
 use Rattle.stepping.proofs.Openings.{by_entry}
 use Rattle.tally.specs.declared.TallyReply.{TallyReply}
 use Rattle.tally.specs.declared.TallyReply.TheVariants.{Accepted, Structure, Columns, Length, NoBlock, NotEntry, AfterExit, NoEdge, Unfinished}
-use Rattle.tally.specs.contracts.TallyReply.{the_type}
 use Rattle.tally.specs.Tally.{meaning, Filled, Written}
 use Rattle.tally.specs.Follow.{Ends}
 
 -- ---- replies that are refusals
-
--- the reply's variant, as the code numbers it, is not `Accepted`
-abbrev pub Refuses : ℕ → Type 0
-Refuses n = (n ≡ 1) ⊎ ((n ≡ 2) ⊎ ((n ≡ 3) ⊎ ((n ≡ 4) ⊎ ((n ≡ 5) ⊎ ((n ≡ 6) ⊎ ((n ≡ 7) ⊎ (n ≡ 8)))))))
-
-not_accepted : (n : ℕ) → Refuses n → n ≡ 0 → ⊥
-not_accepted n (inl e) z = omega arith
-not_accepted n (inr (inl e)) z = omega arith
-not_accepted n (inr (inr (inl e))) z = omega arith
-not_accepted n (inr (inr (inr (inl e)))) z = omega arith
-not_accepted n (inr (inr (inr (inr (inl e))))) z = omega arith
-not_accepted n (inr (inr (inr (inr (inr (inl e)))))) z = omega arith
-not_accepted n (inr (inr (inr (inr (inr (inr (inl e))))))) z = omega arith
-not_accepted n (inr (inr (inr (inr (inr (inr (inr e))))))) z = omega arith
 
 -- a refusal has a number and a place
 record IsRefusal (r : Reply ℕ) : Type 0 where
@@ -68,8 +51,9 @@ fault_refuses (fault.Depth l) = by 205 l
 fault_refuses (fault.EntryOrExit u) = by 206 u
 fault_refuses (fault.PastHeader u) = by 207 u
 
-refuses : (r : TallyReply) → Refuses (tag_of the_type r) → IsRefusal (meaning r)
-refuses (Accepted s) h = absurd (not_accepted 0 h refl)
+-- a reply that accepts nothing
+refuses : (r : TallyReply) → ((k : ℕ) → r ≡ Accepted k → ⊥) → IsRefusal (meaning r)
+refuses (Accepted s) h = absurd (h s refl)
 refuses (Structure f) h = fault_refuses f
 refuses Columns h = by 421 0
 refuses Length h = by 301 0
@@ -110,7 +94,7 @@ module _ (t : Routine) (w stayed visited : List ℕ) where
   unwritten r k e = record { replied = e; stays_column = rw k.same; greatest_column = rw k.same }
 
   module _ (r : TallyReply) (stayed₁ visited₁ : List ℕ) (E : Ends t w r stayed₁ visited₁ blocks_checked) where
-    pub reply_refused : Refuses (tag_of the_type r) → Written t w stayed visited (meaning r) stayed visited
+    pub reply_refused : ((k : ℕ) → r ≡ Accepted k → ⊥) → Written t w stayed visited (meaning r) stayed visited
     reply_refused h = unwritten (meaning r) (refuses r h) E.replied
 
     pub reply_accepted : length stayed ≡ loop_count t → length visited ≡ loop_count t → (k : ℕ) → r ≡ Accepted k → (ss gs : List ℕ)

@@ -9,10 +9,10 @@ use native.Mathlib.Numerals.{add-one}
 use native.Mathlib.Omega.{arith}
 use lib.Dec.{eqb, eqb-suc-zero, eqb-zero-suc}
 use borrow.Author.Tests.{eqb-true, eqb-false, eq-eqb, ne_eqb}
-use lib.ListN.{length, get_or, set, take, drop, replicate, drop_of_length-le}
+use lib.ListN.{length, get_or, set, take, drop, drop_of_length-le}
 use lib.Seq.{drop-cons, take-suc, take_all, get_or-set_same, get_or-set_other, length-take-le}
 use Rattle.limits.specs.Limits.{most_loops, longest_walk}
-use Rattle.lists.specs.Search.{if◌then◌else◌}
+use Rattle.lists.specs.Search.{when◌then◌else◌}
 use Rattle.wcet.specs.Table.{Routine, block_count, loop_count, exit, cost, loop_of, header, edge, inside}
 use Rattle.wcet.specs.Rules.{Reply, accepted, refused}
 use Rattle.wcet.specs.Run.{State, start, leaves, next_count, next, after}
@@ -51,41 +51,41 @@ module _ (t : Routine) (sets : List ℕ) (S : Walkable t sets) (u v : ℕ) (bloc
   entered l b iv iu = (nesting t sets S).at_header u v l block there b iv iu
 
   -- a stay begins exactly where the visits are 1
-  begins : (l : ℕ) → l < loop_count t → ◌≡◌ {A = ℕ} (if inside t v l && not (inside t u l) then 1 else 0) (if eqb l (loop_of t v) then (if eqb k 1 then 1 else 0) else 0)
+  begins : (l : ℕ) → l < loop_count t → ◌≡◌ {A = ℕ} (when inside t v l && not (inside t u l) then 1 else 0) (when eqb l (loop_of t v) then (when eqb k 1 then 1 else 0) else 0)
   begins l b = at (ℕ_discrete l (loop_of t v))
     where
       go : (h : Bool) → eqb (header t (loop_of t v)) v ≡ h → (i : Bool) → inside t u (loop_of t v) ≡ i
-          → ◌≡◌ {A = ℕ} (if true && not i then 1 else 0) (if eqb (header_visits (c (loop_of t v)) h i) 1 then 1 else 0)
+          → ◌≡◌ {A = ℕ} (when true && not i then 1 else 0) (when eqb (header_visits (c (loop_of t v)) h i) 1 then 1 else 0)
       go true p true q = rw (ne_eqb (c (loop_of t v) + 1) 1 (λ e. omega (arith, positive (loop_of t v) own q)))
       go true p false q = refl
       go false p true q = refl
       go false p false q = absurd (eqb-false (header t (loop_of t v)) v p (entered (loop_of t v) own (inside_own t v) q))
 
-      other : (ne : l ≡ loop_of t v → ⊥) (a : Bool) → inside t v l ≡ a → (i : Bool) → inside t u l ≡ i → ◌≡◌ {A = ℕ} (if a && not i then 1 else 0) 0
+      other : (ne : l ≡ loop_of t v → ⊥) (a : Bool) → inside t v l ≡ a → (i : Bool) → inside t u l ≡ i → ◌≡◌ {A = ℕ} (when a && not i then 1 else 0) 0
       other ne true p true q = refl
       other ne true p false q = absurd (ne (enters_one t (nesting t sets S) u v l block there b p q))
       other ne false p i q = refl
 
-      at : Dec (l ≡ loop_of t v) → ◌≡◌ {A = ℕ} (if inside t v l && not (inside t u l) then 1 else 0) (if eqb l (loop_of t v) then (if eqb k 1 then 1 else 0) else 0)
+      at : Dec (l ≡ loop_of t v) → ◌≡◌ {A = ℕ} (when inside t v l && not (inside t u l) then 1 else 0) (when eqb l (loop_of t v) then (when eqb k 1 then 1 else 0) else 0)
       at (yes e) = rw (e, eq-eqb (loop_of t v) (loop_of t v) refl, inside_own t v) (go (eqb (header t (loop_of t v)) v) refl (inside t u (loop_of t v)) refl)
       at (no ne) = rw (ne_eqb l (loop_of t v) ne) (other ne (inside t v l) refl (inside t u l) refl)
 
   -- the greatest number so far, g, changes only where the header is visited
-  highest : (l g : ℕ) → l < loop_count t → c l ≤ g → max g (next_count t u v l (c l)) ≡ (if eqb l (loop_of t v) then max g k else g)
+  highest : (l g : ℕ) → l < loop_count t → c l ≤ g → max g (next_count t u v l (c l)) ≡ (when eqb l (loop_of t v) then max g k else g)
   unfolding next_count
   highest l g b most = at (ℕ_discrete l (loop_of t v))
     where
-      go : (h i : Bool) → c (loop_of t v) ≤ g → max g (if i && false then 0 else if not h then c (loop_of t v) else if i then c (loop_of t v) + 1 else 1) ≡ max g (header_visits (c (loop_of t v)) h i)
+      go : (h i : Bool) → c (loop_of t v) ≤ g → max g (when i && false then 0 else when not h then c (loop_of t v) else when i then c (loop_of t v) + 1 else 1) ≡ max g (header_visits (c (loop_of t v)) h i)
       go true true m = refl
       go true false m = refl
       go false true m = omega arith
       go false false m = omega arith
 
-      other : (x : Bool) → max g (if x then 0 else c l) ≡ g
+      other : (x : Bool) → max g (when x then 0 else c l) ≡ g
       other true = omega arith
       other false = omega arith
 
-      at : Dec (l ≡ loop_of t v) → max g (if leaves t u v l then 0 else if not (eqb (header t l) v) then c l else if inside t u l then c l + 1 else 1) ≡ (if eqb l (loop_of t v) then max g k else g)
+      at : Dec (l ≡ loop_of t v) → max g (when leaves t u v l then 0 else when not (eqb (header t l) v) then c l else when inside t u l then c l + 1 else 1) ≡ (when eqb l (loop_of t v) then max g k else g)
       at (yes e) = rw (e, eq-eqb (loop_of t v) (loop_of t v) refl, inside_own t v) (go (eqb (header t (loop_of t v)) v) (inside t u (loop_of t v)) (rw e at most))
       at (no ne) = rw (ne_eqb l (loop_of t v) ne, ne_eqb (header t l) v (λ e. ne (header_of t (nesting t sets S) l v b e))) (other (leaves t u v l))
 
@@ -94,7 +94,7 @@ module _ (t : Routine) (sets : List ℕ) (S : Walkable t sets) (u v : ℕ) (bloc
   unfolding next_count
   next_positive l b iv = rw iv (go (inside t u l) refl (eqb (header t l) v) refl)
     where
-      go : (i : Bool) → inside t u l ≡ i → (h : Bool) → eqb (header t l) v ≡ h → 1 ≤ (if i && false then 0 else if not h then c l else if i then c l + 1 else 1)
+      go : (i : Bool) → inside t u l ≡ i → (h : Bool) → eqb (header t l) v ≡ h → 1 ≤ (when i && false then 0 else when not h then c l else when i then c l + 1 else 1)
       go true p true q = omega arith
       go true p false q = positive l b p
       go false p true q = omega arith
@@ -135,13 +135,13 @@ module _ (t : Routine) (sets : List ℕ) (S : Walkable t sets) (w : List ℕ) wh
       one : take 1 w ≡ 0 ∷ []
       one = take-suc w 0 0 some ∙ ap (λ (x : ℕ). x ∷ []) first
 
-      starting : (l : ℕ) → l < loop_count t → ◌≡◌ {A = ℕ} (if eqb l 0 then 1 else 0) (stay_visits t l (0 ∷ []))
+      starting : (l : ℕ) → l < loop_count t → ◌≡◌ {A = ℕ} (when eqb l 0 then 1 else 0) (stay_visits t l (0 ∷ []))
       starting l b = (counts_exactly t S.rules).stepped [] l b
 
       zero_of : (l : ℕ) → inside t 0 l ≡ true → l ≡ 0
       zero_of l i = sym (eqb-true 0 l (sym (inside_0 t (nesting t sets S) l) ∙ i))
 
-      flip : (l : ℕ) → ◌≡◌ {A = ℕ} (if eqb 0 l then 1 else 0) (if eqb l 0 then 1 else 0)
+      flip : (l : ℕ) → ◌≡◌ {A = ℕ} (when eqb 0 l then 1 else 0) (when eqb l 0 then 1 else 0)
       flip zero = refl
       flip (suc l) = rw (eqb-zero-suc l, eqb-suc-zero l)
 
@@ -157,7 +157,7 @@ module _ (t : Routine) (sets : List ℕ) (S : Walkable t sets) (w : List ℕ) wh
         all : i ≡ length w
         all = omega (arith, T.along.in_walk)
 
-        go : (b : Bool) → meaning (if not b then Unfinished i else Accepted (i - 1)) ≡ (if b then accepted (length w - 1) else refused 314 i)
+        go : (b : Bool) → meaning (when not b then Unfinished i else Accepted (i - 1)) ≡ (when b then accepted (length w - 1) else refused 314 i)
         go true = rw all
         go false = refl
 
@@ -182,7 +182,7 @@ module _ (t : Routine) (sets : List ℕ) (S : Walkable t sets) (w : List ℕ) wh
 
       module _ (on : s.answer ≡ Moved) (l : ℕ) (into : l ≡ loop_of t (get_or w i 0)) (wide : length stayed ≡ most_loops) (wide' : length visited ≡ most_loops) where
         pub tallying_next : Tallying t w counts' s.run (i + 1)
-            (set stayed l (get_or stayed l 0 + (if eqb s.visits 1 then 1 else 0))) (set visited l (max (get_or visited l 0) s.visits))
+            (set stayed l (get_or stayed l 0 + (when eqb s.visits 1 then 1 else 0))) (set visited l (max (get_or visited l 0) s.visits))
         unfolding next rest
         tallying_next = record {
           along = along_next t sets S w counts r i T.along h counts' s size step on;
@@ -224,25 +224,25 @@ module _ (t : Routine) (sets : List ℕ) (S : Walkable t sets) (w : List ℕ) wh
             greatest_old : (j : ℕ) → j < loop_count t → get_or visited j 0 ≡ greatest t j (T.front ++ r.at ∷ [])
             greatest_old j b = T.tallied.greatest_are j b ∙ ap (greatest t j) T.ends
 
-            stays_new : (j : ℕ) → j < loop_count t → stays t j ((T.front ++ r.at ∷ []) ++ v ∷ []) ≡ get_or stayed j 0 + (if eqb j (loop_of t v) then (if eqb s.visits 1 then 1 else 0) else 0)
+            stays_new : (j : ℕ) → j < loop_count t → stays t j ((T.front ++ r.at ∷ []) ++ v ∷ []) ≡ get_or stayed j 0 + (when eqb j (loop_of t v) then (when eqb s.visits 1 then 1 else 0) else 0)
             stays_new j b =
                 stays_snoc t j T.front r.at v
                 ∙ ap₂ (λ (x y : ℕ). x + y) (sym (stays_old j b))
-                (begins t sets S r.at v T.along.at_block M.there (state_of t counts r).count T.positive j b ∙ ap (λ (n : ℕ). if eqb j (loop_of t v) then (if eqb n 1 then 1 else 0) else 0) (sym visits))
+                (begins t sets S r.at v T.along.at_block M.there (state_of t counts r).count T.positive j b ∙ ap (λ (n : ℕ). when eqb j (loop_of t v) then (when eqb n 1 then 1 else 0) else 0) (sym visits))
 
-            greatest_new : (j : ℕ) → j < loop_count t → greatest t j ((T.front ++ r.at ∷ []) ++ v ∷ []) ≡ (if eqb j (loop_of t v) then max (get_or visited j 0) s.visits else get_or visited j 0)
+            greatest_new : (j : ℕ) → j < loop_count t → greatest t j ((T.front ++ r.at ∷ []) ++ v ∷ []) ≡ (when eqb j (loop_of t v) then max (get_or visited j 0) s.visits else get_or visited j 0)
             greatest_new j b =
                 greatest_snoc t j (T.front ++ r.at ∷ []) v
                 ∙ ap₂ max (sym (greatest_old j b)) (sym (ap (next_count t r.at v j) (count j b) ∙ step_visits t (nesting t sets S) j b T.front r.at v))
                 ∙ highest t sets S r.at v T.along.at_block M.there (state_of t counts r).count T.positive j (get_or visited j 0) b (omega (arith, count j b, last_most t j T.front r.at, greatest_old j b))
-                ∙ ap (λ (n : ℕ). if eqb j (loop_of t v) then max (get_or visited j 0) n else get_or visited j 0) (sym visits)
+                ∙ ap (λ (n : ℕ). when eqb j (loop_of t v) then max (get_or visited j 0) n else get_or visited j 0) (sym visits)
 
-            stayed_next : (j : ℕ) → j < loop_count t → Dec (j ≡ l) → get_or (set stayed l (get_or stayed l 0 + (if eqb s.visits 1 then 1 else 0))) j 0 ≡ stays t j ((T.front ++ r.at ∷ []) ++ v ∷ [])
+            stayed_next : (j : ℕ) → j < loop_count t → Dec (j ≡ l) → get_or (set stayed l (get_or stayed l 0 + (when eqb s.visits 1 then 1 else 0))) j 0 ≡ stays t j ((T.front ++ r.at ∷ []) ++ v ∷ [])
             stayed_next j b (yes e) =
-                rw (e, get_or-set_same stayed l (get_or stayed l 0 + (if eqb s.visits 1 then 1 else 0)) 0 (omega (arith, room, S.ranged.sized.few_loops)))
+                rw (e, get_or-set_same stayed l (get_or stayed l 0 + (when eqb s.visits 1 then 1 else 0)) 0 (omega (arith, room, S.ranged.sized.few_loops)))
                 (sym (stays_new l room ∙ rw (eq-eqb l (loop_of t v) into)))
             stayed_next j b (no ne) =
-                get_or-set_other stayed l j (get_or stayed l 0 + (if eqb s.visits 1 then 1 else 0)) 0 ne
+                get_or-set_other stayed l j (get_or stayed l 0 + (when eqb s.visits 1 then 1 else 0)) 0 ne
                 ∙ sym (stays_new j b ∙ rw (ne_eqb j (loop_of t v) (λ q. ne (q ∙ sym into))) (omega arith))
 
             visited_next : (j : ℕ) → j < loop_count t → Dec (j ≡ l) → get_or (set visited l (max (get_or visited l 0) s.visits)) j 0 ≡ greatest t j ((T.front ++ r.at ∷ []) ++ v ∷ [])

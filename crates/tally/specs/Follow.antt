@@ -1,6 +1,6 @@
 -- What is promised of the numbers of all loops, and of a recording's blocks over the columns that are read.
 use Rattle.std.specs.Prelude.{ℕ, ◌-◌, ◌<◌, not, ◌≡◌, List, [], ◌∷◌, eqb, length, get_or, drop}
-use Rattle.lists.specs.Search.{if◌then◌else◌}
+use Rattle.lists.specs.Search.{when◌then◌else◌}
 use Rattle.wcet.specs.Table.{Routine, loop_count}
 use Rattle.wcet.specs.Rules.{Reply, accepted, check}
 use Rattle.wcet.specs.Walk.{length_rule}
@@ -13,7 +13,7 @@ use Rattle.tally.specs.Tally.{meaning}
 
 -- the reply to a recording of this length that stops at no index and ends in state r, in a routine of n blocks
 unfoldable pub end_of : Run → ℕ → ℕ → TallyReply
-end_of r n length = if not (eqb r.at (n - 1)) then Unfinished length else Accepted (length - 1)
+end_of r n length = when not (eqb r.at (n - 1)) then Unfinished length else Accepted (length - 1)
 
 -- ---- the numbers of all loops
 

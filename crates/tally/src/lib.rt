@@ -1,4 +1,6 @@
 // What a recorded walk shows of each loop (document 02, §7): the number of stays, and the greatest number of visits to its header in one stay.
+#![tactic(auto)]
+
 ghost use Rattle.std.specs.Prelude.{◌≡◌, ◌≤◌, ◌<◌, length};
 ghost use Rattle.limits.specs.Limits.{most_loops};
 ghost use Rattle.wcet.specs.Tally.{Tallied};
@@ -12,7 +14,7 @@ use nesting::{Structure, StructureFault};
 use stepping::{Answer, Entry, Numbers, Run, Stepped};
 
 // The reply to a recording; a refusal of a block with its index.
-#[derive(Drop)]
+#[derive(Clone, Copy)]
 pub enum TallyReply {
     Accepted(usize),
     Structure(StructureFault),
