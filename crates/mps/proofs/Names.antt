@@ -1,14 +1,14 @@
 -- Names and numbers of the text: their bytes, their lengths, and that a name or a number is read as what was written. Assumes nothing.
 use mathlib.Core.Path.{◌≡◌, refl, sym, ◌∙◌, ap}
-use mathlib.Core.Bool.{Bool, true, false, ◌&&◌, false≢true}
+use mathlib.Core.Bool.{Bool, true, false, ◌&&◌}
 use mathlib.Core.List.{[], ◌∷◌}
 use mathlib.Core.Option.{some}
 use Prim.Native.Nat.{ℕ, zero, suc, ◌+◌, ◌-◌, ◌*◌, ◌/◌, ◌%◌, ◌<◌, ◌≤◌}
 use native.Mathlib.Omega.{arith}
-use lib.Dec.{eqb, leb}
+use lib.Dec.{leb}
 use lib.IntN.{ℤ, pos, negsuc}
 use lib.ListN.{length, drop}
-use borrow.Author.Tests.{eqb-true, leb-true, ne_eqb, eq-eqb}
+use borrow.Author.Tests.{leb-true, ne_eqb}
 use Rattle.lists.proofs.Bytes.{same_true}
 use Rattle.lists.specs.Bytes.{same}
 use Rattle.lists.proofs.Tests.{and-true}

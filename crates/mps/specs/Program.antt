@@ -1,6 +1,6 @@
 -- Document 02, §5: "the path-counting program itself", as data: its rows, its columns with their numbers, and its right side.
 use Rattle.std.specs.Prelude.{ℕ, zero, suc, ◌-◌, ◌*◌, ◌/◌, ◌%◌, Bool, true, false, not, List, [], ◌∷◌, ◌++◌, map, eqb, ℤ, pos, negsuc, neg_ℤ, ◌-ℤ◌}
-use Rattle.lists.specs.Search.{if◌then◌else◌}
+use Rattle.lists.specs.Search.{when◌then◌else◌}
 use Rattle.wcet.specs.Table.{Routine, block_count, loop_count, exit, missing, cost, first, second, header, limit, inside}
 
 -- ---- a linear program, over the names R of its rows and C of its columns
@@ -54,7 +54,7 @@ numbers_from a (suc k) = a ∷ numbers_from (suc a) k
 -- those of a list that pass a test
 unfoldable pub keep : {A : Type 0} → (A → Bool) → List A → List A
 keep p [] = []
-keep p (x ∷ xs) = if p x then x ∷ keep p xs else keep p xs
+keep p (x ∷ xs) = when p x then x ∷ keep p xs else keep p xs
 
 -- "Rows go COST, blocks, loops, by number", "one L row per loop from 1 up"
 unfoldable pub rows_of : Routine → List RowName
@@ -65,14 +65,14 @@ abbrev pub source : ℕ → ℕ
 source e = e / 2
 
 abbrev pub target : Routine → ℕ → ℕ
-target t e = if eqb (e % 2) 0 then first t (source e) else second t (source e)
+target t e = when eqb (e % 2) 0 then first t (source e) else second t (source e)
 
 -- "One column per edge, a doubled edge twice", "columns go by edge number"
 unfoldable pub edges_of : Routine → List ℕ
 edges_of t = keep (λ e. not (eqb (target t e) missing)) (numbers_from 0 (2 * block_count t))
 
 abbrev pub one : Bool → ℤ
-one b = if b then pos 1 else pos 0
+one b = when b then pos 1 else pos 0
 
 -- the number of an edge from u to v in a row.
 -- "MPS minimises, so an edge's COST is its target's cost negated";
@@ -82,8 +82,8 @@ unfoldable pub number : Routine → (u v : ℕ) → RowName → ℤ
 number t u v objective = neg_ℤ (pos (cost t v))
 number t u v (block b) = one (eqb u b) -ℤ one (eqb v b)
 number t u v (loop l) =
-    if not (eqb (header t l) v) then pos 0 else
-    if inside t u l then pos 1 else pos 1 -ℤ pos (limit t l)
+    when not (eqb (header t l) v) then pos 0 else
+    when inside t u l then pos 1 else pos 1 -ℤ pos (limit t l)
 
 -- "right side 1 for block 0 and −1 for the exit"; of a loop's row "right side 0"; "the entry's own cost is left out": a right side of the
 -- objective would be a constant of it
