@@ -1,7 +1,7 @@
 -- What is put into a lent buffer, and the lines of fixed MPS in parts.
 use Rattle.std.specs.Prelude.{ℕ, ◌+◌, ◌≤◌, ◌≡◌, Bool, List, [], ◌∷◌, ◌++◌, eqb, length}
 use Rattle.std.proofs.Math.Seq.{paste}
-use Rattle.lists.specs.Search.{if◌then◌else◌}
+use Rattle.lists.specs.Search.{when◌then◌else◌}
 use Rattle.digits.specs.Decimal.{numeral_of}
 use Rattle.mps.specs.Program.{block, loop}
 use Rattle.mps.specs.Text.{row_name, filled}
@@ -27,11 +27,11 @@ loop_row l = 32 ∷ 76 ∷ 32 ∷ 32 ∷ row_name (loop l) ++ 10 ∷ []
 
 -- a number with its sign
 abbrev pub signed_text : Bool → ℕ → List ℕ
-signed_text negative n = if negative then 45 ∷ numeral_of n else numeral_of n
+signed_text negative n = when negative then 45 ∷ numeral_of n else numeral_of n
 
 -- the card of a number with its end: none, where the number is 0
 unfoldable pub card : List ℕ → Bool → ℕ → List ℕ
-card h negative n = if eqb n 0 then [] else h ++ signed_text negative n ++ 10 ∷ []
+card h negative n = when eqb n 0 then [] else h ++ signed_text negative n ++ 10 ∷ []
 
 -- r is the length of such a card, whatever its first 24 columns hold
 pub record CardLength (negative : Bool) (n r : ℕ) : Type 0 where

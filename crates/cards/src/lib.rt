@@ -1,5 +1,7 @@
 // The cards of fixed MPS: the first 24 columns of a card by value, and what puts words, numbers and cards into a lent buffer. Each `put_`
 // function returns the place after what it wrote.
+#![tactic(auto)]
+
 ghost use Rattle.std.specs.Prelude.{◌≡◌, ◌∷◌, [], ◌≤◌, length};
 ghost use Rattle.std.proofs.Math.Seq.{paste};
 ghost use Rattle.lists.specs.Bytes.{bytes};
