@@ -14,7 +14,7 @@ use Rattle.wcet.specs.Table.{Routine, block_count, missing}
 use Rattle.loopsets.specs.Sets.{member, set_at}
 use Rattle.loopsets.specs.declared.LoopSet.{LoopSet}
 use Rattle.nesting.specs.Columns.{Names, Linked}
-use Rattle.lists.specs.Search.{if◌then◌else◌}
+use Rattle.lists.specs.Search.{when◌then◌else◌}
 use Rattle.digits.specs.Decimal.{numeral_in, numeral_of}
 use Rattle.mps.specs.Program.{RowName, objective, block, loop}
 use Rattle.mps.specs.Text.{row_name, edge_name, filled}
@@ -100,7 +100,7 @@ pub edge_head : (e : ℕ) (r : RowName) → length (head (edge_name e) (row_name
 edge_head e r = head_size (edge_name e) (row_name r) (edge_named e).size (row_named r).size
 
 -- the card of 1 or −1
-pub one_card : (h : List ℕ) → length h ≡ 24 → (negative : Bool) → length (card h negative 1) ≡ (if negative then 27 else 26)
+pub one_card : (h : List ℕ) → length h ≡ 24 → (negative : Bool) → length (card h negative 1) ≡ (when negative then 27 else 26)
 unfolding card numeral_of numeral_in
 one_card h l true = rw (length-append (h ++ 45 ∷ 49 ∷ []) (10 ∷ []), length-append h (45 ∷ 49 ∷ [])) (omega arith)
 one_card h l false = rw (length-append (h ++ 49 ∷ []) (10 ∷ []), length-append h (49 ∷ [])) (omega arith)
@@ -111,7 +111,7 @@ pair_length e low high negative =
     length-append (card (head (edge_name e) (row_name (block low))) negative 1) (card (head (edge_name e) (row_name (block high))) (not negative) 1)
     ∙ rw (one_card _ (edge_head e (block low)) negative, one_card _ (edge_head e (block high)) (not negative)) (go negative)
   where
-    go : (b : Bool) → (if b then 27 else 26) + (if not b then 27 else 26) ≡ 53
+    go : (b : Bool) → (when b then 27 else 26) + (when not b then 27 else 26) ≡ 53
     go true = refl
     go false = refl
 

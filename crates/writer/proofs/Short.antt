@@ -8,14 +8,14 @@ use native.Mathlib.Omega.{arith}
 use lib.Dec.{eqb, ltb}
 use lib.IntN.{ℤ, pos, negsuc, ◌-ℤ◌}
 use borrow.Author.Tests.{ltb-true, ltb-false, ne_eqb, eq-eqb}
-use Rattle.lists.specs.Search.{if◌then◌else◌}
+use Rattle.lists.specs.Search.{when◌then◌else◌}
 use Rattle.wcet.specs.Table.{Routine, block_count, loop_count, exit, edge, loop_of, header}
 use Rattle.wcet.proofs.Nesting.{Nested}
 use Rattle.mps.specs.Program.{Entry, RowName, objective, block, loop, numbers_from, keep, rows_of, one, number, right_side, is_zero, entries_of}
 
 -- a number in a row, where it is not 0
 abbrev pub entry_in : RowName → ℤ → List (Entry RowName)
-entry_in r x = if is_zero x then [] else record { row = r; number = x } ∷ []
+entry_in r x = when is_zero x then [] else record { row = r; number = x } ∷ []
 
 -- 1 in the row of u and −1 in that of v, the lower first
 abbrev pub plus : ℕ → Entry RowName
@@ -25,7 +25,7 @@ abbrev pub minus : ℕ → Entry RowName
 minus v = record { row = block v; number = negsuc 0 }
 
 unfoldable pub block_entries : (u v : ℕ) → List (Entry RowName)
-block_entries u v = if ltb u v then plus u ∷ minus v ∷ [] else if ltb v u then minus v ∷ plus u ∷ [] else []
+block_entries u v = when ltb u v then plus u ∷ minus v ∷ [] else when ltb v u then minus v ∷ plus u ∷ [] else []
 
 entries_first : (f : RowName → ℤ) (r : RowName) (rows : List RowName) → entries_of f (r ∷ rows) ≡ entry_in r (f r) ++ entries_of f rows
 unfolding entries_of keep

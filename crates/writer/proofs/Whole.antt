@@ -9,7 +9,7 @@ use borrow.Author.Tests.{eqb-true, eqb-false, ne_eqb, eq-eqb, le-ltb}
 use lib.IntN.{ℤ, pos, negsuc, neg_ℤ, ◌-ℤ◌}
 use lib.ListN.{length, replicate}
 use Rattle.limits.specs.Limits.{most_loops}
-use Rattle.lists.specs.Search.{if◌then◌else◌}
+use Rattle.lists.specs.Search.{when◌then◌else◌}
 use Rattle.lists.specs.Bytes.{bytes}
 use Rattle.integers.proofs.Laws.{ints, diff}
 use Rattle.digits.specs.Decimal.{numeral_in, numeral_of, integer_of}
@@ -61,7 +61,7 @@ head_onto name row w =
 
 -- the number of this sign and size
 abbrev signed : Bool → ℕ → ℤ
-signed negative n = if negative then neg_ℤ (pos n) else pos n
+signed negative n = when negative then neg_ℤ (pos n) else pos n
 
 -- the lines of some entries, each with its end
 abbrev entry_lines : Bytes → List (Entry RowName) → Bytes

@@ -1,8 +1,8 @@
 -- The text piece by piece, as the code writes it: proofs/Whole.antt shows that the pieces make up the text of a pair of tables.
-use Rattle.std.specs.Prelude.{ℕ, ◌+◌, ◌-◌, ◌*◌, ◌/◌, ◌≤◌, ◌<◌, ◌≡◌, Bool, true, false, not, eqb, ltb, leb, length, get_or, drop}
+use Rattle.std.specs.Prelude.{ℕ, ◌-◌, ◌*◌, ◌≤◌, ◌<◌, ◌≡◌, Bool, true, false, not, eqb, ltb, leb, length, get_or, drop}
 use Prim.Native.String.{String}
 use mathlib.Core.List.{List, [], ◌∷◌, ◌++◌, flat_map}
-use Rattle.lists.specs.Search.{if◌then◌else◌}
+use Rattle.lists.specs.Search.{when◌then◌else◌}
 use Rattle.lists.specs.Bytes.{bytes}
 use Rattle.wcet.specs.Table.{Routine, block_count, missing, cost, loop_of, limit, is_header}
 use Rattle.loopsets.specs.Sets.{member, set_at}
@@ -34,14 +34,14 @@ pub record Readable (t : Routine) : Type 0 where
 -- the number of an edge from u to v in the row of v's loop, by the loop sets
 unfoldable pub loop_number : (sets : List ℕ) → Routine → ℕ → ℕ → Signed
 loop_number sets t u v =
-    if not (is_header t v) then record { negative = false; size = 0 } else
-    if member (set_at sets (loop_of t u)) (loop_of t v) then record { negative = false; size = 1 } else
+    when not (is_header t v) then record { negative = false; size = 0 } else
+    when member (set_at sets (loop_of t u)) (loop_of t v) then record { negative = false; size = 1 } else
     record { negative = true; size = limit t (loop_of t v) - 1 }
 
 -- edge number e, where its target is v. A missing one has no line: it leads from its block to itself and has no number.
 unfoldable pub edge_to : (sets : List ℕ) → Routine → ℕ → ℕ → Edge
 edge_to sets t e v =
-    if eqb v missing
+    when eqb v missing
     then record { number = e; source = source e; target = source e; cost = 0; headed = 0; negative = false; coefficient = 0 }
     else record {
       number = e;
@@ -64,7 +64,7 @@ pair_text e low high negative = card (head (edge_name e) (row_name (block low)))
 
 -- of its source and its target
 unfoldable pub ends_text : ℕ → (u v : ℕ) → List ℕ
-ends_text e u v = if ltb u v then pair_text e u v false else if ltb v u then pair_text e v u true else []
+ends_text e u v = when ltb u v then pair_text e u v false else when ltb v u then pair_text e v u true else []
 
 unfoldable pub edge_text : Edge → List ℕ
 edge_text x =
@@ -111,5 +111,5 @@ abbrev pub fits : List ℕ → List ℕ → Bool
 fits w out = leb (length w) (length out)
 
 pub record Landed (w before : List ℕ) (r : MpsReply) (after : List ℕ) : Type 0 where
-  pub replied : r ≡ (if fits w before then Length (length w) else NoRoom)
-  pub held : after ≡ (if fits w before then w ++ drop (length w) before else before)
+  pub replied : r ≡ (when fits w before then Length (length w) else NoRoom)
+  pub held : after ≡ (when fits w before then w ++ drop (length w) before else before)

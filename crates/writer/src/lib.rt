@@ -1,4 +1,6 @@
 // The path-counting program of a pair of tables as a text in fixed MPS, in a lent buffer. The text is measured before a byte is written.
+#![tactic(auto)]
+
 ghost use Rattle.std.specs.Prelude.{◌≡◌, [], ◌*◌, ◌/◌, ◌<◌, length};
 ghost use Rattle.wcet.specs.Rules.{structure_rules};
 ghost use Rattle.wcet.specs.Claim.{AllHold};
@@ -15,7 +17,7 @@ use loopsets::Sets;
 use nesting::{Structure, StructureFault, Structured};
 
 // The length of the text, or the first broken rule: 201 to 207 as the structure check names them, 209, or 411, the text does not fit.
-#[derive(Drop)]
+#[derive(Clone, Copy)]
 pub enum MpsReply {
     Length(usize),
     Structure(StructureFault),
@@ -24,14 +26,14 @@ pub enum MpsReply {
 }
 
 // A number by its sign and size.
-#[derive(Drop)]
+#[derive(Clone, Copy)]
 pub struct Signed {
     pub negative: bool,
     pub size: u64,
 }
 
 // An edge: its number, its blocks, the target's cost, the target's innermost loop, and its number in the row of that loop, by sign and size.
-#[derive(Drop)]
+#[derive(Clone, Copy)]
 pub struct Edge {
     pub number: usize,
     pub source: usize,
