@@ -8,8 +8,8 @@ use native.Mathlib.Omega.{arith}
 use lib.Dec.{eqb}
 use borrow.Author.Tests.{eq-eqb, ne_eqb}
 use lib.IntN.{ℤ, pos, neg_ℤ, ◌+ℤ◌, ◌-ℤ◌, ◌*ℤ◌, +ℤ_idl, +ℤ_idr, +ℤ_invr, +ℤ_comm, +ℤ_assoc, *ℤ-one, *ℤ-zero, zero-*ℤ, *ℤ-negsuc}
-use lib.Signed.{◌≤ℤ◌, le_z}
-use Rattle.lists.specs.Search.{if◌then◌else◌}
+use lib.Signed.{◌≤ℤ◌}
+use Rattle.lists.specs.Search.{when◌then◌else◌}
 use Rattle.integers.specs.Parts.{up, dn}
 use Rattle.integers.proofs.Laws.{ints, sum, diff, times}
 use Rattle.wcet.specs.Table.{Routine, block_count, loop_count, exit, cost, loop_of, figure, header, limit, multiplier, edge, inside, is_header}
@@ -28,7 +28,7 @@ use Rattle.flows.proofs.Rows.{total_rows, RowOf, rows_all, EdgeOf, edges_all, ed
 -- ---- what the figures and multipliers give of an edge's numbers
 
 -- in the rows of the blocks: the difference of two figures
-one_term : (z : ℤ) (p q : Bool) → z *ℤ (one p -ℤ one q) ≡ (if p then z else pos 0) +ℤ (if q then neg_ℤ z else pos 0)
+one_term : (z : ℤ) (p q : Bool) → z *ℤ (one p -ℤ one q) ≡ (when p then z else pos 0) +ℤ (when q then neg_ℤ z else pos 0)
 unfolding lib.IntN.one
 one_term z true true = *ℤ-zero z ∙ sym (+ℤ_invr z)
 one_term z true false = *ℤ-one z ∙ sym (+ℤ_idr z)
@@ -38,10 +38,10 @@ one_term z false false = *ℤ-zero z
 over_blocks : (f : ℕ → ℤ) (n u v : ℕ) → u < n → v < n → total (λ b. f b *ℤ (one (eqb u b) -ℤ one (eqb v b))) (numbers_from 0 n) ≡ f u -ℤ f v
 over_blocks f n u v hu hv =
     ap (λ (g : ℕ → ℤ). total g (numbers_from 0 n)) (fun_ext (λ b. one_term (f b) (eqb u b) (eqb v b)))
-    ∙ total_plus (λ b. if eqb u b then f b else pos 0) (λ b. if eqb v b then neg_ℤ (f b) else pos 0) (numbers_from 0 n)
+    ∙ total_plus (λ b. when eqb u b then f b else pos 0) (λ b. when eqb v b then neg_ℤ (f b) else pos 0) (numbers_from 0 n)
     ∙ ap₂ ◌+ℤ◌ (at f u hu) (at (λ b. neg_ℤ (f b)) v hv)
   where
-    at : (g : ℕ → ℤ) (u : ℕ) → u < n → total (λ b. if eqb u b then g b else pos 0) (numbers_from 0 n) ≡ g u
+    at : (g : ℕ → ℤ) (u : ℕ) → u < n → total (λ b. when eqb u b then g b else pos 0) (numbers_from 0 n) ≡ g u
     at g u h = total_one g (eqb u) u n 0 (omega arith) (omega arith) (eq-eqb u u refl) (λ i ne. ne_eqb u i (λ e. ne (sym e)))
 
 -- the dual values of the rows
@@ -51,8 +51,8 @@ dual t (block b) = figure t b
 dual t (loop l) = pos (multiplier t l)
 
 -- the inequality of an edge in one form for its three cases
-one_form : (headed inner : Bool) (c : ℕ) (fu fv : ℤ) (k b : ℕ) → inequality le_z headed inner c fu fv k b ≡ true
-    → pos c ≤ℤ (fu -ℤ fv +ℤ pos k *ℤ (if not headed then pos 0 else if inner then pos 1 else pos 1 -ℤ pos b))
+one_form : (headed inner : Bool) (c : ℕ) (fu fv : ℤ) (k b : ℕ) → inequality headed inner c fu fv k b ≡ true
+    → pos c ≤ℤ (fu -ℤ fv +ℤ pos k *ℤ (when not headed then pos 0 else when inner then pos 1 else pos 1 -ℤ pos b))
 unfolding inequality
 one_form false inner c fu fv k b h = omega (ints, sum (fu -ℤ fv) (pos (k * 0)))
 one_form true true c fu fv k b h = omega (ints, sum (fu -ℤ fv) (pos k), sum (fu -ℤ fv) (pos (k * 1)))

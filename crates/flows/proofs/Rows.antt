@@ -8,7 +8,7 @@ use native.Mathlib.Omega.{arith}
 use lib.Dec.{eqb}
 use lib.IntN.{ℤ, pos, negsuc, ◌+ℤ◌, ◌*ℤ◌, +ℤ_idl, +ℤ_idr}
 use borrow.Author.Tests.{eqb-true, eqb-false, eq-eqb, ne_eqb}
-use Rattle.lists.specs.Search.{if◌then◌else◌}
+use Rattle.lists.specs.Search.{when◌then◌else◌}
 use Rattle.wcet.specs.Table.{Routine, block_count, loop_count, exit, missing, edge}
 use Rattle.mps.specs.Program.{Row, Entry, RowName, objective, block, loop, kind_of, numbers_from, keep, rows_of, source, target, edges_of, number, right_side, is_zero}
 use Rattle.mps.specs.Program.{entries_of, column_of, program_of}
@@ -48,7 +48,7 @@ is_zero_lem (negsuc n) e = absurd (true≢false (sym e))
 
 -- f's number in row s, as row r sees it
 abbrev seen : (RowName → ℤ) → RowName → RowName → ℤ
-seen f r s = if same_row s r then f s else pos 0
+seen f r s = when same_row s r then f s else pos 0
 
 number_total : (f : RowName → ℤ) (r : RowName) (rows : List RowName) → number_at same_row r (entries_of f rows) ≡ total (seen f r) rows
 unfolding entries_of keep number_at total
@@ -61,15 +61,15 @@ number_total f r (s ∷ rows) = first (is_zero (f s)) refl ∙ ap (λ (z : ℤ).
     rest : List (Entry RowName)
     rest = entries_of f rows
 
-    none : (b : Bool) → number_at same_row r rest ≡ (if b then pos 0 else pos 0) +ℤ number_at same_row r rest
+    none : (b : Bool) → number_at same_row r rest ≡ (when b then pos 0 else pos 0) +ℤ number_at same_row r rest
     none true = sym (+ℤ_idl (number_at same_row r rest))
     none false = sym (+ℤ_idl (number_at same_row r rest))
 
-    some : (b : Bool) → (if b then f s +ℤ number_at same_row r rest else number_at same_row r rest) ≡ (if b then f s else pos 0) +ℤ number_at same_row r rest
+    some : (b : Bool) → (when b then f s +ℤ number_at same_row r rest else number_at same_row r rest) ≡ (when b then f s else pos 0) +ℤ number_at same_row r rest
     some true = refl
     some false = sym (+ℤ_idl (number_at same_row r rest))
 
-    first : (z : Bool) → is_zero (f s) ≡ z → number_at same_row r (if not z then here ∷ rest else rest) ≡ seen f r s +ℤ number_at same_row r rest
+    first : (z : Bool) → is_zero (f s) ≡ z → number_at same_row r (when not z then here ∷ rest else rest) ≡ seen f r s +ℤ number_at same_row r rest
     first true e = rw (is_zero_lem (f s) e) (none (same_row s r))
     first false e = some (same_row s r)
 

@@ -9,7 +9,7 @@ use borrow.Author.Tests.{eqb-true, eq-eqb, ne_eqb}
 use lib.IntN.{ℤ, pos, neg_ℤ, ◌+ℤ◌, ◌-ℤ◌, +ℤ_invr, neg_ℤ-+ℤ, neg_ℤ-neg_ℤ}
 use lib.ListN.{length, get_or}
 use lib.Signed.{◌≤ℤ◌}
-use Rattle.lists.specs.Search.{if◌then◌else◌}
+use Rattle.lists.specs.Search.{when◌then◌else◌}
 use Rattle.lists.proofs.Tests.{and-true}
 use Rattle.integers.proofs.Laws.{ints, sum, diff, times}
 use Rattle.wcet.specs.Table.{Routine, block_count, loop_count, exit, cost, header, limit, edge, inside}
@@ -43,7 +43,7 @@ block_steps t b (v ∷ w) u =
 
 -- a loop: what is left of its limit b after c visits, where the path starts inside of it
 abbrev left : Bool → ℕ → ℕ → ℤ
-left i b c = if i then pos b -ℤ pos c else pos 0
+left i b c = when i then pos b -ℤ pos c else pos 0
 
 left_most : (i : Bool) (b c : ℕ) → c ≤ b → pos 0 ≤ℤ left i b c
 left_most true b c h = omega (ints, diff (pos b) (pos c))
@@ -51,8 +51,8 @@ left_most false b c h = omega ints
 
 -- one step, by its tests: u and v inside the loop, v its header
 loop_step_lem : (iu iv eh : Bool) (b c : ℕ) → (eh ≡ true → iv ≡ true) → (iv ≡ true → iu ≡ false → eh ≡ true) → c ≤ b
-    → ((if not eh then pos 0 else if iu then pos 1 else pos 1 -ℤ pos b)
-    +ℤ left iv b (if iu && not iv then 0 else if not eh then c else if iu then c + 1 else 1)) ≤ℤ left iu b c
+    → ((when not eh then pos 0 else when iu then pos 1 else pos 1 -ℤ pos b)
+    +ℤ left iv b (when iu && not iv then 0 else when not eh then c else when iu then c + 1 else 1)) ≤ℤ left iu b c
 loop_step_lem true true true b c p q h = omega (ints, diff (pos b) (pos (c + 1)), sum (pos 1) (pos b -ℤ pos (c + 1)), diff (pos b) (pos c))
 loop_step_lem true true false b c p q h = omega (ints, sum (pos 0) (pos b -ℤ pos c))
 loop_step_lem true false true b c p q h = absurd (false≢true (p refl))

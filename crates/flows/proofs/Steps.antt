@@ -7,7 +7,7 @@ use native.Mathlib.Omega.{arith}
 use lib.Dec.{eqb}
 use borrow.Author.Tests.{eqb-true, eq-eqb, ne_eqb}
 use lib.IntN.{ℤ, pos, ◌+ℤ◌, ◌*ℤ◌, zero-*ℤ}
-use Rattle.lists.specs.Search.{if◌then◌else◌}
+use Rattle.lists.specs.Search.{when◌then◌else◌}
 use Rattle.lists.proofs.Tests.{and-true}
 use Rattle.integers.proofs.Laws.{ints, sum, times}
 use Rattle.wcet.specs.Table.{Routine, block_count, missing, first, second, some_edge, edge}
@@ -51,30 +51,30 @@ taken_edge t u v h = go (not (eqb (first t u) missing) && eqb (first t u) v) ref
         (same, rw same at q.0)
 
     go : (b : Bool) → (not (eqb (first t u) missing) && eqb (first t u) v) ≡ b → (b || (not (eqb (second t u) missing) && eqb (second t u) v)) ≡ true
-        → EdgeFrom t u v (if b then 2 * u else 2 * u + 1)
+        → EdgeFrom t u v (when b then 2 * u else 2 * u + 1)
     go true e h = let q = present (first t u) e in record { from = even; to = rw (even_rest, even) q.0; there = q.1 }
     go false e h = let q = present (second t u) h in record { from = odd; to = rw (odd_rest, odd) q.0; there = q.1 }
 
 module _ (t : Routine) where
   -- of all edges, one
-  one_edge : (g : ℕ → ℤ) (u v k : ℕ) → u < block_count t → EdgeFrom t u v k → total (λ e. if eqb k e then g e else pos 0) (edges_of t) ≡ g k
+  one_edge : (g : ℕ → ℤ) (u v k : ℕ) → u < block_count t → EdgeFrom t u v k → total (λ e. when eqb k e then g e else pos 0) (edges_of t) ≡ g k
   unfolding edges_of
   one_edge g u v k b E =
-      total_keep (λ e. if eqb k e then g e else pos 0) present (numbers_from 0 (2 * block_count t))
-      ∙ total_only (λ e. if present e then (if eqb k e then g e else pos 0) else pos 0) k (2 * block_count t) 0 (omega arith) (omega (arith, E.from)) other
+      total_keep (λ e. when eqb k e then g e else pos 0) present (numbers_from 0 (2 * block_count t))
+      ∙ total_only (λ e. when present e then (when eqb k e then g e else pos 0) else pos 0) k (2 * block_count t) 0 (omega arith) (omega (arith, E.from)) other
       ∙ rw (E.to, E.there, eq-eqb k k refl)
     where
       present : ℕ → Bool
       present e = not (eqb (target t e) missing)
 
-      none : (b : Bool) → (if b then pos 0 else pos 0) ≡ pos 0
+      none : (b : Bool) → (when b then pos 0 else pos 0) ≡ pos 0
       none true = refl
       none false = refl
 
-      other : (i : ℕ) → 0 ≤ i → i < 0 + 2 * block_count t → (i ≡ k → ⊥) → (if present i then (if eqb k i then g i else pos 0) else pos 0) ≡ pos 0
+      other : (i : ℕ) → 0 ≤ i → i < 0 + 2 * block_count t → (i ≡ k → ⊥) → (when present i then (when eqb k i then g i else pos 0) else pos 0) ≡ pos 0
       other i c d ne = rw (ne_eqb k i (λ e. ne (sym e))) (none (present i))
 
-  times_counted : (b : Bool) (n : ℕ) (z : ℤ) → pos ((if b then 1 else 0) + n) *ℤ z ≡ (if b then z else pos 0) +ℤ pos n *ℤ z
+  times_counted : (b : Bool) (n : ℕ) (z : ℤ) → pos ((when b then 1 else 0) + n) *ℤ z ≡ (when b then z else pos 0) +ℤ pos n *ℤ z
   times_counted true n z = omega (ints, times (1 + n) z, times n z, sum z (pos n *ℤ z))
   times_counted false n z = omega (ints, times (0 + n) z, times n z, sum (pos 0) (pos n *ℤ z))
 
@@ -86,5 +86,5 @@ module _ (t : Routine) where
       let q : (edge t u v ≡ true) × (path t v w ≡ true) = and-true _ _ h in
       let E : EdgeFrom t u v (edge_taken t u v) = taken_edge t u v q.0 in
       ap (λ (g : ℕ → ℤ). total g (edges_of t)) (fun_ext (λ e. times_counted (eqb (edge_taken t u v) e) (taken t v w e) (f (source e) (target t e))))
-      ∙ total_plus (λ e. if eqb (edge_taken t u v) e then f (source e) (target t e) else pos 0) (λ e. pos (taken t v w e) *ℤ f (source e) (target t e)) (edges_of t)
+      ∙ total_plus (λ e. when eqb (edge_taken t u v) e then f (source e) (target t e) else pos 0) (λ e. pos (taken t v w e) *ℤ f (source e) (target t e)) (edges_of t)
       ∙ ap₂ ◌+ℤ◌ (one_edge (λ e. f (source e) (target t e)) u v (edge_taken t u v) b E ∙ ap₂ f E.from E.to) (sum_taken N f w v (N.target u v b q.0) q.1)

@@ -8,7 +8,7 @@ use native.Mathlib.Nat.{mul-le-mul_left}
 use native.Mathlib.Omega.{arith}
 use lib.IntN.{ℤ, pos, negsuc, neg_ℤ, ◌+ℤ◌, ◌*ℤ◌, +ℤ_idl, +ℤ_idr, +ℤ_assoc, zero-*ℤ, *ℤ-zero, neg_ℤ-+ℤ, neg_ℤ-neg_ℤ}
 use lib.Signed.{◌≤ℤ◌}
-use Rattle.lists.specs.Search.{if◌then◌else◌}
+use Rattle.lists.specs.Search.{when◌then◌else◌}
 use Rattle.integers.specs.Parts.{up, dn}
 use Rattle.integers.proofs.Laws.{ints, sum, times}
 use Rattle.integers.proofs.Direction.{at_most, add}
@@ -89,15 +89,15 @@ module _ {A : Type 0} where
   total_le P f g h (x ∷ xs) a = add ◌≤ℤ◌ at_most (f x) (g x) (total f xs) (total g xs) (h x a.0) (total_le P f g h xs a.1)
 
   -- a sum over what passes a test
-  pub total_keep : (f : A → ℤ) (p : A → Bool) (xs : List A) → total f (keep p xs) ≡ total (λ x. if p x then f x else pos 0) xs
+  pub total_keep : (f : A → ℤ) (p : A → Bool) (xs : List A) → total f (keep p xs) ≡ total (λ x. when p x then f x else pos 0) xs
   unfolding total keep
   total_keep f p [] = refl
   total_keep f p (x ∷ xs) = go (p x) (total_keep f p xs)
     where
-      go : (b : Bool) → total f (keep p xs) ≡ total (λ x. if p x then f x else pos 0) xs
-          → total f (if b then x ∷ keep p xs else keep p xs) ≡ (if b then f x else pos 0) +ℤ total (λ x. if p x then f x else pos 0) xs
+      go : (b : Bool) → total f (keep p xs) ≡ total (λ x. when p x then f x else pos 0) xs
+          → total f (when b then x ∷ keep p xs else keep p xs) ≡ (when b then f x else pos 0) +ℤ total (λ x. when p x then f x else pos 0) xs
       go true e = ap (λ (z : ℤ). f x +ℤ z) e
-      go false e = e ∙ sym (+ℤ_idl (total (λ x. if p x then f x else pos 0) xs))
+      go false e = e ∙ sym (+ℤ_idl (total (λ x. when p x then f x else pos 0) xs))
 
 pub total_map : {A B : Type 0} (f : B → ℤ) (g : A → B) (xs : List A) → total f (map g xs) ≡ total (λ x. f (g x)) xs
 unfolding total
@@ -133,5 +133,5 @@ total_only f b (suc k) a p q z = go (ℕ_discrete a b) (λ l. total_only f b k (
 
 -- those of one number that passes a test, and no other does
 pub total_one : (f : ℕ → ℤ) (p : ℕ → Bool) (b k a : ℕ) → a ≤ b → b < a + k → p b ≡ true → ((i : ℕ) → (i ≡ b → ⊥) → p i ≡ false)
-    → total (λ i. if p i then f i else pos 0) (numbers_from a k) ≡ f b
-total_one f p b k a l h here others = total_only (λ i. if p i then f i else pos 0) b k a l h (λ i c d ne. rw (others i ne)) ∙ rw here
+    → total (λ i. when p i then f i else pos 0) (numbers_from a k) ≡ f b
+total_one f p b k a l h here others = total_only (λ i. when p i then f i else pos 0) b k a l h (λ i c d ne. rw (others i ne)) ∙ rw here

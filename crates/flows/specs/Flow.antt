@@ -3,7 +3,7 @@
 use Rattle.std.specs.Prelude.{ℕ, ◌+◌, ◌*◌, ◌≡◌, ◌↔◌, Bool, true, false, not, ◌&&◌, List, [], ◌∷◌, eqb, ℤ, pos, ◌+ℤ◌, ◌-ℤ◌, ◌*ℤ◌, ◌≤ℤ◌}
 use Rattle.std.proofs.Math.Option.{some}
 use Rattle.lists.specs.Bytes.{same}
-use Rattle.lists.specs.Search.{if◌then◌else◌}
+use Rattle.lists.specs.Search.{when◌then◌else◌}
 use Rattle.wcet.specs.Table.{Routine, missing, cost, first}
 use Rattle.wcet.specs.Rules.{accepted, structure_rules, table_reply}
 use Rattle.wcet.specs.Run.{run_cost}
@@ -19,7 +19,7 @@ use Rattle.mps.specs.Claim.{named}
 -- the number that entries give row r: 0 where they have none, and the sum where they have several
 unfoldable pub number_at : {R : Type 0} → (R → R → Bool) → R → List (Entry R) → ℤ
 number_at test r [] = pos 0
-number_at test r (x ∷ xs) = if test x.row r then x.number +ℤ number_at test r xs else number_at test r xs
+number_at test r (x ∷ xs) = when test x.row r then x.number +ℤ number_at test r xs else number_at test r xs
 
 -- A point x has a number for each column. Without BOUNDS a column's value is 0 or more, with no upper bound; x holds it times some q, so as natural
 -- numbers. What x makes of row r: each column's number there times the column's, added up.
@@ -98,12 +98,12 @@ mps_objective m x = row_value same m.columns x (first_free m.rows)
 -- the number of the edge that a step from u to v takes: the first successor, where it is v. So a run over a doubled edge is booked on the
 -- first column.
 abbrev pub edge_taken : Routine → ℕ → ℕ → ℕ
-edge_taken t u v = if not (eqb (first t u) missing) && eqb (first t u) v then 2 * u else 2 * u + 1
+edge_taken t u v = when not (eqb (first t u) missing) && eqb (first t u) v then 2 * u else 2 * u + 1
 
 -- how often the blocks of w after block u take edge e
 unfoldable pub taken : Routine → ℕ → List ℕ → ℕ → ℕ
 taken t u [] e = 0
-taken t u (v ∷ w) e = (if eqb (edge_taken t u v) e then 1 else 0) + taken t v w e
+taken t u (v ∷ w) e = (when eqb (edge_taken t u v) e then 1 else 0) + taken t v w e
 
 -- the flow of a run: how often it takes edge e
 unfoldable pub flow_of : Routine → List ℕ → ℕ → ℕ
