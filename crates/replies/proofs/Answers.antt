@@ -25,7 +25,7 @@ use Rattle.recordings.specs.declared.VcdReply.{VcdReply}
 use Rattle.walk.specs.Reply.{meaning}
 use Rattle.walk.specs.declared.WalkReply.{WalkReply}
 use Rattle.walk.specs.declared.WalkReply.TheVariants as walk
-use Rattle.csv.specs.declared.Ending.{Ending}
+use Rattle.csv_text.specs.declared.Ending.{Ending}
 use Rattle.tables.specs.declared.ReadReply.{ReadReply}
 use Rattle.tables.specs.declared.ReadReply.TheVariants.{Rows, Refused}
 use Rattle.replies.specs.declared.Reply.{Reply}

@@ -2,8 +2,8 @@
 use Rattle.std.specs.Prelude.{ℕ, ◌^◌, ◌<◌, ℤ, pos, ◌<ℤ◌}
 use Rattle.wcet.specs.Rules.{Reply as Answer, accepted, refused}
 use Rattle.wcet.specs.Walk.{Walked}
-use Rattle.csv.specs.declared.Ending.{Ending}
-use Rattle.csv.specs.declared.Ending.TheVariants.{CrLf, Lf, EndOfText}
+use Rattle.csv_text.specs.declared.Ending.{Ending}
+use Rattle.csv_text.specs.declared.Ending.TheVariants.{CrLf, Lf, EndOfText}
 use Rattle.tables.specs.declared.ReadReply.{ReadReply}
 use Rattle.tables.specs.declared.ReadReply.TheVariants.{Rows, Refused}
 use Rattle.replies.specs.declared.Reply.{Reply}

@@ -1,4 +1,6 @@
 // One reply struct for every answer of the C library: its four numbers from each answer.
+#![tactic(auto)]
+
 ghost use Rattle.std.specs.Prelude.{◌≡◌, ◌<◌, ◌^◌};
 ghost use Rattle.nesting.specs.Answers.{refusal};
 ghost use Rattle.certificate.specs.Answers.{table_meaning};
@@ -11,7 +13,7 @@ ghost use Rattle.recordings.specs.Answers.{vcd_meaning};
 ghost use Rattle.replies.specs.Fields.{acceptance, refusing, of_tables, of_count, of_walk, ending_number, of_reading, PlaceFits, ValueFits};
 
 use certificate::TableReply;
-use csv::Ending;
+use csv_text::Ending;
 use nesting::StructureFault;
 use recordings::VcdReply;
 use shortest::ShortestReply;
@@ -24,7 +26,7 @@ use writer::MpsReply;
 // number 0: accepted, with value the row count, the bound, the cost, the step count, the count of places filled or the length, and more the line end of a text's first record (0 CR LF, 1 LF, 2 the
 // end of the text) or the steps of a walk. Else the number and place of a refusal.
 #[repr(C)]
-#[derive(Drop)]
+#[derive(Clone, Copy)]
 pub struct Reply {
     pub number: u32,
     pub place: u32,
