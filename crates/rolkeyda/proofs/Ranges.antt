@@ -9,7 +9,7 @@ use native.Mathlib.Omega.{arith}
 use lib.Dec.{eqb, ltb}
 use lib.ListN.{length}
 use borrow.Author.Tests.{ltb-false}
-use Rattle.lists.specs.Search.{if◌then◌else◌, first_below}
+use Rattle.lists.specs.Search.{when◌then◌else◌, first_below}
 use Rattle.lists.proofs.Search.{Lowest, not_found, found_lowest}
 use Rattle.lists.proofs.Tests.{or_false}
 use Rattle.integers.proofs.Laws.{ints}
@@ -143,7 +143,7 @@ from_place : (t : Routine) (s : State) (i : ℕ) (w : List ℕ) (x : Walked) (n 
 unfolding walk_from
 from_place t s i [] x n p e = go (eqb s.block (exit t)) e
   where
-    go : (b : Bool) → (if b then accepted x else refused 314 i) ≡ refused n p → p ≤ i + 0
+    go : (b : Bool) → (when b then accepted x else refused 314 i) ≡ refused n p → p ≤ i + 0
     go true e = absurd (let z : ◌≡◌ {A = ℕ} 0 1 = cc in omega arith)
     go false e = let there : i ≡ p = cc in omega arith
 from_place t s i (v ∷ w) x n p e = go (not (ltb v (block_count t))) (eqb s.block (exit t)) (not (edge t s.block v)) (passes_limit t (next t s v)) e (from_place t (next t s v) (suc i) w x n p)
@@ -154,7 +154,7 @@ from_place t s i (v ∷ w) x n p e = go (not (ltb v (block_count t))) (eqb s.blo
     here : i ≡ p → p ≤ i + suc (length w)
     here e = omega arith
 
-    go : (a b c d : Bool) → (if a then refused 302 i else if b then refused 311 i else if c then refused 312 i else if d then refused 313 i else rest) ≡ refused n p
+    go : (a b c d : Bool) → (when a then refused 302 i else when b then refused 311 i else when c then refused 312 i else when d then refused 313 i else rest) ≡ refused n p
         → (rest ≡ refused n p → p ≤ suc i + length w) → p ≤ i + suc (length w)
     go true b c d e later = here cc
     go false true c d e later = here cc
@@ -170,7 +170,7 @@ blocks_place t (v ∷ w) x n p e = go (not (ltb v (block_count t))) (not (eqb v 
     first : 0 ≡ p → p ≤ suc (length w)
     first e = omega arith
 
-    go : (a b : Bool) → (if a then refused 302 0 else if b then refused 303 0 else walk_from t start 1 w (accepted x)) ≡ refused n p → p ≤ suc (length w)
+    go : (a b : Bool) → (when a then refused 302 0 else when b then refused 303 0 else walk_from t start 1 w (accepted x)) ≡ refused n p → p ≤ suc (length w)
     go true b e = first cc
     go false true e = first cc
     go false false e = omega (arith, from_place t start 1 w x n p e)
@@ -212,7 +212,7 @@ recording_from_place : (t : Routine) (u i : ℕ) (w : List ℕ) (k n p : ℕ) �
 unfolding recording_from
 recording_from_place t u i [] k n p e = go (eqb u (exit t)) e
   where
-    go : (b : Bool) → (if b then accepted k else refused 314 i) ≡ refused n p → p ≤ i + 0
+    go : (b : Bool) → (when b then accepted k else refused 314 i) ≡ refused n p → p ≤ i + 0
     go true e = absurd (let z : ◌≡◌ {A = ℕ} 0 1 = cc in omega arith)
     go false e = let there : i ≡ p = cc in omega arith
 recording_from_place t u i (v ∷ w) k n p e = go (not (ltb v (block_count t))) (eqb u (exit t)) (not (edge t u v)) e (recording_from_place t v (suc i) w k n p)
@@ -223,7 +223,7 @@ recording_from_place t u i (v ∷ w) k n p e = go (not (ltb v (block_count t))) 
     here : i ≡ p → p ≤ i + suc (length w)
     here e = omega arith
 
-    go : (a b c : Bool) → (if a then refused 302 i else if b then refused 311 i else if c then refused 312 i else rest) ≡ refused n p
+    go : (a b c : Bool) → (when a then refused 302 i else when b then refused 311 i else when c then refused 312 i else rest) ≡ refused n p
         → (rest ≡ refused n p → p ≤ suc i + length w) → p ≤ i + suc (length w)
     go true b c e later = here cc
     go false true c e later = here cc
@@ -238,7 +238,7 @@ recording_place t (v ∷ w) k n p e = go (not (ltb v (block_count t))) (not (eqb
     first : 0 ≡ p → p ≤ suc (length w)
     first e = omega arith
 
-    go : (a b : Bool) → (if a then refused 302 0 else if b then refused 303 0 else recording_from t 0 1 w (accepted k)) ≡ refused n p → p ≤ suc (length w)
+    go : (a b : Bool) → (when a then refused 302 0 else when b then refused 303 0 else recording_from t 0 1 w (accepted k)) ≡ refused n p → p ≤ suc (length w)
     go true b e = first cc
     go false true e = first cc
     go false false e = omega (arith, recording_from_place t 0 1 w k n p e)

@@ -1,5 +1,7 @@
-// The C library: the readers, the table checker, the checker of a second certificate, the walk checker, the tally, the reader of recordings, the solver and the writer.
+// The functions of the C library, which the crate `rolkeyda_c` exports: the readers, the table checker, the checker of a second certificate, the walk checker, the tally, the reader of recordings, the solver and the writer.
 // Nothing is decided here; each function hands its answer over in the fields of the one reply struct.
+#![tactic(auto)]
+
 ghost use Rattle.nesting.specs.Columns.{routine};
 ghost use Rattle.shortest.specs.Answers.{low_certificate};
 ghost use Rattle.tables.specs.Columns.{blocks, loops};
@@ -8,8 +10,7 @@ ghost use Rattle.rolkeyda.specs.Replies.{TablesReplied, CertificateReplied, Tabl
 use replies::Reply;
 
 // Reads a block table into the columns. A refusal leaves them as they were.
-#[unsafe(no_mangle)]
-pub extern "C" fn rolkeyda_read_blocks(
+pub fn rolkeyda_read_blocks(
     text: &[u8],
     header_row: bool,
     cost: &mut [u32],
@@ -25,8 +26,7 @@ pub extern "C" fn rolkeyda_read_blocks(
 }
 
 // Reads a loop table into the columns. A refusal leaves them as they were.
-#[unsafe(no_mangle)]
-pub extern "C" fn rolkeyda_read_loops(
+pub fn rolkeyda_read_loops(
     text: &[u8],
     header_row: bool,
     parent: &mut [u16],
@@ -41,8 +41,7 @@ pub extern "C" fn rolkeyda_read_loops(
 }
 
 // The bound of a pair of tables, or the first broken rule.
-#[unsafe(no_mangle)]
-pub extern "C" fn rolkeyda_check(
+pub fn rolkeyda_check(
     cost: &[u32],
     loops: &[u16],
     first: &[u16],
@@ -62,8 +61,7 @@ pub extern "C" fn rolkeyda_check(
 }
 
 // The lower bound of a routine by a second certificate, or the first broken rule.
-#[unsafe(no_mangle)]
-pub extern "C" fn rolkeyda_shortest(
+pub fn rolkeyda_shortest(
     cost: &[u32],
     loops: &[u16],
     first: &[u16],
@@ -97,8 +95,7 @@ pub extern "C" fn rolkeyda_shortest(
 }
 
 // The cost and the steps of a walk, or what is wrong with it or with its tables.
-#[unsafe(no_mangle)]
-pub extern "C" fn rolkeyda_walk(
+pub fn rolkeyda_walk(
     cost: &[u32],
     loops: &[u16],
     first: &[u16],
@@ -120,8 +117,7 @@ pub extern "C" fn rolkeyda_walk(
 
 // The step count of a recorded walk, and for each loop the number of stays and the greatest number of header visits in one stay; or what is wrong
 // with the walk, with its tables or with the lent columns, which then stay as they were.
-#[unsafe(no_mangle)]
-pub extern "C" fn rolkeyda_tally(
+pub fn rolkeyda_tally(
     cost: &[u32],
     loops: &[u16],
     first: &[u16],
@@ -146,8 +142,7 @@ pub extern "C" fn rolkeyda_tally(
 
 // The changed values of the named vector of a recording, in the first places of the buffer, and their count; or what is wrong with the tables or the text, and
 // the buffer stays as it was.
-#[unsafe(no_mangle)]
-pub extern "C" fn rolkeyda_vcd(
+pub fn rolkeyda_vcd(
     cost: &[u32],
     loops: &[u16],
     first: &[u16],
@@ -171,8 +166,7 @@ pub extern "C" fn rolkeyda_vcd(
 
 // The bound of the remade figures and multipliers, which are then in place of the given ones; or the first broken rule, and both columns stay as
 // they were.
-#[unsafe(no_mangle)]
-pub extern "C" fn rolkeyda_solve(
+pub fn rolkeyda_solve(
     cost: &[u32],
     loops: &[u16],
     first: &[u16],
@@ -192,8 +186,7 @@ pub extern "C" fn rolkeyda_solve(
 }
 
 // Writes the program of the tables as MPS into the buffer. The value is the length of the text; a refusal leaves the buffer as it was.
-#[unsafe(no_mangle)]
-pub extern "C" fn rolkeyda_mps(
+pub fn rolkeyda_mps(
     cost: &[u32],
     loops: &[u16],
     first: &[u16],
