@@ -1,6 +1,6 @@
 -- The loops of read_all and write_all: the calls so far, and what one more call adds to them. Assumes nothing.
 use mathlib.Core.Path.{◌≡◌, refl, sym, ◌∙◌, ap}
-use mathlib.Core.Bool.{Bool, true, false, cond}
+use mathlib.Core.Bool.{Bool, true, false}
 use mathlib.Core.List.{List, [], ◌∷◌, ◌++◌, append-nil, append_assoc}
 use Prim.Native.Nat.{ℕ, zero, suc, ◌+◌, ◌-◌, ◌≤◌, ◌<◌}
 use native.Mathlib.Omega.{arith}
@@ -13,9 +13,8 @@ use mir.Syntax.{w64}
 use mir.Val.{SFits, to_z, of_z}
 use mir.Facts.{to_z-of_z}
 use borrow.Rule.Slice.PartMut.{put_mid, take_put, post_of}
-use Rattle.libc.specs.Io.{Moved}
 use Rattle.streams.specs.declared.Content.{Content}
-use Rattle.streams.specs.Calls.{Call, Within, Answered, Took, Opened, After, ReadCalls, count_of, bytes_of, Gave, AllRead, FileRead, WriteCalls, WroteTo}
+use Rattle.streams.specs.Calls.{Moved, Call, Answered, Took, Opened, After, ReadCalls, count_of, bytes_of, AllRead, FileRead, WriteCalls, WroteTo}
 
 -- ---- an answer
 

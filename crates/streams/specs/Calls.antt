@@ -1,15 +1,40 @@
--- What calls of the C library gave, one call after the other. Assumes nothing: these are definitions.
+-- What calls of the system gave, one call after the other. Assumes nothing: these are definitions.
 --
--- No contract can say which bytes `libc::read` and `libc::write` move, nor which file `os::open_read` opens. So the fact that a call was made
--- has a name: `Answered`, `Took`, `Opened`. Each means what the assumed contract says of the call, and no more. The proofs of the three
--- functions that make one call each (`read_some`, `write_some`, `open_file`) are the only ones that unfold these names. In every other proof
--- such a fact comes from a call. These facts say that calls were made. They do not say that no other call was made, nor in which order, nor
--- that a descriptor was not opened anew in between: that is read off the code, in which each of the three calls stands at one place.
-use Rattle.std.specs.Prelude.{ℕ, zero, suc, ◌-◌, ◌≤◌, ◌<◌, ◌≡◌, Bool, true, false, cond, List, [], ◌∷◌, ◌++◌, ℤ, pos, negsuc, length, take, drop}
-use Rattle.libc.specs.Io.{Moved}
+-- No contract of std can say which bytes `Read::read` and `Write::write` move, nor which file `File::open` opens. So the fact that a call was made
+-- has a name: `Answered`, `Took`, `Opened`. Each means what std's contract says of the call, and no more. The proofs of three functions
+-- (`read_some`, `write_some`, `open_file`) are the only ones that unfold these names. In every other proof such a fact comes from a call. Each of
+-- the three makes one call, or none: a file that was not opened, a negative number that is read, a descriptor that has to be duplicated and cannot
+-- be, and a path that is not UTF-8 are answered with no call, as one that failed. A descriptor that std has no name for is moved by the crate
+-- `io`, which is lent the first byte alone. These facts say that calls were made. They do not say that no other call was made, nor in which order,
+-- nor that a descriptor was not opened anew in between: that is read off the code, in which each of the three calls stands in one function.
+use Rattle.std.specs.Prelude.{ℕ, zero, suc, ◌-◌, ◌≤◌, ◌<◌, ◌≡◌, Bool, true, false, cond, List, [], ◌∷◌, ◌++◌, ℤ, pos, negsuc, length, take, drop, Option, None, Some}
+use Rattle.std.specs.Fd.{file_raw_fd}
+use Rattle.std.specs.declared.fs.File.{File as StdFile}
 use Rattle.streams.specs.declared.Content.{Content}
+use Rattle.streams.specs.declared.Descriptor.{Descriptor}
+use Rattle.streams.specs.declared.Descriptor.TheVariants.{Input, Output, Error, File, Number}
+
+-- ---- descriptors
+
+-- the number that opening a file gave, or -1
+abbrev pub opened_number : Option StdFile → ℤ
+opened_number (Some file) = file_raw_fd file
+opened_number None = negsuc 0
+
+-- the number of a descriptor: 0 is standard input, 1 standard output, 2 standard error
+abbrev pub number : Descriptor → ℤ
+number Input = pos 0
+number Output = pos 1
+number Error = pos 2
+number (File opened) = opened_number opened.now
+number (Number fd) = fd
 
 -- ---- the calls
+
+-- what a call that is lent n bytes may answer: -1, or how many bytes it moved, at most n
+abbrev pub Moved : ℕ → ℤ → Type 0
+Moved n (pos k) = k ≤ n
+Moved n (negsuc k) = k ≡ 0
 
 -- one call of read: its answer, and what the lent bytes are after it
 pub record Call : Type 0 where
@@ -20,15 +45,15 @@ pub record Call : Type 0 where
 abbrev pub Within : (room : ℕ) → Call → Type 0
 Within room call = Moved room call.answer × (length call.lent ≡ room)
 
--- `libc::read`, on descriptor fd, was lent so many bytes and answered
+-- `Read::read`, on descriptor fd, was lent so many bytes and answered
 unfoldable pub Answered : (fd : ℤ) → (room : ℕ) → Call → Type 0
 Answered fd room call = Within room call
 
--- `libc::write`, on descriptor fd, was lent these bytes and answered z
+-- `Write::write`, on descriptor fd, was lent these bytes and answered z
 unfoldable pub Took : (fd : ℤ) → List ℕ → (z : ℤ) → Type 0
 Took fd s z = Moved (length s) z
 
--- `os::open_read`, of this path, answered fd
+-- `File::open`, of this path, answered fd
 unfoldable pub Opened : (path : List ℕ) → (fd : ℤ) → Type 0
 Opened path fd = Unit {0}
 

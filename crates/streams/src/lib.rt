@@ -1,10 +1,28 @@
-// Reading a descriptor or a file to its end, and writing all of a slice. The three calls of the C library are in the first three functions.
-ghost use Rattle.std.specs.Prelude.{◌≡◌, length, take};
-ghost use Rattle.libc.specs.Io.{Moved};
-ghost use Rattle.streams.specs.Calls.{Within, Answered, Took, Opened, AllRead, FileRead, WroteTo};
+// Reading a descriptor or a file to its end, and writing all of a slice. The calls of the system are in `read_some`, `write_some` and `open_file`.
+#![tactic(auto)]
+
+ghost use Rattle.std.specs.Prelude.{◌≡◌, ◌≤◌, IfOk, length, take};
+ghost use Rattle.std.specs.Io.{ReadsAtMost, WritesAtMost};
+ghost use Rattle.streams.specs.Calls.{Moved, Within, Answered, Took, Opened, AllRead, FileRead, WroteTo, number, opened_number};
+
+use std::fs::File;
+use std::io::{Read, Write};
+use std::os::fd::{AsFd, AsRawFd, BorrowedFd};
+use std::process::{ChildStdin, ChildStdout};
+
+// What is read and written: the descriptors 0, 1 and 2, a file, which has the number that opening it gave, and any other number. A file that
+// could not be opened has -1.
+#[derive(Clone, Copy)]
+enum Descriptor<'a> {
+    Input,
+    Output,
+    Error,
+    File(&'a Option<File>),
+    Number(i32),
+}
 
 // What reading gave: the count of bytes in the buffer, or an error.
-#[derive(Drop)]
+#[derive(Clone, Copy)]
 pub struct Content {
     pub readable: bool,
     pub len: usize,
@@ -12,35 +30,119 @@ pub struct Content {
 
 // ---- the calls
 
-fn read_some(fd: i32, part: &mut [u8]) -> isize
-    ensures answered { Answered fd (length part.old) (record { answer = result; lent = part.new }) }
+fn descriptor_of(fd: i32) -> Descriptor<'static>
+    ensures { number result ≡ fd }
+{
+    match fd {
+        0 => Descriptor::Input,
+        1 => Descriptor::Output,
+        2 => Descriptor::Error,
+        _ => Descriptor::Number(fd),
+    }
+}
+
+// The count of bytes that a call moved, or -1.
+fn answer(moved: std::io::Result<usize>, part: &[u8]) -> isize
+    requires { IfOk moved (λ n. n ≤ length part.now) }
+    ensures { Moved (length part.now) result }
+{
+    match moved {
+        Ok(n) => n as isize,
+        Err(_) => -1,
+    }
+}
+
+// std reads no standard output and no standard error, and writes no standard input. Here a duplicate of the descriptor serves, which names the
+// same open file.
+fn read_duplicate(fd: BorrowedFd<'_>, part: &mut [u8]) -> std::io::Result<usize>
+    ensures { ReadsAtMost result part.new }
+{
+    ChildStdout::from(fd.try_clone_to_owned()?).read(part)
+}
+
+fn write_duplicate(fd: BorrowedFd<'_>, part: &[u8]) -> std::io::Result<usize>
+    ensures { WritesAtMost result part.now }
+{
+    ChildStdin::from(fd.try_clone_to_owned()?).write(part)
+}
+
+// Std reads and writes no other number: there the crate `io` makes one call, which is lent one byte. `io` tells no error from the end, so an
+// error counts as the end.
+fn read_byte(fd: i32, part: &mut [u8]) -> isize
+    ensures { Within (length part.old) (record { answer = result; lent = part.new }) }
+{
+    if part.is_empty() {
+        return 0;
+    }
+    if io::read_full(fd, &mut part[..1]) == 0 {
+        0
+    } else {
+        1
+    }
+}
+
+fn write_byte(fd: i32, part: &[u8]) -> isize
+    ensures { Moved (length part.now) result }
+{
+    if part.is_empty() {
+        return 0;
+    }
+    if io::write_all(fd, &part[..1]) { 1 } else { -1 }
+}
+
+// A file that could not be opened can be neither read nor written: -1. Nor can a negative number be read, where `io` would tell the end.
+#[tactic(auto, unfolding(crate::specs::Calls::Answered))]
+fn read_some(rt: &HostRuntime, from: Descriptor<'_>, part: &mut [u8]) -> isize
+    ensures answered { Answered (number from.entry) (length part.old) (record { answer = result; lent = part.new }) }
     ensures within { Within (length part.old) (record { answer = result; lent = part.new }) }
 {
-    libc::read(fd, part)
+    let moved = match from {
+        Descriptor::Input => rt.stdin().read(part),
+        Descriptor::Output => read_duplicate(rt.stdout().as_fd(), part),
+        Descriptor::Error => read_duplicate(rt.stderr().as_fd(), part),
+        Descriptor::File(None) => return -1,
+        Descriptor::File(Some(file)) => (&*file).read(part),
+        Descriptor::Number(..=-1) => return -1,
+        Descriptor::Number(fd) => return read_byte(fd, part),
+    };
+    answer(moved, part)
 }
 
-fn write_some(fd: i32, part: &[u8]) -> isize
-    ensures took { Took fd part.now result }
+#[tactic(auto, unfolding(crate::specs::Calls::Took))]
+fn write_some(rt: &HostRuntime, to: Descriptor<'_>, part: &[u8]) -> isize
+    ensures took { Took (number to.entry) part.now result }
     ensures moved { Moved (length part.now) result }
 {
-    libc::write(fd, part)
+    let moved = match to {
+        Descriptor::Input => write_duplicate(rt.stdin().as_fd(), part),
+        Descriptor::Output => rt.stdout().write(part),
+        Descriptor::Error => rt.stderr().write(part),
+        Descriptor::File(None) => return -1,
+        Descriptor::File(Some(file)) => (&*file).write(part),
+        Descriptor::Number(fd) => return write_byte(fd, part),
+    };
+    answer(moved, part)
 }
 
-fn open_file(path: &[u8]) -> i32
-    ensures { Opened path.now result }
+#[tactic(auto, unfolding(crate::specs::Calls::Opened))]
+fn open_file(rt: &HostRuntime, path: &[u8]) -> Option<File>
+    ensures { Opened path.now (opened_number result) }
 {
-    os::open_read(path)
+    match std::str::from_utf8(path) {
+        Ok(name) => File::open(rt, name).ok(),
+        Err(_) => None,
+    }
 }
 
 // ---- reading
 
 // Reads until the buffer is full or the input ends. After an error nothing that came before it counts.
-pub fn read_all(fd: i32, buffer: &mut [u8]) -> Content
-    ensures { AllRead fd (length buffer.old) result buffer.new }
+fn read_from(rt: &HostRuntime, from: Descriptor<'_>, buffer: &mut [u8]) -> Content
+    ensures { AllRead (number from.entry) (length buffer.old) result buffer.new }
 {
     let mut len: usize = 0;
     while len < buffer.len() {
-        let got = read_some(fd, &mut buffer[len..]);
+        let got = read_some(rt, from, &mut buffer[len..]);
         if got < 0 {
             return Content {
                 readable: false,
@@ -61,20 +163,36 @@ pub fn read_all(fd: i32, buffer: &mut [u8]) -> Content
     }
 }
 
+// The same of the descriptor with this number.
+pub fn read_all(rt: &HostRuntime, fd: i32, buffer: &mut [u8]) -> Content
+    ensures { AllRead fd (length buffer.old) result buffer.new }
+{
+    read_from(rt, descriptor_of(fd), buffer)
+}
+
+// The number of an opened file, or -1.
+fn number_of(opened: &Option<File>) -> i32
+    ensures { result ≡ opened_number opened.now }
+{
+    match opened {
+        Some(file) => file.as_raw_fd(),
+        None => -1,
+    }
+}
+
 // The same of a file, which is closed again.
-pub fn read_file(path: &[u8], buffer: &mut [u8]) -> Content
+pub fn read_file(rt: &HostRuntime, path: &[u8], buffer: &mut [u8]) -> Content
     ensures { FileRead path.now (length buffer.old) result buffer.new }
 {
-    let fd = open_file(path);
+    let opened = open_file(rt, path);
+    let fd = number_of(&opened);
     if fd < 0 {
         return Content {
             readable: false,
             len: 0,
         };
     }
-    let content = read_all(fd, buffer);
-    libc::close(fd);
-    content
+    read_from(rt, Descriptor::File(&opened), buffer)
 }
 
 // The first bytes of a buffer: what was read into it, or what it holds of a line.
@@ -90,16 +208,23 @@ pub fn prefix(buffer: &[u8], len: usize) -> &[u8]
 // ---- writing
 
 // Writes all of the bytes and returns true, or stops at the first call that fails or takes none.
-pub fn write_all(fd: i32, bytes: &[u8]) -> bool
-    ensures { WroteTo fd bytes.now result }
+fn write_to(rt: &HostRuntime, to: Descriptor<'_>, bytes: &[u8]) -> bool
+    ensures { WroteTo (number to.entry) bytes.now result }
 {
     let mut done: usize = 0;
     while done < bytes.len() {
-        let put = write_some(fd, &bytes[done..]);
+        let put = write_some(rt, to, &bytes[done..]);
         if put <= 0 {
             return false;
         }
         done += put as usize;
     }
     true
+}
+
+// The same to the descriptor with this number.
+pub fn write_all(rt: &HostRuntime, fd: i32, bytes: &[u8]) -> bool
+    ensures { WroteTo fd bytes.now result }
+{
+    write_to(rt, descriptor_of(fd), bytes)
 }
