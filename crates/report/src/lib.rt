@@ -1,9 +1,11 @@
 // What the checking program says of its input: an outcome, and the line that it prints for it.
+#![tactic(auto)]
+
 ghost use Rattle.std.specs.Prelude.{◌≡◌, ◌∷◌, [], ◌≤◌, nat_abs};
 ghost use Rattle.digits.specs.Decimal.{numeral_of, integer_of};
 ghost use Rattle.report.specs.Line.{stage_word, line_of, Room, Wrote, Ready};
 
-#[derive(Drop)]
+#[derive(Clone, Copy)]
 pub enum Stage {
     Setting,
     Blocks,
@@ -12,7 +14,7 @@ pub enum Stage {
 }
 
 // The bound, or the stage, the number and the place of a refusal.
-#[derive(Drop)]
+#[derive(Clone, Copy)]
 pub enum Outcome {
     Accepted(i64),
     Refused {
