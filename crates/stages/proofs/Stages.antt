@@ -2,7 +2,7 @@
 use mathlib.Core.Path.{◌≡◌, refl, sym, ◌∙◌, ap}
 use mathlib.Core.Bool.{Bool, true, false}
 use mathlib.Core.List.{List, [], ◌∷◌, map}
-use Prim.Native.Nat.{ℕ, ◌≤◌, ◌<◌}
+use Prim.Native.Nat.{ℕ, ◌≤◌}
 use native.Mathlib.Omega.{arith}
 use borrow.Author.Tests.{ne_eqb}
 use mir.Syntax.{w64}
@@ -16,7 +16,7 @@ use Rattle.limits.specs.Limits.{most_blocks, most_loops}
 use Rattle.rows.specs.Row.{cost_of, innermost_of, first_of, second_of, figure_of, parent_of, loop_header_of, limit_of, multiplier_of}
 use Rattle.rows.specs.declared.BlockRow.{BlockRow}
 use Rattle.rows.specs.declared.LoopRow.{LoopRow}
-use Rattle.csv.specs.declared.Ending.{Ending}
+use Rattle.csv_text.specs.declared.Ending.{Ending}
 use Rattle.tables.specs.Table as table
 use Rattle.tables.specs.Table.{End, Reading}
 use Rattle.tables.proofs.Whole.{blocks_short, loops_short}
@@ -32,7 +32,7 @@ use Rattle.certificate.specs.Answers.{table_meaning}
 use Rattle.wcet.specs.Claim.{Checked}
 use Rattle.stages.specs.Stages.{header_of, of_answer, of_end, after_reading, block_reading, loop_reading, table_stage, has_blocks, has_loops, with_loops, routine_of, loops_stage, blocks_stage, setting_stage, outcome_of, wanted_by}
 use Rattle.report.specs.declared.Stage.{Stage}
-use Rattle.report.specs.declared.Stage.TheVariants.{Blocks, Loops, Table}
+use Rattle.report.specs.declared.Stage.TheVariants.{Blocks, Loops}
 use Rattle.stages.specs.declared.Files.{Files}
 use Rattle.stages.specs.declared.Header.{Header}
 use Rattle.report.specs.declared.Outcome.{Outcome}

@@ -13,13 +13,11 @@ use Rattle.wcet.specs.Rules.{Reply, accepted, refused, table_reply}
 use Rattle.wcet.proofs.Bound.{wcet_bound}
 use Rattle.tables.specs.Table as table
 use Rattle.tables.specs.Table.{End, Reading, table_of}
-use Rattle.csv.specs.Grammar.{Record}
-use Rattle.csv.specs.declared.Ending.{Ending}
+use Rattle.csv_text.specs.Grammar.{Record}
+use Rattle.csv_text.specs.declared.Ending.{Ending}
 use Rattle.limits.specs.Limits.{most_blocks, most_loops, most_text_bytes}
 use Rattle.rows.specs.Row.{Verdict, block_fields, loop_fields}
 use Rattle.rows.specs.Judge.{judge_block, judge_loop}
-use Rattle.rows.specs.declared.BlockRow.{BlockRow}
-use Rattle.rows.specs.declared.LoopRow.{LoopRow}
 use Rattle.lists.specs.Bytes.{bytes, same}
 use Rattle.stages.specs.Stages.{header_of, of_answer, of_end, after_reading, block_reading, loop_reading, setting_room, text_room, routine_of, table_stage, has_blocks, has_loops, loops_stage, blocks_stage, setting_stage, outcome_of, wanted_by, Certified, FirstBytes, InTurn}
 use Rattle.stages.specs.declared.Header.{Header}

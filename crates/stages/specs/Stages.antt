@@ -1,6 +1,6 @@
 -- Document 01, "One routine in full": what the checking program says of the line on its standard input and of its two files.
 -- Assumes nothing: these are definitions.
-use Rattle.std.specs.Prelude.{ℕ, suc, Bool, true, false, cond, ◌&&◌, ◌||◌, List, [], ◌∷◌, ◌++◌, map, ◌≡◌, eqb, ℤ, take}
+use Rattle.std.specs.Prelude.{ℕ, suc, Bool, true, false, cond, ◌||◌, List, [], ◌∷◌, ◌++◌, map, ◌≡◌, eqb, ℤ, take}
 use Prim.Native.String.{String}
 use Rattle.limits.specs.Limits.{most_blocks, most_loops, most_text_bytes}
 use Rattle.wcet.specs.Table.{Routine}
@@ -10,7 +10,7 @@ use Rattle.nesting.specs.Columns.{routine}
 use Rattle.rows.specs.Row.{cost_of, innermost_of, first_of, second_of, figure_of, parent_of, loop_header_of, limit_of, multiplier_of}
 use Rattle.rows.specs.declared.BlockRow.{BlockRow}
 use Rattle.rows.specs.declared.LoopRow.{LoopRow}
-use Rattle.csv.specs.declared.Ending.{Ending}
+use Rattle.csv_text.specs.declared.Ending.{Ending}
 use Rattle.tables.specs.Table as table
 use Rattle.tables.specs.Table.{End, Reading, block_table, loop_table}
 use Rattle.lists.specs.Bytes.{bytes, same}

@@ -1,4 +1,6 @@
 // The checking program as functions on bytes: from its setting and its two files to an outcome.
+#![tactic(auto)]
+
 ghost use Rattle.std.specs.Prelude.{◌≡◌, take};
 ghost use Rattle.nesting.specs.Answers.{refusal};
 ghost use Rattle.certificate.specs.Answers.{table_meaning};
@@ -11,7 +13,7 @@ use report::{Outcome, Stage};
 use tables::ReadReply;
 
 // What the setting says of both files.
-#[derive(Drop)]
+#[derive(Clone, Copy)]
 pub enum Header {
     Absent,
     Present,
@@ -19,7 +21,7 @@ pub enum Header {
 }
 
 // Which of the two files could be read. The loops file is opened only after good blocks.
-#[derive(Drop)]
+#[derive(Clone, Copy)]
 pub enum Files {
     Neither,
     Blocks,
@@ -27,7 +29,7 @@ pub enum Files {
 }
 
 // The file that an outcome waits for.
-#[derive(Drop)]
+#[derive(Clone, Copy)]
 pub enum Wanted {
     Nothing,
     Blocks,
