@@ -1,14 +1,12 @@
 -- The steps of the program: a file that is not wanted, one that cannot be read, one that is read. Assumes nothing.
 use mathlib.Core.Path.{◌≡◌, refl, sym, ◌∙◌, ap}
 use mathlib.Core.Bool.{Bool, true, false}
-use mathlib.Core.List.{List, [], ◌∷◌, ◌++◌}
-use mathlib.Core.Logic.{◌⊎◌, inl, inr}
+use mathlib.Core.List.{List, []}
 use Prim.Native.Nat.{ℕ}
 use native.Mathlib.Omega.{arith}
-use denote.Enum.Declared.{tag_of}
-use lib.IntN.{ℤ, pos}
+use lib.IntN.{pos}
 use lib.ListN.{take}
-use Rattle.streams.specs.Calls.{Gave, FileGave, FileRead, AllRead, WroteTo}
+use Rattle.streams.specs.Calls.{FileRead, AllRead, WroteTo}
 use Rattle.streams.specs.declared.Content.{Content}
 use Rattle.lists.specs.Bytes.{bytes}
 use Rattle.report.specs.Line.{line_of, text_of, Ready}
@@ -21,21 +19,18 @@ use Rattle.stages.specs.declared.Files.TheVariants.{Neither, Blocks as OnlyBlock
 use Rattle.stages.specs.declared.Wanted.{Wanted}
 use Rattle.stages.specs.declared.Wanted.TheVariants.{Nothing, Blocks as BlockFile, Loops as LoopFile}
 use Rattle.stages.proofs.Whole.{in_turn_lem}
-use Rattle.stages.specs.contracts.Wanted.{the_type}
-use Rattle.checker.specs.Program.{is_blocks, is_loops, wants_loops, Came, files_of, LoopsJudged, FilesJudged, InputJudged, failure, Complained, Ran}
+use Rattle.checker.specs.Program.{is_blocks, is_loops, wants_loops, Came, LoopsJudged, FilesJudged, InputJudged, failure, Ran}
 
 -- ---- which file is wanted
 
-not_loops : (w : Wanted) → (tag_of the_type w ≡ 0) ⊎ (tag_of the_type w ≡ 1) → is_loops w ≡ false
+not_loops : (w : Wanted) → (w ≡ LoopFile → ⊥) → is_loops w ≡ false
 not_loops Nothing h = refl
 not_loops BlockFile h = refl
-not_loops LoopFile (inl e) = absurd (omega arith)
-not_loops LoopFile (inr e) = absurd (omega arith)
+not_loops LoopFile h = absurd (h refl)
 
-not_blocks : (w : Wanted) → (tag_of the_type w ≡ 0) ⊎ (tag_of the_type w ≡ 2) → is_blocks w ≡ false
+not_blocks : (w : Wanted) → (w ≡ BlockFile → ⊥) → is_blocks w ≡ false
 not_blocks Nothing h = refl
-not_blocks BlockFile (inl e) = absurd (omega arith)
-not_blocks BlockFile (inr e) = absurd (omega arith)
+not_blocks BlockFile h = absurd (h refl)
 not_blocks LoopFile h = refl
 
 -- where the blocks could not be read, the loops file is not wanted
@@ -62,7 +57,7 @@ module _ (is : Wanted → Bool) (path : List ℕ) {o p : Outcome} (e : o ≡ p) 
 -- ---- the loops file
 
 module _ (setting blocks : List ℕ) {o : Outcome} (e : o ≡ outcome_of setting OnlyBlocks blocks []) {w : Wanted} (v : w ≡ wanted_by o) where
-  pub loops_unwanted : (tag_of the_type w ≡ 0) ⊎ (tag_of the_type w ≡ 1) → LoopsJudged setting blocks o
+  pub loops_unwanted : (w ≡ LoopFile → ⊥) → LoopsJudged setting blocks o
   loops_unwanted h = record { readable = false; loops = []; came = unopened is_loops (bytes "loops.csv") e v (not_loops w h); outcome = e }
 
   module _ (f : w ≡ LoopFile) (c : Content) (text : List ℕ) (F : FileRead (bytes "loops.csv") text_room c text) where
@@ -75,7 +70,7 @@ module _ (setting blocks : List ℕ) {o : Outcome} (e : o ≡ outcome_of setting
 -- ---- the blocks file
 
 module _ (setting : List ℕ) {o : Outcome} (e : o ≡ outcome_of setting Neither [] []) {w : Wanted} (v : w ≡ wanted_by o) where
-  pub blocks_unwanted : (tag_of the_type w ≡ 0) ⊎ (tag_of the_type w ≡ 2) → FilesJudged setting o
+  pub blocks_unwanted : (w ≡ BlockFile → ⊥) → FilesJudged setting o
   blocks_unwanted h = record {
     blocks_given = false;
     blocks = [];

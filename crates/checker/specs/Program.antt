@@ -1,7 +1,6 @@
 -- Document 01, "One routine in full": which files the program needs, and what it says of what it read.
 -- Assumes nothing: these are definitions.
 use Rattle.std.specs.Prelude.{ℕ, Bool, true, false, List, [], ◌∷◌, ◌++◌, ◌≡◌, pos}
-use Prim.Native.String.{String}
 use Rattle.streams.specs.Calls.{Gave, FileGave, WroteTo}
 use Rattle.lists.specs.Bytes.{bytes}
 use Rattle.report.specs.Line.{line_of}

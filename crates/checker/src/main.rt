@@ -1,13 +1,20 @@
 // The checking program: a line on standard input, blocks.csv and loops.csv of the folder it runs in, and one line out.
+#![tactic(auto)]
+
 ghost use Rattle.checker.specs.Program.{LoopsJudged, FilesJudged, InputJudged, Ran};
 ghost use Rattle.std.specs.Prelude.{pos};
 ghost use Rattle.report.specs.Line.{text_of};
 ghost use Rattle.streams.specs.Calls.{WroteTo};
 
-use libc::{STDERR_FILENO, STDIN_FILENO, STDOUT_FILENO};
 use limits::MOST_TEXT_BYTES;
 use report::{Line, Outcome};
 use stages::{Files, Wanted};
+
+const STDIN_FILENO: i32 = 0;
+
+const STDOUT_FILENO: i32 = 1;
+
+const STDERR_FILENO: i32 = 2;
 
 // One byte more than the longest good setting, and than the longest good text: that byte tells that there is more.
 const SETTING_ROOM: usize = 16;
@@ -15,7 +22,7 @@ const SETTING_ROOM: usize = 16;
 const TEXT_ROOM: usize = MOST_TEXT_BYTES + 1;
 
 // After good blocks. The loops file is opened only where it decides the outcome.
-fn with_loops(setting: &[u8], blocks: &[u8]) -> Outcome
+fn with_loops(rt: &HostRuntime, setting: &[u8], blocks: &[u8]) -> Outcome
     ensures { LoopsJudged setting.now blocks.now result }
 {
     let outcome = stages::outcome_of(setting, Files::Blocks, blocks, b"");
@@ -23,7 +30,7 @@ fn with_loops(setting: &[u8], blocks: &[u8]) -> Outcome
         return outcome;
     };
     let mut text = [0u8; TEXT_ROOM];
-    let content = streams::read_file(b"loops.csv", &mut text);
+    let content = streams::read_file(rt, b"loops.csv", &mut text);
     if !content.readable {
         return outcome;
     }
@@ -32,7 +39,7 @@ fn with_loops(setting: &[u8], blocks: &[u8]) -> Outcome
 }
 
 // After the setting. The blocks file is opened only where it decides the outcome.
-fn with_files(setting: &[u8]) -> Outcome
+fn with_files(rt: &HostRuntime, setting: &[u8]) -> Outcome
     ensures { FilesJudged setting.now result }
 {
     let outcome = stages::outcome_of(setting, Files::Neither, b"", b"");
@@ -40,40 +47,40 @@ fn with_files(setting: &[u8]) -> Outcome
         return outcome;
     };
     let mut text = [0u8; TEXT_ROOM];
-    let content = streams::read_file(b"blocks.csv", &mut text);
+    let content = streams::read_file(rt, b"blocks.csv", &mut text);
     if !content.readable {
         return outcome;
     }
-    with_loops(setting, streams::prefix(&text, content.len))
+    with_loops(rt, setting, streams::prefix(&text, content.len))
 }
 
-fn judged() -> Outcome
+fn judged(rt: &HostRuntime) -> Outcome
     ensures { InputJudged result }
 {
     let mut line = [0u8; SETTING_ROOM];
-    let content = streams::read_all(STDIN_FILENO, &mut line);
-    with_files(streams::prefix(&line, content.len))
+    let content = streams::read_all(rt, STDIN_FILENO, &mut line);
+    with_files(rt, streams::prefix(&line, content.len))
 }
 
-fn print(line: Line) -> bool
+fn print(rt: &HostRuntime, line: Line) -> bool
     ensures { WroteTo (pos 1) (text_of line) result }
 {
     let bytes = line.bytes;
     let len = line.len;
-    streams::write_all(STDOUT_FILENO, streams::prefix(&bytes, len))
+    streams::write_all(rt, STDOUT_FILENO, streams::prefix(&bytes, len))
 }
 
 // Prints the line, or says on standard error that it cannot. Returns whether the line is written.
-fn run() -> bool
+fn run(rt: &HostRuntime) -> bool
     ensures { Ran result }
 {
-    let written = print(report::line_of(judged()));
+    let written = print(rt, report::line_of(judged(rt)));
     if !written {
-        streams::write_all(STDERR_FILENO, b"cannot write the reply\n");
+        streams::write_all(rt, STDERR_FILENO, b"cannot write the reply\n");
     }
     written
 }
 
-fn main() {
-    run();
+fn main(rt: HostRuntime) {
+    run(&rt);
 }

@@ -1,0 +1,10 @@
+use Rattle.std.proofs.Common.{refl}
+use borrow.Author.Tests.{not-false}
+use Rattle.checker.proofs.Steps.{blocks_unwanted, blocks_read}
+use Rattle.checker.proofs.with_files.Goals as goal
+
+pub returns-in_default : goal.returns-in_default
+returns-in_default c = blocks_unwanted _ c.outcome_of-outcome.ensures c.wanted_by.ensures c.in_default.not-Blocks
+
+pub returns : goal.returns
+returns c = blocks_read _ c.outcome_of-outcome.ensures c.in-Blocks.ensures refl c.read_file-content.result _ c.read_file-content.ensures (not-false _ c.if-not-content.false) c.prefix.ensures c.with_loops.ensures
