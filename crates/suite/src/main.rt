@@ -1,14 +1,18 @@
 // The test program: the cases at the limits of the papers, each with the reply that it must have, are read from standard input. The library
 // and a checker that was written apart from it both reply to each case, and all three are compared.
+#![tactic(auto)]
+
 mod running;
 mod script;
 
 use cases::tally::{say, say_number};
-use libc::STDIN_FILENO;
 use script::Cases;
 
+// The descriptor of standard input.
+const STANDARD_INPUT: i32 = 0;
+
 fn read_cases(text: &mut Cases) -> usize {
-    io::read_full(STDIN_FILENO, text)
+    io::read_full(STANDARD_INPUT, text)
 }
 
 fn main() {
