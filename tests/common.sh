@@ -36,11 +36,13 @@ same() {
     fi
 }
 
-# Copies the repository, with what is built, to a new folder. The times of files are kept, so that nothing is built again there.
+# Copies the repository, with what is built but without what rt keeps of proofs, to a new folder. The times of files are kept, so that nothing is built
+# again there.
 copy_to() {
     mkdir -- "$1" "$1/target" &&
-        find . -mindepth 1 -maxdepth 1 ! -name .git ! -name target -exec cp -a -t "$1" -- {} + &&
-        cp -a target/bin target/staticlib target/stamp target/built-* "$1/target/"
+        find . -mindepth 1 -maxdepth 1 ! -name .git ! -name target ! -name crates -exec cp -a -t "$1" -- {} + &&
+        find crates -mindepth 2 -maxdepth 2 ! -name out -exec cp -a --parents -t "$1" -- {} + &&
+        cp -a target/bin target/staticlib target/built-* "$1/target/"
 }
 
 # Makes a command of a few lines.
