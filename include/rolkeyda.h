@@ -6,7 +6,7 @@
  * another way. A column is a pointer to its first value and then its length, a count of values (of bytes for a text). A column or text that a
  * function writes must not overlap any other column or text of the call. A column of length 0 may have any pointer that is not NULL.
  *
- * Build the library with `rt staticlib rolkeyda`.
+ * Build the library with `./build library`.
  */
 #ifndef ROLKEYDA_H
 #define ROLKEYDA_H
