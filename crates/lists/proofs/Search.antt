@@ -3,7 +3,7 @@ use mathlib.Core.Path.{◌≡◌, refl, sym, ◌∙◌, ap, ap₂, subst}
 use mathlib.Core.Logic.{◌⊎◌, inl, inr}
 use mathlib.Core.Bool.{Bool, true, false, not, ◌&&◌, ◌||◌, and-true, or-true, false≢true}
 use mathlib.Core.List.{List, [], ◌∷◌, map}
-use mathlib.Core.Option.{Option, none, some}
+use Rattle.std.specs.Prelude.{Option, Some, None, MatchOption}
 use Prim.Native.Nat.{ℕ, zero, suc, ◌+◌, ◌≤◌, ◌<◌, max}
 use native.Mathlib.Decide.{ℕ_discrete}
 use native.Mathlib.Nat.{add_assoc}
@@ -66,19 +66,19 @@ any_ext (suc k) p q h = rw (any_ext k p q (λ i l. h i (omega arith)), h k (omeg
 -- ---- first_below
 
 -- nothing is found exactly where no number passes
-neither_found : (o : Option ℕ) (b : Bool) (k : ℕ) → or_else o (when b then some k else none) ≡ none → (o ≡ none) × (b ≡ false)
-neither_found none true k e = absurd (let z : ◌≡◌ {A = ℕ} 0 1 = cc in omega arith)
-neither_found none false k e = (refl, refl)
-neither_found (some j) b k e = absurd (let z : ◌≡◌ {A = ℕ} 0 1 = cc in omega arith)
+neither_found : (o : Option ℕ) (b : Bool) (k : ℕ) → or_else o (when b then Some k else None) ≡ None → (o ≡ None) × (b ≡ false)
+neither_found None true k e = absurd (let z : ◌≡◌ {A = ℕ} 0 1 = cc in omega arith)
+neither_found None false k e = (refl, refl)
+neither_found (Some j) b k e = absurd (let z : ◌≡◌ {A = ℕ} 0 1 = cc in omega arith)
 
-pub not_found : (k : ℕ) (p : ℕ → Bool) → first_below k p ≡ none → (i : ℕ) → i < k → p i ≡ false
+pub not_found : (k : ℕ) (p : ℕ → Bool) → first_below k p ≡ None → (i : ℕ) → i < k → p i ≡ false
 unfolding first_below
 not_found zero p e i h = absurd (omega arith)
 not_found (suc k) p e i h =
-    let q : (first_below k p ≡ none) × (p k ≡ false) = neither_found (first_below k p) (p k) k e in
+    let q : (first_below k p ≡ None) × (p k ≡ false) = neither_found (first_below k p) (p k) k e in
     below_suc (λ i. p i ≡ false) k (not_found k p q.0) q.1 i h
 
-pub none_found : (k : ℕ) (p : ℕ → Bool) → ((i : ℕ) → i < k → p i ≡ false) → first_below k p ≡ none
+pub none_found : (k : ℕ) (p : ℕ → Bool) → ((i : ℕ) → i < k → p i ≡ false) → first_below k p ≡ None
 unfolding first_below
 none_found zero p h = refl
 none_found (suc k) p h = rw (none_found k p (λ i l. h i (omega arith)), h k (omega arith))
@@ -89,29 +89,36 @@ pub record Lowest (k : ℕ) (p : ℕ → Bool) (i : ℕ) : Type 0 where
   pub passes : p i ≡ true
   pub lower : (j : ℕ) → j < i → p j ≡ false
 
-pub found : (k : ℕ) (p : ℕ → Bool) (i : ℕ) → Lowest k p i → first_below k p ≡ some i
+pub found : (k : ℕ) (p : ℕ → Bool) (i : ℕ) → Lowest k p i → first_below k p ≡ Some i
 unfolding first_below
 found zero p i h = absurd (omega (arith, h.below))
 found (suc k) p i h = go (ℕ_discrete i k) (λ l. found k p i (record { below = l; passes = h.passes; lower = h.lower }))
   where
-    go : Dec (i ≡ k) → (i < k → first_below k p ≡ some i) → or_else (first_below k p) (when p k then some k else none) ≡ some i
-    go (yes q) rest = rw (none_found k p (λ j l. h.lower j (omega arith)), ap p (sym q) ∙ h.passes) (ap some (sym q))
+    go : Dec (i ≡ k) → (i < k → first_below k p ≡ Some i) → or_else (first_below k p) (when p k then Some k else None) ≡ Some i
+    go (yes q) rest = rw (none_found k p (λ j l. h.lower j (omega arith)), ap p (sym q) ∙ h.passes) (ap Some (sym q))
     go (no ne) rest = rw (rest (omega (arith, h.below)))
 
-pub found_lowest : (k : ℕ) (p : ℕ → Bool) (i : ℕ) → first_below k p ≡ some i → Lowest k p i
+pub found_lowest : (k : ℕ) (p : ℕ → Bool) (i : ℕ) → first_below k p ≡ Some i → Lowest k p i
 unfolding first_below
 found_lowest zero p i e = absurd (let z : ◌≡◌ {A = ℕ} 0 1 = cc in omega arith)
 found_lowest (suc k) p i e = go (first_below k p) refl (p k) refl e (found_lowest k p)
   where
-    go : (o : Option ℕ) → first_below k p ≡ o → (b : Bool) → p k ≡ b → or_else o (when b then some k else none) ≡ some i
-        → ((i : ℕ) → first_below k p ≡ some i → Lowest k p i) → Lowest (suc k) p i
-    go (some j) o b q e rest =
+    go : (o : Option ℕ) → first_below k p ≡ o → (b : Bool) → p k ≡ b → or_else o (when b then Some k else None) ≡ Some i
+        → ((i : ℕ) → first_below k p ≡ Some i → Lowest k p i) → Lowest (suc k) p i
+    go (Some j) o b q e rest =
         let r : Lowest k p i = rest i (o ∙ e) in
         record { below = omega (arith, r.below); passes = r.passes; lower = r.lower }
-    go none o true q e rest =
+    go None o true q e rest =
         let k≡i : k ≡ i = cc in
         record { below = omega arith; passes = ap p (sym k≡i) ∙ q; lower = λ j l. not_found k p o j (omega arith) }
-    go none o false q e rest = absurd (let z : ◌≡◌ {A = ℕ} 0 1 = cc in omega arith)
+    go None o false q e rest = absurd (let z : ◌≡◌ {A = ℕ} 0 1 = cc in omega arith)
+
+-- what a search by `find` over the numbers 0 to k − 1 says is what `first_below` says
+pub found_first : (k : ℕ) (p : ℕ → Bool) (r : Option ℕ)
+    → MatchOption r ((i : ℕ) → 0 ≤ i → i < k → p i ≡ false) (λ i. (0 ≤ i) × (i < k) × (p i ≡ true) × ((j : ℕ) → 0 ≤ j → j < i → p j ≡ false))
+    → r ≡ first_below k p
+found_first k p None h = sym (none_found k p (λ i l. h i (omega arith) l))
+found_first k p (Some i) h = sym (found k p i (record { below = h.1; passes = h.2; lower = λ j l. h.3 j (omega arith) l }))
 
 -- two tests that agree below k find the same
 pub first_ext : (k : ℕ) (p q : ℕ → Bool) → ((i : ℕ) → i < k → p i ≡ q i) → first_below k p ≡ first_below k q

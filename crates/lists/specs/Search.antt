@@ -1,6 +1,5 @@
 -- The choice by a test, searches over the numbers 0 to k − 1, and the list of what a function gives for them.
-use Rattle.std.specs.Prelude.{ℕ, zero, suc, ◌+◌, max, Bool, false, cond, ◌||◌, List, [], ◌∷◌}
-use Rattle.std.proofs.Math.Option.{Option, none, some}
+use Rattle.std.specs.Prelude.{ℕ, zero, suc, ◌+◌, max, Bool, false, cond, ◌||◌, List, [], ◌∷◌, Option, Some, None}
 
 infixr 1 when◌then◌else◌
 -- the choice by a test
@@ -24,13 +23,13 @@ greatest_below (suc k) f = max (greatest_below k f) (f k)
 
 -- the first of two answers, if it is there, and else the second
 abbrev pub or_else : Option ℕ → Option ℕ → Option ℕ
-or_else (some i) o = some i
-or_else none o = o
+or_else (Some i) o = Some i
+or_else None o = o
 
 -- the lowest number below k that passes the test p
 unfoldable pub first_below : ℕ → (ℕ → Bool) → Option ℕ
-first_below zero p = none
-first_below (suc k) p = or_else (first_below k p) (when p k then some k else none)
+first_below zero p = None
+first_below (suc k) p = or_else (first_below k p) (when p k then Some k else None)
 
 -- the list of f 0 to f (k − 1)
 unfoldable pub tabulate {ℓ} : {A : Type ℓ} → ℕ → (ℕ → A) → List A

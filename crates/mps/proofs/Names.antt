@@ -41,7 +41,7 @@ unfolding digits_in
 dark_digits zero n s d = d
 dark_digits (suc k) n s d = dark_digits k (n / 10) ((48 + n % 10) ∷ s) (omega arith, d)
 
-length_digits : (k n : ℕ) (s : Bytes) → length (digits_in k n s) ≡ k + length s
+pub length_digits : (k n : ℕ) (s : Bytes) → length (digits_in k n s) ≡ k + length s
 unfolding digits_in
 length_digits zero n s = omega arith
 length_digits (suc k) n s = let e : length (digits_in k (n / 10) ((48 + n % 10) ∷ s)) ≡ k + suc (length s) = length_digits k (n / 10) ((48 + n % 10) ∷ s) in omega arith

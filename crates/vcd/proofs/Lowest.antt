@@ -302,6 +302,12 @@ lowest named room s =
     let e : changed 65535 vs ≡ changes vs = first_changed (length s) 0 vs r x in
     sym (in_turn_decided room (changed 65535 vs) r (changed_below 65535 vs r (spread_below (length s) 0 vs r x)) ∙ ap (λ (us : List Value). decided us (drop room us) r) e)
 
+-- the same of the changed values as they are defined
+pub lowest_changes : (named : List ℕ) (room : ℕ) (s : List ℕ) → recorded named room s ≡ in_turn room (changes (reading_of named s).values) (reading_of named s).refusal
+lowest_changes named room s =
+    let x : Reading = reading_of named s in
+    lowest named room s ∙ ap (λ (us : List Value). in_turn room us x.refusal) (first_changed (length s) 0 x.values x.refusal (text_spread named s))
+
 -- ---- the sizes of what a text says
 
 changed_places : (n last : ℕ) (vs : List Value) (r : Option ℕ) → Places n vs r → Places n (changed last vs) r

@@ -5,7 +5,7 @@ use mathlib.Core.Path.{◌≡◌, refl, sym, ◌∙◌, ap, ap₂}
 use mathlib.Core.Bool.{Bool, true, false, not, ◌&&◌, ◌||◌, or-true}
 use mathlib.Core.Logic.{◌⊎◌, inl, inr, ⊎_elim}
 use mathlib.Core.List.{List, [], ◌∷◌, ◌++◌}
-use mathlib.Core.Option.{Option, none, some}
+use Rattle.std.specs.Prelude.{Option, Some, None}
 use Prim.Native.Nat.{ℕ, zero, suc, ◌+◌, ◌-◌, ◌≤◌, ◌<◌, max}
 use native.Mathlib.Decide.{ℕ_discrete}
 use native.Mathlib.Omega.{arith}
@@ -355,8 +355,8 @@ module _ (t : Routine) where
   check_steps (r ∷ rs) passed = go (first_below r.places r.broken) (check_steps rs passed)
     where
       go : (o : Option ℕ) → check rs (steps_of passed) ≡ steps_of (check rs passed) → refused_at r.number o (check rs (steps_of passed)) ≡ steps_of (refused_at r.number o (check rs passed))
-      go (some p) rest = refl
-      go none rest = rest
+      go (Some p) rest = refl
+      go None rest = rest
 
   -- what comes after the rules counts where they hold
   after_rules : {A : Type 0} (rs : List Rule) (x y : Reply A) → (AllHold rs → x ≡ y) → check rs x ≡ check rs y
@@ -365,8 +365,8 @@ module _ (t : Routine) where
   after_rules {A} (r ∷ rs) x y same = go (first_below r.places r.broken) refl (λ holds. after_rules rs x y (λ h. same (holds, h)))
     where
       go : (o : Option ℕ) → first_below r.places r.broken ≡ o → (Holds r → check rs x ≡ check rs y) → refused_at r.number o (check rs x) ≡ refused_at r.number o (check rs y)
-      go (some p) e rest = refl
-      go none e rest = rest (not_found r.places r.broken e)
+      go (Some p) e rest = refl
+      go None e rest = rest (not_found r.places r.broken e)
 
 pub refused_as_walks : (t : Routine) → RefusedAsWalks t
 unfolding tally_reply walk_reply

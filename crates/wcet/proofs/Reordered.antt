@@ -4,7 +4,7 @@ use mathlib.Core.Path.{◌≡◌, refl, sym, ◌∙◌}
 use mathlib.Core.Logic.{◌⊎◌, inl, inr}
 use mathlib.Core.Bool.{Bool, true, false, not, ◌&&◌, true≢false}
 use mathlib.Core.List.{List, [], ◌∷◌, ◌++◌, map}
-use mathlib.Core.Option.{Option, none, some}
+use Rattle.std.specs.Prelude.{Option, Some, None}
 use Prim.Native.Nat.{ℕ, ◌≤◌, ◌<◌}
 use native.Mathlib.Omega.{arith}
 use borrow.Author.Tests.{not-true}
@@ -44,7 +44,7 @@ module _ (t : Routine) where
   abbrev result : Reply ℤ
   result = accepted (bound t)
 
-  both_broken : AllHold (structure_rules t) → (u : ℕ) → first_below (block_count t) (inequality_broken t) ≡ some u → ClosedWalk t → BreaksBoth t
+  both_broken : AllHold (structure_rules t) → (u : ℕ) → first_below (block_count t) (inequality_broken t) ≡ Some u → ClosedWalk t → BreaksBoth t
   both_broken h u f W = record {
     block = u;
     former =
@@ -58,12 +58,12 @@ module _ (t : Routine) where
       → (r : Reply (Unit {0})) → check (structure_rules t) (accepted tt) ≡ r → (table_reply t ≡ former_reply t) ⊎ BreaksBoth t
   unfolding table_reply table_rules
   same_or_both false d o f r s = inl (behind (structure_rules t) _ _ result (exchanged (undeclared_rule t) (inequality_rule t) [] result (λ p z. d)))
-  same_or_both true d none f r s =
+  same_or_both true d None f r s =
       inl (behind (structure_rules t) _ _ result (sym (exchanged (inequality_rule t) (undeclared_rule t) [] result (not_found (block_count t) (inequality_broken t) f))))
-  same_or_both true d (some u) f (accepted x) s =
+  same_or_both true d (Some u) f (accepted x) s =
       let h : AllHold (structure_rules t) = (passes (structure_rules t) (accepted tt) x s).0 in
       inr (both_broken h u f (((replies_exactly t).closed h).0 d))
-  same_or_both true d (some u) f (refused n p) s =
+  same_or_both true d (Some u) f (refused n p) s =
       inl (refused_append (structure_rules t) _ tt result n p s ∙ sym (refused_append (structure_rules t) (inequality_rule t ∷ undeclared_rule t ∷ []) tt result n p s))
 
   pub order_change : OrderChange t
@@ -115,8 +115,8 @@ pub costly_breaks_both : (t : Routine) → AllHold (structure_rules t) → (W : 
 costly_breaks_both t h W c = go (first_below (block_count t) (inequality_broken t)) refl
   where
     go : (o : Option ℕ) → first_below (block_count t) (inequality_broken t) ≡ o → BreaksBoth t
-    go (some u) f = both_broken t h u f W
-    go none f = absurd (omega (arith, closed_free t (facts_by t h (not_found (block_count t) (inequality_broken t) f)) W))
+    go (Some u) f = both_broken t h u f W
+    go None f = absurd (omega (arith, closed_free t (facts_by t h (not_found (block_count t) (inequality_broken t) f)) W))
 
 -- ---- "In document 01 these are A with block 2 in loop 0 and the last marked case with costs 1 1 1 1; with costs 1 0 0 1 it had already become 209."
 

@@ -3,7 +3,7 @@
 use mathlib.Core.Path.{◌≡◌, refl, ◌∙◌, ap}
 use mathlib.Core.Logic.{◌↔◌, ◌⊎◌, inl, inr, ⊎_elim}
 use mathlib.Core.List.{List, [], ◌∷◌, ◌++◌, append_assoc}
-use mathlib.Core.Option.{Option, none, some}
+use Rattle.std.specs.Prelude.{Option, Some, None}
 use Prim.Native.Nat.{ℕ, ◌<◌}
 use mathlib.Core.Bool.{Bool, true}
 use native.Mathlib.Omega.{arith}
@@ -42,15 +42,15 @@ pub past_all : {A : Type 0} (rs qs : List Rule) (passed : Reply A) → AllHold r
 past_all [] qs passed h = refl
 past_all (r ∷ rs) qs passed h = hands_on r (rs ++ qs) passed h.0 ∙ past_all rs qs passed h.1
 
-unrefused : {A : Type 0} (n : ℕ) (o : Option ℕ) (rest : Reply A) (a : A) → refused_at n o rest ≡ accepted a → (o ≡ none) × (rest ≡ accepted a)
-unrefused n none rest a e = (refl, e)
-unrefused n (some p) rest a e = absurd (let z : ◌≡◌ {A = ℕ} 0 1 = cc in omega arith)
+unrefused : {A : Type 0} (n : ℕ) (o : Option ℕ) (rest : Reply A) (a : A) → refused_at n o rest ≡ accepted a → (o ≡ None) × (rest ≡ accepted a)
+unrefused n None rest a e = (refl, e)
+unrefused n (Some p) rest a e = absurd (let z : ◌≡◌ {A = ℕ} 0 1 = cc in omega arith)
 
 pub passes : {A : Type 0} (rs : List Rule) (passed : Reply A) (a : A) → check rs passed ≡ accepted a → AllHold rs × (passed ≡ accepted a)
 unfolding check
 passes [] passed a e = (tt, e)
 passes (r ∷ rs) passed a e =
-    let q : (first_below r.places r.broken ≡ none) × (check rs passed ≡ accepted a) = unrefused r.number (first_below r.places r.broken) (check rs passed) a e in
+    let q : (first_below r.places r.broken ≡ None) × (check rs passed ≡ accepted a) = unrefused r.number (first_below r.places r.broken) (check rs passed) a e in
     let rest : AllHold rs × (passed ≡ accepted a) = passes rs passed a q.1 in
     ((not_found r.places r.broken q.0, rest.0), rest.1)
 
@@ -67,9 +67,9 @@ first_broken (r ∷ rs) passed n p e = go (first_below r.places r.broken) refl e
   where
     go : (o : Option ℕ) → first_below r.places r.broken ≡ o → refused_at r.number o (check rs passed) ≡ refused n p
         → (check rs passed ≡ refused n p → FirstBroken rs n p ⊎ (passed ≡ refused n p)) → FirstBroken (r ∷ rs) n p ⊎ (passed ≡ refused n p)
-    go (some q) o e rest =
+    go (Some q) o e rest =
         let q≡p : q ≡ p = cc in
-        let l : Lowest r.places r.broken p = found_lowest r.places r.broken p (o ∙ ap some q≡p) in
+        let l : Lowest r.places r.broken p = found_lowest r.places r.broken p (o ∙ ap Some q≡p) in
         inl (record {
           before = [];
           rule = r;
@@ -81,7 +81,7 @@ first_broken (r ∷ rs) passed n p e = go (first_below r.places r.broken) refl e
           breaks = l.passes;
           lowest = l.lower;
         })
-    go none o e rest =
+    go None o e rest =
         ⊎_elim (λ b. inl (record {
           before = r ∷ b.before;
           rule = b.rule;
@@ -156,8 +156,8 @@ module _ (n : ℕ) where
   other_number {A} (r ∷ rs) a p u e = go (first_below r.places r.broken) e (other_number rs a p u.1)
     where
       go : (o : Option ℕ) → refused_at {A = A} r.number o (check rs (accepted a)) ≡ refused n p → (check rs (accepted a) ≡ refused n p → ⊥) → ⊥
-      go (some i) e rest = u.0 cc
-      go none e rest = rest e
+      go (Some i) e rest = u.0 cc
+      go None e rest = rest e
 
   pub numbered_broken : {A : Type 0} (rs : List Rule) (r : Rule) (qs : List Rule) (a : A) (p : ℕ) → Unnumbered rs → Unnumbered qs
       → check (rs ++ r ∷ qs) (accepted a) ≡ refused n p → AllHold rs × Lowest r.places r.broken p
@@ -165,14 +165,14 @@ module _ (n : ℕ) where
   numbered_broken {A} [] r qs a p u v e = (tt, go (first_below r.places r.broken) refl e)
     where
       go : (o : Option ℕ) → first_below r.places r.broken ≡ o → refused_at {A = A} r.number o (check qs (accepted a)) ≡ refused n p → Lowest r.places r.broken p
-      go (some q) f e = let there : q ≡ p = cc in found_lowest r.places r.broken p (f ∙ ap some there)
-      go none f e = absurd (other_number qs a p v e)
+      go (Some q) f e = let there : q ≡ p = cc in found_lowest r.places r.broken p (f ∙ ap Some there)
+      go None f e = absurd (other_number qs a p v e)
   numbered_broken {A} (q ∷ rs) r qs a p u v e = go (first_below q.places q.broken) refl e (numbered_broken rs r qs a p u.1 v)
     where
       go : (o : Option ℕ) → first_below q.places q.broken ≡ o → refused_at {A = A} q.number o (check (rs ++ r ∷ qs) (accepted a)) ≡ refused n p
           → (check (rs ++ r ∷ qs) (accepted a) ≡ refused n p → AllHold rs × Lowest r.places r.broken p) → (Holds q × AllHold rs) × Lowest r.places r.broken p
-      go (some i) f e rest = absurd (u.0 cc)
-      go none f e rest = let s = rest e in ((not_found q.places q.broken f, s.0), s.1)
+      go (Some i) f e rest = absurd (u.0 cc)
+      go None f e rest = let s = rest e in ((not_found q.places q.broken f, s.0), s.1)
 
   -- and the rule has one place
   pub once_exactly : {A : Type 0} (rs : List Rule) (b : Bool) (qs : List Rule) (a : A) (p : ℕ) → Unnumbered rs → Unnumbered qs

@@ -1,7 +1,6 @@
 -- Document 01, "Replies that come from the input", 201 to 208, and "The inequality of an edge"; document 02, §2, 209, and §6, the order: with
 -- which number and place a pair of tables is refused, and the bound of an accepted pair.
-use Rattle.std.specs.Prelude.{ℕ, ◌^◌, Bool, not, ◌&&◌, ◌||◌, List, [], ◌∷◌, ◌++◌, eqb, ltb, ℤ, pos, neg_ℤ, ◌+ℤ◌, ◌-ℤ◌, ◌*ℤ◌, length}
-use Rattle.std.proofs.Math.Option.{Option, none, some}
+use Rattle.std.specs.Prelude.{ℕ, ◌^◌, Bool, not, ◌&&◌, ◌||◌, List, [], ◌∷◌, ◌++◌, eqb, ltb, ℤ, pos, neg_ℤ, ◌+ℤ◌, ◌-ℤ◌, ◌*ℤ◌, length, Option, Some, None}
 use Rattle.std.specs.Int.Signed.{le_z, lt_z}
 use Rattle.limits.specs.Limits.{most_blocks, most_loops, most_depth}
 use Rattle.lists.specs.Search.{when◌then◌else◌, any_below, count_below, first_below}
@@ -21,8 +20,8 @@ pub record Rule : Type 0 where
 
 -- refused with this number where a place is given, and else the other reply
 abbrev pub refused_at : {A : Type 0} → ℕ → Option ℕ → Reply A → Reply A
-refused_at number (some place) otherwise = refused number place
-refused_at number none otherwise = otherwise
+refused_at number (Some place) otherwise = refused number place
+refused_at number None otherwise = otherwise
 
 -- The first broken rule of a list, at its lowest place. Document 01: "the lowest number first, then the lowest place"; document 02, §6, changes
 -- the order of two numbers. The order is that of the list.
