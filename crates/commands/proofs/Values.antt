@@ -1,26 +1,19 @@
 -- The digits of a vector's change, and codes. Assumes nothing.
-use mathlib.Core.Path.{◌≡◌, refl, sym, ap, ◌∙◌}
-use mathlib.Core.Bool.{Bool, true, false, cond, ◌&&◌, ◌||◌, and-false, true≢false}
-use mathlib.Core.List.{List, [], ◌∷◌}
-use mathlib.Core.Option.{none, some}
-use Prim.Native.Nat.{ℕ, suc, ◌+◌, ◌-◌, ◌*◌, ◌<◌, ◌≤◌}
-use native.Mathlib.Omega.{arith}
-use borrow.Author.Tests.{eq-eqb, ne_eqb, eqb-false, lt-leb, leb-true, leb-false, lt-ltb, le-ltb, ltb-true, ltb-false}
-use lib.ListN.{length, take, drop, get_or}
-use lib.Dec.{eqb, leb, ltb}
+use Rattle.std.proofs.Common.{◌≡◌, refl, sym, ap, ◌∙◌, Bool, true, false, cond, ◌&&◌, ◌||◌, true≢false, List, [], ◌∷◌, ℕ, suc, ◌+◌, ◌-◌, ◌*◌, ◌<◌, ◌≤◌, min, max, Option, Some, None, length, take, drop, get_or, eqb, leb, ltb, arith, eq-eqb, ne_eqb, leb-true, leb-false, lt-ltb, ltb-true, ltb-false}
+use Rattle.std.proofs.Math.Option.{none, some}
+use Rattle.std.proofs.Math.Bool.{and-false}
+use Rattle.std.proofs.lemmas.Option.{none-some}
+use borrow.Author.Tests.{eqb-false, lt-leb}
 use Rattle.lists.specs.Bytes.{bytes, same}
 use Rattle.vcd.specs.Words.{parting, size, word_of, is}
 use Rattle.vcd.specs.Syntax.{all, one_or_more, is_graphic, is_state, is_bit, is_code, binary, value_of}
 use Rattle.vcd.proofs.Words.{word_byte, word_length}
-use Rattle.words.specs.Places.{Along, in_class, word_in}
-use Rattle.words.specs.declared.Class.TheVariants.{Graphic, State}
-use Rattle.words.proofs.Runs.{next_byte, dark, class_dark, along_here, along_on, none_over, none_parting, in_none, in_some}
-use Rattle.commands.specs.Reads.{cap, fitted, offered, value_from, BitsRead, after_word, states_at, bits_by, digits_at, code_at}
+use Rattle.words.specs.Places.{Along, word_in}
+use Rattle.words.proofs.Runs.{next_byte, dark, along_here, along_on, none_over, none_parting, graphic_plain, state_plain, WordPasses, in_none, in_some}
+use Rattle.commands.specs.Reads.{offered, kept, fitted, value_from, BitsRead, after_word, states_at, bits_by, digits_at, code_at}
 use Rattle.commands.specs.declared.Bits.{Bits}
 use Rattle.commands.specs.declared.Digits.{Digits}
-use Rattle.commands.specs.declared.Digits.TheVariants.{Value as Value16, Bad as NoDigits}
 use Rattle.commands.specs.declared.Code.{Code}
-use Rattle.commands.specs.declared.Code.TheVariants.{Named, Other, Bad as NoCode}
 
 -- ---- bits
 
@@ -52,35 +45,23 @@ grows n (b ∷ w) = let h = grows (n * 2 + (b - 48)) w in omega (arith, h)
 beyond : (n : ℕ) (w : List ℕ) → 65534 < n → value_from n w ≡ 65535
 beyond n w h = rw (lt-leb (binary n w) 65534 (omega (arith, grows n w)), and-false (all is_bit w))
 
-value_cap : (m : ℕ) (w : List ℕ) → value_from (cap m) w ≡ value_from m w
+value_cap : (m : ℕ) (w : List ℕ) → value_from (min m 65535) w ≡ value_from m w
 value_cap m w = go (ltb 65535 m) refl
   where
-    go : (t : Bool) → ltb 65535 m ≡ t → value_from (cond t 65535 m) w ≡ value_from m w
-    go true e = beyond 65535 w (omega arith) ∙ sym (beyond m w (omega (arith, ltb-true 65535 m e)))
-    go false e = refl
-
-pub cap_over : (n : ℕ) → 65535 < n → 65535 ≡ cap n
-cap_over n h = rw (lt-ltb 65535 n h)
-
-pub cap_within : (n : ℕ) → n ≤ 65535 → n ≡ cap n
-cap_within n h = rw (le-ltb 65535 n h)
-
-cap_small : (n : ℕ) → cap n ≤ 65535
-cap_small n = go (ltb 65535 n) refl
-  where
-    go : (t : Bool) → ltb 65535 n ≡ t → cond t 65535 n ≤ 65535
-    go true e = omega arith
-    go false e = omega (arith, ltb-false 65535 n e)
+    go : (t : Bool) → ltb 65535 m ≡ t → value_from (min m 65535) w ≡ value_from m w
+    go true e = let h = ltb-true 65535 m e in let z : min m 65535 ≡ 65535 = omega arith in rw z (beyond 65535 w (omega arith) ∙ sym (beyond m w (omega (arith, h))))
+    go false e = let h = ltb-false 65535 m e in let z : min m 65535 ≡ m = omega arith in rw z
 
 -- the bits of a word, at the turn i, whose number so far is n
 pub record BitsSoFar (s : List ℕ) (at i n : ℕ) : Type 0 where
   pub along : Along is_bit s at i
+  pub within : i ≤ max (length s) at
   pub small : n ≤ 65535
   pub value : value_from 0 (word_of (drop at s)) ≡ value_from n (word_of (drop i s))
 
 module _ (s : List ℕ) (at : ℕ) where
   pub bits_start : BitsSoFar s at at 0
-  bits_start = record { along = along_here is_bit bit_dark s at; small = omega arith; value = refl }
+  bits_start = record { along = along_here is_bit bit_dark s at; within = omega arith; small = omega arith; value = refl }
 
   module _ (i n : ℕ) (b : BitsSoFar s at i n) where
     ended : (i < length s → is_bit (get_or s i 0) ≡ false) → BitsRead s at (record { value = n; to = i })
@@ -92,36 +73,32 @@ module _ (s : List ℕ) (at : ℕ) where
     pub bits_high : 49 < get_or s i 0 → BitsRead s at (record { value = n; to = i })
     bits_high h = ended (λ l. no_bit (get_or s i 0) (λ z. omega arith) (λ z. omega arith))
 
-    pub bits_over : length s ≤ i → BitsRead s at (record { value = n; to = i })
-    bits_over h = ended (λ l. absurd (omega arith))
+    pub bits_over : {to : ℕ} → length s ≤ i → to ≡ max (length s) at → BitsRead s at (record { value = n; to = to })
+    bits_over {to} h e = let z : to ≡ i = omega (arith, e, b.within, b.along.low) in rw z (ended (λ l. absurd (omega arith)))
 
-    pub bits_on : {m : ℕ} → i < length s → 48 ≤ get_or s i 0 → get_or s i 0 ≤ 49 → m ≡ cap (n * 2 + (get_or s i 0 - 48)) → BitsSoFar s at (i + 1) m
+    pub bits_on : {x y m : ℕ} → i < length s → 48 ≤ get_or s i 0 → get_or s i 0 ≤ 49 → x ≡ n → y ≡ get_or s i 0 - 48 → m ≡ min (x * 2 + y) 65535 → BitsSoFar s at (i + 1) m
     unfolding all binary
-    bits_on {m} h p q e =
+    bits_on {x} {y} {m} h p q f g e =
         let t : is_bit (get_or s i 0) ≡ true = is_bit_lem (get_or s i 0) p q in
         let w : word_of (drop i s) ≡ get_or s i 0 ∷ word_of (drop (i + 1) s) = ap word_of (next_byte s i h) ∙ word_byte (get_or s i 0) (drop (i + 1) s) (bit_dark (get_or s i 0) t) in
+        let z : m ≡ min (n * 2 + (get_or s i 0 - 48)) 65535 = e ∙ rw (f, g) in
         record {
           along = along_on is_bit bit_dark s at b.along h t;
-          small = rw e (cap_small (n * 2 + (get_or s i 0 - 48)));
-          value = b.value ∙ rw (w, t) (sym (rw e (value_cap (n * 2 + (get_or s i 0 - 48)) (word_of (drop (i + 1) s)))));
+          within = omega arith;
+          small = omega (arith, z);
+          value = b.value ∙ rw (w, t) (sym (rw z (value_cap (n * 2 + (get_or s i 0 - 48)) (word_of (drop (i + 1) s)))));
         }
 
 -- ---- digits
 
-module _ (s : List ℕ) (at : ℕ) {to : ℕ} (q : to ≡ word_in (in_class State) s at) where
-  pub states_bad : to ≡ at → NoDigits ≡ states_at s at
+module _ (s : List ℕ) (at : ℕ) {r : Option ℕ} (q : r ≡ word_in is_state s at) where
+  pub states_bad : r ≡ None → None ≡ states_at s at
   unfolding states_at
-  states_bad e = rw (in_none (in_class State) (class_dark State) s at q e)
+  states_bad e = rw (in_none is_state state_plain s at q e)
 
-  pub states_good : (to ≡ at → ⊥) → Value16 65535 to ≡ states_at s at
+  pub states_good : (to : ℕ) → r ≡ Some to → Some (record { value = None; to = to }) ≡ states_at s at
   unfolding states_at
-  states_good n = let h = in_some (in_class State) (class_dark State) s at q n in rw (h.0, h.1)
-
-pub bits_none : (at : ℕ) (r : Bits) {to : ℕ} → to ≡ r.to → to ≡ at → NoDigits ≡ bits_by at r
-bits_none at r p e = rw (eq-eqb r.to at (sym p ∙ e))
-
-pub bits_some : (at : ℕ) (r : Bits) {to v : ℕ} → to ≡ r.to → v ≡ r.value → (to ≡ at → ⊥) → Value16 v to ≡ bits_by at r
-bits_some at r p q n = rw (ne_eqb r.to at (λ e. n (p ∙ e)), p, q)
+  states_good to e = let h = in_some is_state state_plain s at to q e in rw (h.passes, h.ends)
 
 bits_states : (w : List ℕ) → all is_bit w ≡ true → all is_state w ≡ true
 unfolding all
@@ -133,23 +110,23 @@ bits_states (b ∷ w) e = go (eqb b 48) (eqb b 49) refl refl (bits_states w) e
     go false true p q ih e = rw (p, q) (ih e)
     go false false p q ih e = absurd (true≢false (sym e))
 
-fitted_value : (w : List ℕ) → fitted (value_of w) ≡ value_from 0 w
+fitted_value : (w : List ℕ) → fitted (value_from 0 w) ≡ kept (value_of w)
 unfolding value_of
-fitted_value w = go (all is_bit w && leb (binary 0 w) 65534)
+fitted_value w = go (leb (binary 0 w) 65534) refl (all is_bit w)
   where
-    go : (t : Bool) → fitted (cond t (some (binary 0 w)) none) ≡ cond t (binary 0 w) 65535
-    go true = refl
-    go false = refl
-
-pub offered_value : (w : List ℕ) → offered (fitted (value_of w)) ≡ value_of w
-unfolding value_of
-offered_value w = go (leb (binary 0 w) 65534) refl (all is_bit w)
-  where
-    go : (t : Bool) → leb (binary 0 w) 65534 ≡ t → (u : Bool) → offered (fitted (cond (u && t) (some (binary 0 w)) none)) ≡ cond (u && t) (some (binary 0 w)) none
-    go true e true = rw (ne_eqb (binary 0 w) 65535 (λ z. omega (arith, leb-true (binary 0 w) 65534 e)))
+    go : (t : Bool) → leb (binary 0 w) 65534 ≡ t → (u : Bool) → fitted (cond (u && t) (binary 0 w) 65535) ≡ kept (cond (u && t) (some (binary 0 w)) none)
+    go true e true = rw (lt-ltb (binary 0 w) 65535 (omega (arith, leb-true (binary 0 w) 65534 e)))
     go true e false = refl
     go false e true = refl
     go false e false = refl
+
+pub offered_value : (w : List ℕ) → offered (kept (value_of w)) ≡ value_of w
+unfolding value_of
+offered_value w = go (all is_bit w && leb (binary 0 w) 65534)
+  where
+    go : (t : Bool) → offered (kept (cond t (some (binary 0 w)) none)) ≡ cond t (some (binary 0 w)) none
+    go true = refl
+    go false = refl
 
 all_none : (s : List ℕ) (p : ℕ → Bool) → size s ≡ 0 → all p (word_of s) ≡ true
 unfolding all
@@ -165,7 +142,7 @@ value_none n s l e = rw e (go (leb n 65534) refl)
 
 module _ (s : List ℕ) (at : ℕ) {r : Bits} (b : BitsRead s at r) where
   -- the word is all bits
-  whole : size (drop r.to s) ≡ 0 → {x : Digits} → x ≡ bits_by at r → x ≡ digits_at s at
+  whole : size (drop r.to s) ≡ 0 → {x : Option Digits} → x ≡ bits_by at r → x ≡ digits_at s at
   unfolding digits_at one_or_more
   whole z {x} e = go (word_of (drop at s)) refl
     where
@@ -180,17 +157,17 @@ module _ (s : List ℕ) (at : ℕ) {r : Bits} (b : BitsRead s at r) where
       go (c ∷ w) f =
           let n : length (word_of (drop at s)) ≡ suc (length w) = ap length f in
           let t : all is_state (c ∷ w) ≡ true = bits_states (c ∷ w) (ap (all is_bit) (sym f) ∙ b.along.alike ∙ all_none (drop r.to s) is_bit z) in
-          let v : fitted (value_of (c ∷ w)) ≡ r.value = fitted_value (c ∷ w) ∙ ap (value_from 0) (sym f) ∙ b.value ∙ value_none r.value (drop r.to s) b.small z in
+          let v : fitted r.value ≡ kept (value_of (c ∷ w)) = ap fitted (sym (b.value ∙ value_none r.value (drop r.to s) b.small z)) ∙ ap (λ (u : List ℕ). fitted (value_from 0 u)) f ∙ fitted_value (c ∷ w) in
           e ∙ rw (ne_eqb r.to at (λ q. omega (arith, n, l, sizes)), f, t, v, sizes)
 
-  pub digits_over : {x : Digits} → length s ≤ r.to → x ≡ bits_by at r → x ≡ digits_at s at
+  pub digits_over : {x : Option Digits} → length s ≤ r.to → x ≡ bits_by at r → x ≡ digits_at s at
   digits_over h e = whole (none_over s r.to h) e
 
-  pub digits_bits : {f : Bool} {x : Digits} → r.to < length s → f ≡ parting (get_or s r.to 0) → f ≡ true → x ≡ bits_by at r → x ≡ digits_at s at
+  pub digits_bits : {f : Bool} {x : Option Digits} → r.to < length s → f ≡ parting (get_or s r.to 0) → f ≡ true → x ≡ bits_by at r → x ≡ digits_at s at
   digits_bits h p q e = whole (none_parting s r.to h (sym p ∙ q)) e
 
   -- a byte of it is no bit
-  pub digits_states : {f : Bool} {x : Digits} → r.to < length s → f ≡ parting (get_or s r.to 0) → f ≡ false → x ≡ states_at s at → x ≡ digits_at s at
+  pub digits_states : {f : Bool} {x : Option Digits} → r.to < length s → f ≡ parting (get_or s r.to 0) → f ≡ false → x ≡ states_at s at → x ≡ digits_at s at
   unfolding digits_at states_at value_of all
   digits_states h p q e =
       let t : all is_bit (word_of (drop at s)) ≡ false = b.along.alike ∙ rw (next_byte s r.to h, word_byte (get_or s r.to 0) (drop (r.to + 1) s) (sym p ∙ q), b.ends h) in
@@ -198,77 +175,57 @@ module _ (s : List ℕ) (at : ℕ) {r : Bits} (b : BitsRead s at r) where
 
 -- ---- codes
 
-module _ (named s : List ℕ) (at : ℕ) {to : ℕ} (q : to ≡ word_in (in_class Graphic) s at) where
-  pub code_none : to ≡ at → NoCode ≡ code_at named s at
+module _ (named s : List ℕ) (at : ℕ) {r : Option ℕ} (q : r ≡ word_in is_graphic s at) where
+  pub code_none : r ≡ None → None ≡ code_at named s at
   unfolding code_at is_code
-  code_none e = rw (in_none (in_class Graphic) (class_dark Graphic) s at q e) (go (is (word_of (drop at s)) "$end"))
+  code_none e = rw (in_none is_graphic graphic_plain s at q e) (go (is (word_of (drop at s)) "$end"))
     where
-      go : (t : Bool) → NoCode ≡ cond (cond t false false) (cond (same (word_of (drop at s)) named) (Named (after_word s at)) (Other (after_word s at))) NoCode
+      go : (t : Bool) → ◌≡◌ {A = Option Code} None (cond (cond t false false) (Some (record { to = after_word s at; named = same (word_of (drop at s)) named })) None)
       go true = refl
       go false = refl
 
-  module _ (n : to ≡ at → ⊥) where
-    graphic : (one_or_more is_graphic (word_of (drop at s)) ≡ true) × (to ≡ after_word s at) × (to ≤ length s)
-    graphic = in_some (in_class Graphic) (class_dark Graphic) s at q n
+  module _ (to : ℕ) (n : r ≡ Some to) where
+    graphic : WordPasses is_graphic s at to
+    graphic = in_some is_graphic graphic_plain s at to q n
 
     pub code_starts : at ≤ to
-    code_starts = omega (arith, graphic.1)
+    code_starts = omega (arith, graphic.moves)
 
     pub code_ends : to ≤ length s
-    code_ends = graphic.2
+    code_ends = graphic.within
 
     part : take (to - at) (drop at s) ≡ word_of (drop at s)
-    part = let z : to - at ≡ size (drop at s) = omega (arith, graphic.1) in rw z
+    part = let z : to - at ≡ size (drop at s) = omega (arith, graphic.ends) in rw z
 
-    pub code_end : {f : Bool} → f ≡ same (take (to - at) (drop at s)) (bytes "$end") → f ≡ true → NoCode ≡ code_at named s at
+    pub code_end : {f : Bool} → f ≡ same (take (to - at) (drop at s)) (bytes "$end") → f ≡ true → None ≡ code_at named s at
     unfolding code_at is_code
     code_end p e = rw (← part, sym p ∙ e)
 
-    module _ {f : Bool} (p : f ≡ same (take (to - at) (drop at s)) (bytes "$end")) (e : f ≡ false) {g : Bool} (o : g ≡ same (take (to - at) (drop at s)) named) where
-      code_is : is_code (word_of (drop at s)) ≡ true
-      unfolding is_code
-      code_is = rw (ap (λ (w : List ℕ). same w (bytes "$end")) (sym part) ∙ sym p ∙ e) graphic.0
-
-      pub code_named : g ≡ true → Named to ≡ code_at named s at
-      unfolding code_at
-      code_named y = rw (code_is, ap (λ (w : List ℕ). same w named) (sym part) ∙ sym o ∙ y, graphic.1)
-
-      pub code_other : g ≡ false → Other to ≡ code_at named s at
-      unfolding code_at
-      code_other y = rw (code_is, ap (λ (w : List ℕ). same w named) (sym part) ∙ sym o ∙ y, graphic.1)
+    pub code_is : {f g : Bool} → f ≡ same (take (to - at) (drop at s)) (bytes "$end") → f ≡ false → g ≡ same (take (to - at) (drop at s)) named → Some (record { to = to; named = g }) ≡ code_at named s at
+    unfolding code_at is_code
+    code_is {f} {g} p e o =
+        let z : g ≡ same (word_of (drop at s)) named = o ∙ ap (λ (w : List ℕ). same w named) part in
+        rw (ap (λ (w : List ℕ). same w (bytes "$end")) (sym part) ∙ sym p ∙ e, graphic.passes, z, graphic.ends)
 
 -- what a code's answer tells of its word
-pub record Coded (named s : List ℕ) (at : ℕ) (of : Bool) (to : ℕ) : Type 0 where
+pub record Coded (named s : List ℕ) (at : ℕ) (c : Code) : Type 0 where
   pub is_code_lem : is_code (word_of (drop at s)) ≡ true
-  pub is_named : same (word_of (drop at s)) named ≡ of
-  pub after : to ≡ after_word s at
+  pub is_named : same (word_of (drop at s)) named ≡ c.named
+  pub after : c.to ≡ after_word s at
 
-module _ (named s : List ℕ) (at : ℕ) {c : Code} (q : c ≡ code_at named s at) where
-  pub not_coded : c ≡ NoCode → is_code (word_of (drop at s)) ≡ false
+module _ (named s : List ℕ) (at : ℕ) {r : Option Code} (q : r ≡ code_at named s at) where
+  pub not_coded : r ≡ None → is_code (word_of (drop at s)) ≡ false
   unfolding code_at
-  not_coded e = go (is_code (word_of (drop at s))) (same (word_of (drop at s)) named) (sym e ∙ q)
+  not_coded e = go (is_code (word_of (drop at s))) (sym e ∙ q)
     where
-      go : (t u : Bool) → NoCode ≡ cond t (cond u (Named (after_word s at)) (Other (after_word s at))) NoCode → t ≡ false
-      go true true f = absurd (let z : ◌≡◌ {A = ℕ} 0 1 = cc in omega arith)
-      go true false f = absurd (let z : ◌≡◌ {A = ℕ} 0 1 = cc in omega arith)
-      go false u f = refl
+      go : (t : Bool) → ◌≡◌ {A = Option Code} None (cond t (Some (record { to = after_word s at; named = same (word_of (drop at s)) named })) None) → t ≡ false
+      go true f = absurd (none-some _ f)
+      go false f = refl
 
-  -- the named code, or another
-  coded : (of : Bool) (to : ℕ) → c ≡ cond of (Named to) (Other to) → Coded named s at of to
+  pub coded : (c : Code) → r ≡ Some c → Coded named s at c
   unfolding code_at
-  coded of to e = go of (is_code (word_of (drop at s))) (same (word_of (drop at s)) named) refl refl (sym e ∙ q)
+  coded c e = go (is_code (word_of (drop at s))) refl (sym e ∙ q)
     where
-      go : (of t u : Bool) → is_code (word_of (drop at s)) ≡ t → same (word_of (drop at s)) named ≡ u
-          → cond of (Named to) (Other to) ≡ cond t (cond u (Named (after_word s at)) (Other (after_word s at))) NoCode → Coded named s at of to
-      go true true true f g h = record { is_code_lem = f; is_named = g; after = cc }
-      go false true false f g h = record { is_code_lem = f; is_named = g; after = cc }
-      go true true false f g h = absurd (let z : ◌≡◌ {A = ℕ} 0 1 = cc in omega arith)
-      go false true true f g h = absurd (let z : ◌≡◌ {A = ℕ} 0 1 = cc in omega arith)
-      go true false u f g h = absurd (let z : ◌≡◌ {A = ℕ} 0 1 = cc in omega arith)
-      go false false u f g h = absurd (let z : ◌≡◌ {A = ℕ} 0 1 = cc in omega arith)
-
-  pub coded_named : (to : ℕ) → c ≡ Named to → Coded named s at true to
-  coded_named to e = coded true to e
-
-  pub coded_other : (to : ℕ) → c ≡ Other to → Coded named s at false to
-  coded_other to e = coded false to e
+      go : (t : Bool) → is_code (word_of (drop at s)) ≡ t → Some c ≡ cond t (Some (record { to = after_word s at; named = same (word_of (drop at s)) named })) None → Coded named s at c
+      go true f g = let z : c ≡ record { to = after_word s at; named = same (word_of (drop at s)) named } = cc in rw z (record { is_code_lem = f; is_named = refl; after = refl })
+      go false f g = absurd (none-some _ (sym g))

@@ -1,33 +1,23 @@
 -- The word that the reader finds, among the words of the text. Assumes nothing.
-use mathlib.Core.Path.{◌≡◌, refl, sym, ap, ◌∙◌}
-use mathlib.Core.Bool.{Bool, true, false, cond}
-use mathlib.Core.List.{List, [], ◌∷◌}
-use Prim.Native.Nat.{ℕ, suc, ◌+◌, ◌-◌, ◌<◌, ◌≤◌}
-use native.Mathlib.Nat.{add-zero}
-use native.Mathlib.Omega.{arith}
-use borrow.Author.Tests.{ltb-true, ltb-false, lt-ltb, le-ltb}
-use lib.ListN.{length, take, drop, get_or, length-drop, drop_of_length-le}
-use lib.Seq.{drop-drop}
-use lib.Dec.{ltb}
+use Rattle.std.proofs.Common.{◌≡◌, refl, sym, ap, ◌∙◌, Bool, true, false, cond, List, [], ◌∷◌, ℕ, suc, ◌+◌, ◌-◌, ◌<◌, ◌≤◌, Option, Some, None, length, take, drop, get_or, ltb, add-zero, arith, ltb-true, ltb-false, length-drop, drop_of_length-le, drop-drop}
+use Rattle.std.proofs.lemmas.Option.{none-some}
 use Rattle.lists.specs.Bytes.{bytes, same}
 use Rattle.vcd.specs.Words.{parting, size, word_of, Word, words}
 use Rattle.words.specs.Places.{gap, next_start, words_from, after_end, TextEnds, ended, missing}
-use Rattle.words.specs.declared.Start.{Start}
-use Rattle.words.specs.declared.Start.TheVariants.{Word as WordAt, Nothing}
-use Rattle.words.specs.declared.AfterEnd.TheVariants.{To, Missing}
+use Rattle.words.specs.declared.Word.{Word as Found}
 use Rattle.vcd.proofs.Words.{size_within}
 use Rattle.words.proofs.Runs.{next_byte}
 
--- ---- what `start_at` answers
+-- ---- what `next_start` answers
 
 module _ (s : List ℕ) (at from : ℕ) (p : from ≡ at + gap (drop at s)) where
-  pub start_found : from < length s → WordAt from (get_or s from 0) ≡ next_start s at
+  pub start_found : (b : ℕ) → true ≡ ltb from (length s) → b ≡ get_or s from 0 → Some (record { from = from; first = b }) ≡ next_start s at
   unfolding next_start
-  start_found h = rw (sym p, lt-ltb from (length s) h)
+  start_found b h e = rw (sym p, ← h, e)
 
-  pub start_missing : length s ≤ from → Nothing ≡ next_start s at
+  pub start_missing : {r : Option Found} → false ≡ ltb from (length s) → r ≡ None → r ≡ next_start s at
   unfolding next_start
-  start_missing h = rw (sym p, le-ltb from (length s) h)
+  start_missing h e = rw (sym p, ← h, e)
 
 -- ---- the words of a text
 
@@ -85,19 +75,19 @@ pub record Begins (s : List ℕ) (p from b : ℕ) : Type 0 where
   pub within : from + size (drop from s) ≤ length s
   pub is : words_from s p ≡ record { at = from; bytes = word_of (drop from s) } ∷ words_from s (from + size (drop from s))
 
-module _ (s : List ℕ) (p : ℕ) {r : Start} (q : r ≡ next_start s p) where
+module _ (s : List ℕ) (p : ℕ) {r : Option Found} (q : r ≡ next_start s p) where
   abbrev start : ℕ
   start = p + gap (drop p s)
 
   behind : drop (gap (drop p s)) (drop p s) ≡ drop start s
   behind = drop-drop (gap (drop p s)) p s
 
-  pub no_more : r ≡ Nothing → words_from s p ≡ []
+  pub no_more : r ≡ None → words_from s p ≡ []
   unfolding next_start
   no_more e = go (ltb start (length s)) refl (sym e ∙ q)
     where
-      go : (t : Bool) → ltb start (length s) ≡ t → Nothing ≡ cond t (WordAt start (get_or s start 0)) Nothing → words_from s p ≡ []
-      go true h f = absurd (let z : ◌≡◌ {A = ℕ} 0 1 = cc in omega arith)
+      go : (t : Bool) → ltb start (length s) ≡ t → ◌≡◌ {A = Option Found} None (cond t (Some (record { from = start; first = get_or s start 0 })) None) → words_from s p ≡ []
+      go true h f = absurd (none-some _ f)
       go false h f = first_word p (drop p s) ∙ rw (behind, drop_of_length-le s {i = start} (ltb-false start (length s) h))
 
   begins_start : start < length s → (b : ℕ) → b ≡ get_or s start 0 → Begins s p start b
@@ -114,20 +104,20 @@ module _ (s : List ℕ) (p : ℕ) {r : Start} (q : r ≡ next_start s p) where
         is = first_word p (drop p s) ∙ rw (d, ← next_byte s start l, drop-drop);
       }
 
-  pub word_starts : (from b : ℕ) → r ≡ WordAt from b → Begins s p from b
+  pub word_starts : (w : Found) → r ≡ Some w → Begins s p w.from w.first
   unfolding next_start
-  word_starts from b e = go (ltb start (length s)) refl (sym e ∙ q)
+  word_starts w e = go (ltb start (length s)) refl (sym e ∙ q)
     where
-      go : (t : Bool) → ltb start (length s) ≡ t → WordAt from b ≡ cond t (WordAt start (get_or s start 0)) Nothing → Begins s p from b
-      go true h f = let z : from ≡ start = cc in rw z (begins_start (ltb-true start (length s) h) b (cc))
-      go false h f = absurd (let z : ◌≡◌ {A = ℕ} 0 1 = cc in omega arith)
+      go : (t : Bool) → ltb start (length s) ≡ t → Some w ≡ cond t (Some (record { from = start; first = get_or s start 0 })) None → Begins s p w.from w.first
+      go true h f = let z : w ≡ record { from = start; first = get_or s start 0 } = cc in rw z (begins_start (ltb-true start (length s) h) (get_or s start 0) refl)
+      go false h f = absurd (none-some _ (sym f))
 
   -- the word, from its first byte to its end, is a part of the text
-  module _ (from b to : ℕ) (e : r ≡ WordAt from b) (t : to ≡ from + size (drop from s)) where
-    begins : Begins s p from b
-    begins = word_starts from b e
+  module _ (w : Found) (to : ℕ) (e : r ≡ Some w) (t : to ≡ w.from + size (drop w.from s)) where
+    begins : Begins s p w.from w.first
+    begins = word_starts w e
 
-    pub part_starts : from ≤ to
+    pub part_starts : w.from ≤ to
     part_starts = omega arith
 
     pub part_ends : to ≤ length s
@@ -139,27 +129,28 @@ module _ (s : List ℕ) (p : ℕ) {r : Start} (q : r ≡ next_start s p) where
     pub part_left : length s - to < length s - p
     part_left = omega (arith, begins.low, begins.some, begins.within)
 
-    pub part_is : take (to - from) (drop from s) ≡ word_of (drop from s)
-    part_is = let z : to - from ≡ size (drop from s) = omega arith in rw z
+    pub part_is : take (to - w.from) (drop w.from s) ≡ word_of (drop w.from s)
+    part_is = let z : to - w.from ≡ size (drop w.from s) = omega arith in rw z
 
-    pub word_then : words_from s p ≡ record { at = from; bytes = take (to - from) (drop from s) } ∷ words_from s to
+    pub word_then : words_from s p ≡ record { at = w.from; bytes = take (to - w.from) (drop w.from s) } ∷ words_from s to
     word_then = begins.is ∙ rw (part_is, ← t)
 
 -- ---- the words after a $end
 
-module _ (s : List ℕ) (at p : ℕ) (i : after_end (words_from s at) ≡ after_end (words_from s p)) {r : Start} (q : r ≡ next_start s p) where
-  pub end_missing : r ≡ Nothing → TextEnds s at Missing
+module _ (s : List ℕ) (at p : ℕ) (i : after_end (words_from s at) ≡ after_end (words_from s p)) {r : Option Found} (q : r ≡ next_start s p) where
+  pub end_missing : r ≡ None → TextEnds s at None
   unfolding after_end
   end_missing e = missing (i ∙ rw (no_more s p q e))
 
-  module _ (low : at ≤ p) (from b to : ℕ) (e : r ≡ WordAt from b) (t : to ≡ from + size (drop from s)) {f : Bool} (g : f ≡ same (take (to - from) (drop from s)) (bytes "$end")) where
-    pub end_found : f ≡ true → TextEnds s at (To to)
-    unfolding after_end
-    end_found y = ended {to = to} (omega (arith, part_moves s p q from b to e t)) (part_ends s p q from b to e t) (i ∙ rw (word_then s p q from b to e t, sym g ∙ y))
-
-    pub end_later : f ≡ false → after_end (words_from s at) ≡ after_end (words_from s to)
-    unfolding after_end
-    end_later y = i ∙ rw (word_then s p q from b to e t, sym g ∙ y)
-
+  module _ (low : at ≤ p) (w : Found) (to : ℕ) (e : r ≡ Some w) (t : to ≡ w.from + size (drop w.from s)) where
     pub end_on : at ≤ to
-    end_on = omega (arith, part_moves s p q from b to e t)
+    end_on = omega (arith, part_moves s p q w to e t)
+
+    module _ {f : Bool} (g : f ≡ same (take (to - w.from) (drop w.from s)) (bytes "$end")) where
+      pub end_found : f ≡ true → TextEnds s at (Some to)
+      unfolding after_end
+      end_found y = ended {to = to} (omega (arith, part_moves s p q w to e t)) (part_ends s p q w to e t) (i ∙ rw (word_then s p q w to e t, sym g ∙ y))
+
+      pub end_later : f ≡ false → after_end (words_from s at) ≡ after_end (words_from s to)
+      unfolding after_end
+      end_later y = i ∙ rw (word_then s p q w to e t, sym g ∙ y)

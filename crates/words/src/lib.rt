@@ -1,210 +1,120 @@
-// The words of a recording's text (document 02, §8): where the next one begins, where it ends, and whether it is all of one class of bytes.
+// The words of a recording's text (document 02, §8): where the next one begins, where it ends, and whether each byte of it passes a test.
 #![tactic(auto)]
 
 ghost use Rattle.std.specs.Prelude.{◌≡◌, ◌+◌, drop};
-ghost use Rattle.lists.specs.Bytes.{same};
 ghost use Rattle.vcd.specs.Words.{parting, size};
-ghost use Rattle.vcd.specs.Syntax.{is_state};
-ghost use Rattle.words.specs.Places.{gap, next_start, in_class, RunEnds, word_in, TextEnds};
+ghost use Rattle.vcd.specs.Syntax.{is_graphic, is_state, is_decimal};
+ghost use Rattle.words.specs.Places.{Run, next_start, WordIn, TextEnds};
 
-// The text and the place in it where the reader stands.
-#[derive(Drop)]
+// Where a word begins, and its first byte.
+#[derive(Clone, Copy)]
+pub struct Word {
+    pub from: usize,
+    pub first: u8,
+}
+
+// Whether a byte parts words. By `||` and not by `matches!`, of which LLVM makes a row of branches in place of one bit test; so too below.
+pub fn is_parting(b: u8) -> bool
+    ensures { result ≡ parting b }
+{
+    b == b' ' || b == b'\t' || b == b'\r' || b == b'\n'
+}
+
+// Whether a byte may stand in a code.
+pub fn is_graphic(b: u8) -> bool
+    ensures { result ≡ is_graphic b }
+{
+    b.is_ascii_graphic()
+}
+
+// Whether a byte is a digit of a vector: 0, 1, x or z, in either case.
+pub fn is_state(b: u8) -> bool
+    ensures { result ≡ is_state b }
+{
+    b == b'0' || b == b'1' || b == b'x' || b == b'X' || b == b'z' || b == b'Z'
+}
+
+// Whether a byte is a digit of a time.
+pub fn is_decimal(b: u8) -> bool
+    ensures { result ≡ is_decimal b }
+{
+    b.is_ascii_digit()
+}
+
+// Where the bytes that pass a test end, from a place on.
+fn run_end<F: Fn(u8) -> bool>(text: &[u8], at: usize, passes: F) -> usize
+    requires { F.IsAlwaysCallable passes }
+    ensures { Run (F.post passes) text.now at result }
+{
+    for i in at..text.len() {
+        if !passes(text[i]) {
+            return i;
+        }
+    }
+    text.len().max(at)
+}
+
+// The first word that begins at a place or after it.
+fn start_at(text: &[u8], at: usize) -> Option<Word>
+    ensures { result ≡ next_start text.now at }
+{
+    let from = run_end(text, at, is_parting);
+    let first = *text.get(from)?;
+    Some(Word { from, first })
+}
+
+// The text and the place in it where the reader stands. Document 01 names this form.
+#[derive(Clone, Copy)]
 pub struct Reader<'a> {
     pub text: &'a [u8],
     pub at: usize,
 }
 
-// Where a word begins, and its first byte; or the text has no more words.
-#[derive(Clone, Copy)]
-pub enum Start {
-    Word(usize, u8),
-    Nothing,
+impl Reader<'_> {
+    // The first word from the reader's place on.
+    pub fn next_word(self) -> Option<Word>
+        ensures { result ≡ next_start self.entry.text.now self.entry.at }
+    {
+        start_at(self.text, self.at)
+    }
 }
 
-// Whether a byte parts words.
-pub fn is_parting(b: u8) -> bool
-    ensures { result ≡ parting b }
-{
-    if b == 32 {
-        return true;
-    }
-    if b == 9 {
-        return true;
-    }
-    if b == 13 {
-        return true;
-    }
-    b == 10
-}
-
-// Where the bytes that part words end.
-fn gap_end(text: &[u8], at: usize) -> usize
-    ensures { result ≡ at + gap (drop at text.now) }
-{
-    let mut i = at;
-    while i < text.len() {
-        if is_parting(text[i]) {
-            i += 1;
-        } else {
-            return i;
-        }
-    }
-    i
-}
-
-// The first word that begins at a place or after it.
-fn start_at(text: &[u8], at: usize) -> Start
+// The same, of a text and a place in it that a caller holds apart.
+pub fn next_start(text: &[u8], at: usize) -> Option<Word>
     ensures { result ≡ next_start text.now at }
 {
-    let from = gap_end(text, at);
-    if from < text.len() {
-        return Start::Word(from, text[from]);
-    }
-    Start::Nothing
-}
-
-// A reader at a place of a text.
-pub fn reader_at<'a>(text: &'a [u8], at: usize) -> Reader<'a>
-    ensures { (result.text ≡ text.entry) × (result.at ≡ at) }
-{
-    Reader { text, at }
-}
-
-// The first word from the reader's place on.
-pub fn read_start<'a>(r: Reader<'a>) -> Start
-    ensures { result ≡ next_start r.entry.text.now r.entry.at }
-{
-    start_at(r.text, r.at)
-}
-
-// The next word from a place on, by a reader that is made there. The loops above hold slice and number, which the toolchain covers.
-pub fn next_start(text: &[u8], at: usize) -> Start
-    ensures { result ≡ next_start text.now at }
-{
-    read_start(reader_at(text, at))
+    Reader { text, at }.next_word()
 }
 
 // Where the word at a place ends.
 pub fn word_end(text: &[u8], at: usize) -> usize
     ensures { result ≡ at + size (drop at text.now) }
 {
-    let mut i = at;
-    while i < text.len() {
-        if is_parting(text[i]) {
-            return i;
-        }
-        i += 1;
-    }
-    i
+    run_end(text, at, |b| !is_parting(b))
 }
 
-// Whether two parts of texts are the same bytes.
-pub fn same_bytes(a: &[u8], b: &[u8]) -> bool
-    ensures { result ≡ same a.now b.now }
+// Where the word at a place ends, if it is one or more bytes that pass a test.
+pub fn word_in<F: Fn(u8) -> bool>(text: &[u8], at: usize, passes: F) -> Option<usize>
+    requires { F.IsAlwaysCallable passes }
+    ensures { WordIn (F.post passes) text.now at result }
 {
-    if a.len() != b.len() {
-        return false;
+    let to = run_end(text, at, passes);
+    if to == at || to < text.len() && !is_parting(text[to]) {
+        return None;
     }
-    let mut i = 0;
-    while i < a.len() {
-        if a[i] != b[i] {
-            return false;
-        }
-        i += 1;
-    }
-    true
-}
-
-// The bytes of codes, of a vector's digits, and of times.
-#[derive(Clone, Copy)]
-pub enum Class {
-    Graphic,
-    State,
-    Decimal,
-}
-
-// Whether a byte is 0, 1, x or z, in either case.
-pub fn is_state(b: u8) -> bool
-    ensures { result ≡ is_state b }
-{
-    if b == b'0' {
-        return true;
-    }
-    if b == b'1' {
-        return true;
-    }
-    if b == b'x' {
-        return true;
-    }
-    if b == b'X' {
-        return true;
-    }
-    if b == b'z' {
-        return true;
-    }
-    b == b'Z'
-}
-
-// Whether a byte is of a class.
-fn in_class(class: Class, b: u8) -> bool
-    ensures { result ≡ in_class class b }
-{
-    match class {
-        Class::Graphic => 33 <= b && b <= 126,
-        Class::State => is_state(b),
-        Class::Decimal => 48 <= b && b <= 57,
-    }
-}
-
-// Where the run of bytes of a class that begins at a place ends.
-fn run_end(class: Class, text: &[u8], at: usize) -> usize
-    ensures { RunEnds (in_class class) text.now at result }
-{
-    let mut i = at;
-    while i < text.len() {
-        if in_class(class, text[i]) {
-            i += 1;
-        } else {
-            return i;
-        }
-    }
-    i
-}
-
-// Where the word at a place ends, if it is one or more bytes of the class; else the place itself.
-pub fn word_in(class: Class, text: &[u8], at: usize) -> usize
-    ensures { result ≡ word_in (in_class class) text.now at }
-{
-    let to = run_end(class, text, at);
-    if to < text.len() {
-        if is_parting(text[to]) {
-            return to;
-        }
-        return at;
-    }
-    to
-}
-
-// The place after the next $end, or the text has none.
-#[derive(Clone, Copy)]
-pub enum AfterEnd {
-    To(usize),
-    Missing,
+    Some(to)
 }
 
 // The place after the first $end from a place on.
-pub fn after_end(text: &[u8], at: usize) -> AfterEnd
+pub fn after_end(text: &[u8], at: usize) -> Option<usize>
     ensures { TextEnds text.now at result }
 {
     let mut p = at;
-    loop {
-        let Start::Word(from, _) = next_start(text, p) else {
-            return AfterEnd::Missing;
-        };
-        let to = word_end(text, from);
-        if same_bytes(&text[from..to], b"$end") {
-            return AfterEnd::To(to);
+    while let Some(word) = next_start(text, p) {
+        p = word_end(text, word.from);
+        if &text[word.from..p] == b"$end".as_slice() {
+            return Some(p);
         }
-        p = to;
     }
+    None
 }

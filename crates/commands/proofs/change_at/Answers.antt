@@ -1,14 +1,23 @@
-use Rattle.commands.proofs.Steps.{change_missing, change_named, change_other, change_bad}
+use Rattle.commands.proofs.Refusals.{refused}
+use Rattle.commands.proofs.Steps.{change_missing, change_bad, change_other, change_refused, change_named}
 use Rattle.commands.proofs.change_at.Goals as goal
 
-pub returns-in_default : goal.returns-in_default
-returns-in_default c = search change_missing
+pub returns-in_err-from : goal.returns-in_err-from
+returns-in_err-from c = let h = refused _ _ _ _ c.in_err-from.ensures.value c.from_residual.ensures.1 in rw h.1 (change_missing _ _ _ _ _ _ c.next_start.ensures h.0)
 
-pub returns-in-Named : goal.returns-in-Named
-returns-in-Named c = search change_named
+pub returns-in_err-found : goal.returns-in_err-found
+returns-in_err-found c =
+    let h = refused _ _ _ _ c.in_err-found.ensures.value c.from_residual-in_err-found.ensures.1 in
+    rw h.1 (change_bad _ _ _ _ _ _ c.next_start.ensures _ c.in_ok-from.ensures.ok_part c.code_at.ensures h.0)
 
-pub returns-in-Other : goal.returns-in-Other
-returns-in-Other c = search change_other
+pub returns-then-not-found : goal.returns-then-not-found
+returns-then-not-found c = change_other _ _ _ _ _ _ c.next_start.ensures _ c.in_ok-from.ensures.ok_part c.code_at.ensures _ c.in_ok-found.ensures.ok_part c.if-not-found.true
 
-pub returns-in-Bad : goal.returns-in-Bad
-returns-in-Bad c = search change_bad
+pub returns-in_err-value : goal.returns-in_err-value
+returns-in_err-value c =
+    let h = refused _ _ _ _ c.in_err-value.ensures.value c.from_residual-in_err-value.ensures.1 in
+    rw h.1 (change_refused _ _ _ _ _ _ c.next_start.ensures _ c.in_ok-from.ensures.ok_part c.code_at.ensures _ c.in_ok-found.ensures.ok_part c.if-not-found.false h.0)
+
+pub returns : goal.returns
+returns c =
+    change_named _ _ _ _ _ _ c.next_start.ensures _ c.in_ok-from.ensures.ok_part c.code_at.ensures _ c.in_ok-found.ensures.ok_part c.if-not-found.false _ c.in_ok-value.ensures.ok_part

@@ -1,23 +1,26 @@
-use Rattle.commands.proofs.Values.{code_none, code_starts, code_ends, code_end, code_named, code_other}
+use Rattle.std.proofs.Common.{rules, ◌∙◌, refl}
+use Rattle.words.proofs.Named.{told}
+use Rattle.words.proofs.Runs.{graphic_plain}
+use Rattle.commands.proofs.Values.{code_none, code_starts, code_ends, code_end, code_is}
 use Rattle.commands.proofs.code_at.Goals as goal
 
-pub returns-then-to-at : goal.returns-then-to-at
-returns-then-to-at c = search code_none
+pub returns-in_err-to : goal.returns-in_err-to
+returns-in_err-to c =
+    c.from_residual.ensures ∙ code_none _ _ _ (c.word_in.ensures _ (record { says = λ b r l h. search rules; plain = graphic_plain })) c.in_err-to.was
 
 pub slice_bounds-w-count : goal.slice_bounds-w-count
-slice_bounds-w-count c = search code_starts
+slice_bounds-w-count c = code_starts c.args.code.now _ _ (c.word_in.ensures _ (record { says = λ b r l h. search rules; plain = graphic_plain })) _ c.in_ok-to.was
 
 pub slice_bounds-w-start : goal.slice_bounds-w-start
-slice_bounds-w-start c = search code_starts
+slice_bounds-w-start c = code_starts c.args.code.now _ _ (c.word_in.ensures _ (record { says = λ b r l h. search rules; plain = graphic_plain })) _ c.in_ok-to.was
 
 pub slice_bounds-w-end : goal.slice_bounds-w-end
-slice_bounds-w-end c = search code_ends
+slice_bounds-w-end c = code_ends c.args.code.now _ _ (c.word_in.ensures _ (record { says = λ b r l h. search rules; plain = graphic_plain })) _ c.in_ok-to.was
 
-pub returns-then-same_bytes : goal.returns-then-same_bytes
-returns-then-same_bytes c = search code_end
-
-pub returns-then-same_bytes-2 : goal.returns-then-same_bytes-2
-returns-then-same_bytes-2 c = search code_named
+pub returns-then-eq : goal.returns-then-eq
+returns-then-eq c =
+    code_end _ _ _ (c.word_in.ensures _ (record { says = λ b r l h. search rules; plain = graphic_plain })) _ c.in_ok-to.was (told _ _ _ c.eq.ensures c.as_slice.ensures) c.if-eq.true
 
 pub returns : goal.returns
-returns c = search code_other
+returns c =
+    code_is _ _ _ (c.word_in.ensures _ (record { says = λ b r l h. search rules; plain = graphic_plain })) _ c.in_ok-to.was (told _ _ _ c.eq.ensures c.as_slice.ensures) c.if-eq.false (told _ _ _ c.eq-2.ensures refl)

@@ -1,8 +1,9 @@
+use Rattle.commands.proofs.Refusals.{refused}
 use Rattle.commands.proofs.Steps.{comment_ends, comment_missing}
 use Rattle.commands.proofs.comment_at.Goals as goal
 
-pub returns-in-To : goal.returns-in-To
-returns-in-To c = search comment_ends
+pub returns-in_err-to : goal.returns-in_err-to
+returns-in_err-to c = let h = refused _ _ _ _ c.in_err-to.ensures.value c.from_residual.ensures.1 in rw h.1 (comment_missing _ _ c.after_end.ensures h.0)
 
-pub returns-in-Missing : goal.returns-in-Missing
-returns-in-Missing c = search comment_missing
+pub returns : goal.returns
+returns c = comment_ends _ _ c.after_end.ensures _ c.in_ok-to.ensures.ok_part

@@ -1,6 +1,4 @@
-use Prim.Native.Nat.{◌-◌}
-use mathlib.Core.Path.{◌≡◌}
-use lib.ListN.{length}
+use Rattle.std.proofs.Common.{◌≡◌, ◌-◌, length}
 use Rattle.vcd.specs.Syntax.{declaration, reading_of}
 use Rattle.commands.specs.Reads.{reading_from}
 use Rattle.declarations.proofs.body_of.Given as goal

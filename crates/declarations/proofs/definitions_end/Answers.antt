@@ -1,11 +1,12 @@
+use Rattle.commands.proofs.Refusals.{refused}
 use Rattle.declarations.proofs.Parts.{definitions_end, definitions_missing, undeclared}
 use Rattle.declarations.proofs.definitions_end.Goals as goal
 
-pub returns-in-To : goal.returns-in-To
-returns-in-To c = search definitions_end
+pub returns-then-not-declared : goal.returns-then-not-declared
+returns-then-not-declared c = search undeclared
 
-pub returns-in-Missing : goal.returns-in-Missing
-returns-in-Missing c = search definitions_missing
+pub returns-in_err-to : goal.returns-in_err-to
+returns-in_err-to c = let h = refused _ _ _ _ c.in_err-to.ensures.value c.from_residual.ensures.1 in rw h.1 (definitions_missing _ _ _ c.after_end.ensures _ c.if-not-declared.false h.0)
 
 pub returns : goal.returns
-returns c = search undeclared
+returns c = definitions_end _ _ _ c.after_end.ensures _ c.if-not-declared.false _ c.in_ok-to.ensures.ok_part

@@ -1,23 +1,18 @@
-use Rattle.words.proofs.Starts.{part_starts, part_ends, part_left, end_missing, end_found, end_later, end_on}
+use Rattle.words.proofs.Named.{told}
+use Rattle.words.proofs.Starts.{part_ends, part_left, end_missing, end_found, end_later, end_on}
 use Rattle.words.proofs.after_end.Goals as goal
 
-pub returns-in_default : goal.returns-in_default
-returns-in_default c = search end_missing
+pub slice_bounds-eq-end : goal.slice_bounds-eq-end
+slice_bounds-eq-end c = search part_ends
 
-pub slice_bounds-same_bytes-count : goal.slice_bounds-same_bytes-count
-slice_bounds-same_bytes-count c = search part_starts
+pub returns-then-eq : goal.returns-then-eq
+returns-then-eq c = search (told, end_found)
 
-pub slice_bounds-same_bytes-start : goal.slice_bounds-same_bytes-start
-slice_bounds-same_bytes-start c = search part_starts
+pub loop-word-smaller : goal.loop-word-smaller
+loop-word-smaller c = search part_left
 
-pub slice_bounds-same_bytes-end : goal.slice_bounds-same_bytes-end
-slice_bounds-same_bytes-end c = search part_ends
+pub loop-word-preserved : goal.loop-word-preserved
+loop-word-preserved c = (search end_on, search (told, end_later))
 
-pub returns-then-same_bytes : goal.returns-then-same_bytes
-returns-then-same_bytes c = search end_found
-
-pub loop-from-smaller : goal.loop-from-smaller
-loop-from-smaller c = search part_left
-
-pub loop-from-preserved : goal.loop-from-preserved
-loop-from-preserved c = (search end_on, search end_later)
+pub returns : goal.returns
+returns c = search end_missing

@@ -1,10 +1,5 @@
-use Prim.Native.Nat.{◌-◌}
-use lib.ListN.{length}
-use Rattle.words.specs.Places.{in_class, Along}
+use Rattle.std.proofs.Common.{ℕ, ◌<◌, ◌≤◌, true, get_or}
 use Rattle.words.proofs.run_end.Given as goal
 
 abbrev pub invariant-loop-i : goal.invariant-loop-i
-invariant-loop-i l = Along (in_class l.class) l.text l.at l.i
-
-abbrev pub decreases-loop-i : goal.decreases-loop-i
-decreases-loop-i l = length l.text - l.i
+invariant-loop-i g l = (k : ℕ) → l.at ≤ k → k < l.i → goal.F-post g l.passes (get_or l.text k 0) true
