@@ -7,4 +7,5 @@ pub mod recording;
 mod rules;
 pub mod shortest;
 pub mod stepping;
+pub mod tables;
 pub mod writing;

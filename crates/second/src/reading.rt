@@ -1,365 +1,256 @@
-// A reader of one table, written from documents 01 and 02 apart from the library: one byte at a time, each field's text copied out.
-// It is slow on purpose, and it is what the library's replies are compared with.
-use pieces::{Digits, RowCells, Verdict, accepted, impossible, plus, refused, with_digit};
+// A reader of one table, written from documents 01 and 02 apart from the library: one byte at a time, by where the byte before left off.
+use pieces::answers::{Accepted, Answer, LineEnd, Refusal};
+use pieces::part;
+use pieces::rows::{BlockRow, LoopRow, NO_SUCCESSOR};
+use std::num::ParseIntError;
+use std::str::{self, FromStr};
+
+// A row of one of the two tables.
+pub trait Row: Copy + Default {
+    // The columns of its table.
+    const COLUMNS: usize;
+
+    // The row with what a field says in a column after the first; None where the column cannot hold that.
+    fn with(self, column: usize, field: &[u8]) -> Option<Self>;
+}
+
+// 0 alone is the only number that starts so. It has no minus sign, and no number has a plus sign.
+fn number<T: FromStr<Err = ParseIntError>>(field: &[u8]) -> Option<T> {
+    match field {
+        [b'+', ..] | [b'0', _, ..] | [b'-', b'0', ..] => None,
+        _ => str::from_utf8(field).ok()?.parse::<T>().ok(),
+    }
+}
+
+// An empty successor is missing; no other field may be empty.
+fn successor(field: &[u8]) -> Option<u16> {
+    if field.is_empty() {
+        return Some(NO_SUCCESSOR);
+    }
+    number(field).filter(|&v| v != NO_SUCCESSOR)
+}
+
+impl Row for BlockRow {
+    const COLUMNS: usize = 6;
+
+    fn with(self, column: usize, field: &[u8]) -> Option<Self> {
+        Some(match column {
+            1 => BlockRow {
+                cost: number(field)?,
+                ..self
+            },
+            2 => BlockRow {
+                inner: number(field)?,
+                ..self
+            },
+            3 => BlockRow {
+                first: successor(field)?,
+                ..self
+            },
+            4 => BlockRow {
+                second: successor(field)?,
+                ..self
+            },
+            5 => BlockRow {
+                figure: number(field)?,
+                ..self
+            },
+            _ => self,
+        })
+    }
+}
+
+impl Row for LoopRow {
+    const COLUMNS: usize = 5;
+
+    fn with(self, column: usize, field: &[u8]) -> Option<Self> {
+        Some(match column {
+            1 => LoopRow {
+                parent: number(field)?,
+                ..self
+            },
+            2 => LoopRow {
+                header: number(field)?,
+                ..self
+            },
+            3 => LoopRow {
+                limit: number(field)?,
+                ..self
+            },
+            4 => LoopRow {
+                multiplier: number(field)?,
+                ..self
+            },
+            _ => self,
+        })
+    }
+}
 
 // Where the next byte stands: at a field's start, in a plain field, within quotes, after a quote mark within quotes, after a CR.
-const START: u8 = 0;
+#[derive(Clone, Copy, PartialEq, Eq)]
+enum State {
+    Start,
+    Plain,
+    Quoted,
+    Mark,
+    Return,
+}
 
-const PLAIN: u8 = 1;
-
-const QUOTED: u8 = 2;
-
-const MARK: u8 = 3;
-
-const RETURN: u8 = 4;
-
-// What ends a record, by the numbers of the replies.
-const CR_LF: u64 = 0;
-
-const LF: u64 = 1;
-
-const TEXT_END: u64 = 2;
-
-#[derive(Clone, Copy)]
-struct Reading {
-    state: u8,
-    // the number of the refusal, 0 while there is none
-    fault: u32,
+#[derive(Drop)]
+struct Reading<'t, 'r, R> {
+    text: &'t [u8],
+    header_row: bool,
+    rows: &'r mut [R],
+    // the rows that are read, and the first record's line end
+    count: usize,
+    line_end: LineEnd,
+    state: State,
+    // the present record, the first being 1, and its fields so far: how many, what the first says, and what the others say where each fits its column
     record: usize,
-    row: usize,
-    // the present record's line end and the first record's: the end of the text until another one is read
-    line_end: u64,
-    first_end: u64,
-    // of the present record: the fields so far, whether one of them is no number of its column, and what they say
     fields: usize,
-    bad: bool,
-    values: [usize; 7],
-    // of the present field: the bytes as written, and its text
-    written: usize,
-    length: usize,
-    text: [u8; 64],
+    number: Option<u16>,
+    row: Option<R>,
+    // where the present field begins
+    from: usize,
 }
 
-// A field's number, and whether its column cannot hold it.
-#[derive(Clone, Copy)]
-struct Cell {
-    size: usize,
-    negative: bool,
-    bad: bool,
-}
+impl<R: Row> Reading<'_, '_, R> {
+    fn refusal(&self, number: u32) -> Refusal {
+        Refusal {
+            number,
+            place: self.record,
+        }
+    }
 
-fn byte_at(text: [u8; 64], i: usize) -> u8 {
-    if i < 64 {
-        return text[i];
-    }
-    0
-}
-
-fn digits_of(text: [u8; 64], from: usize, to: usize) -> Digits {
-    let mut d = Digits {
-        size: 0,
-        bad: false,
-    };
-    for i in from..to {
-        d = with_digit(d, byte_at(text, i));
-    }
-    d
-}
-
-// The largest number of a column. The figure's is larger by 1 below zero.
-fn largest(columns: usize, c: usize, negative: bool) -> usize {
-    let of_blocks = columns == 6;
-    if (of_blocks & (c == 1)) | (!of_blocks & (c == 3)) {
-        return 4294967295;
-    }
-    if of_blocks & ((c == 3) | (c == 4)) {
-        return 65534;
-    }
-    if of_blocks & (c == 5) {
-        return if negative {
-            9223372036854775808
+    // The field that ends before an index. It has 64 bytes at most, as written.
+    fn field_ended(&mut self, to: usize) -> Result<(), Refusal> {
+        let written = part(self.text, self.from, to);
+        if written.len() > 64 {
+            return Err(self.refusal(102));
+        }
+        // Within quotes two quote marks stand for one. They may stay two, since no number has one.
+        let field = match written {
+            [b'"', quoted @ .., b'"'] => quoted,
+            _ => written,
+        };
+        if self.fields == 0 {
+            self.number = number(field);
         } else {
-            9223372036854775807
+            self.row = self.row.and_then(|row| row.with(self.fields, field));
+        }
+        self.fields = self.fields.saturating_add(1);
+        self.state = State::Start;
+        Ok(())
+    }
+
+    fn row_ended(&mut self, line_end: LineEnd) -> Result<(), Refusal> {
+        let (Some(number), Some(row)) = (self.number, self.row) else {
+            return Err(self.refusal(104));
         };
-    }
-    if !of_blocks & (c == 4) {
-        18446744073709551615
-    } else {
-        65535
-    }
-}
-
-fn cell_of(text: [u8; 64], length: usize, columns: usize, c: usize) -> Cell {
-    let of_blocks = columns == 6;
-    if length == 0 {
-        // An empty successor is missing; no other field may be empty.
-        return Cell {
-            size: 65535,
-            negative: false,
-            bad: !(of_blocks & ((c == 3) | (c == 4))),
-        };
-    }
-    let negative = of_blocks & (c == 5) & (byte_at(text, 0) == 45);
-    let from = if negative { 1 } else { 0 };
-    let d = digits_of(text, from, length);
-    let size = d.size;
-    // 0 alone is the only number that starts so, and it has no sign.
-    let zero = (byte_at(text, from) == 48) & (negative | (length > 1));
-    Cell {
-        size,
-        negative,
-        bad: d.bad | (length == from) | (size > largest(columns, c, negative)) | zero,
-    }
-}
-
-impl Reading {
-    fn new() -> Self {
-        Reading {
-            state: START,
-            fault: 0,
-            record: 1,
-            row: 0,
-            line_end: TEXT_END,
-            first_end: TEXT_END,
-            fields: 0,
-            bad: false,
-            values: [0; 7],
-            written: 0,
-            length: 0,
-            text: [0; 64],
+        if usize::from(number) != self.count {
+            return Err(self.refusal(105));
         }
+        if self.count >= self.rows.len() {
+            return Err(self.refusal(106));
+        }
+        if line_end != self.line_end && line_end != LineEnd::TextEnd {
+            return Err(self.refusal(108));
+        }
+        self.rows[self.count] = row;
+        self.count += 1;
+        Ok(())
     }
 
-    // One byte more of the field as written, and of its text where it counts there. 64 are the most.
-    fn with_byte(mut self, b: u8, counts: bool) -> Reading {
-        let written = self.written;
-        let length = self.length;
-        if written >= 64 {
-            self.fault = 102;
-            return self;
+    fn record_ended(&mut self, line_end: LineEnd) -> Result<(), Refusal> {
+        if self.record == 1 {
+            self.line_end = line_end;
         }
-        self.written = written + 1;
-        if counts {
-            if length < 64 {
-                self.text[length] = b;
-                self.length = length + 1;
-            }
+        if self.fields != R::COLUMNS {
+            return Err(self.refusal(103));
         }
-        self
-    }
-
-    fn field_ended(mut self, columns: usize) -> Reading {
-        let c = self.fields;
-        let text = self.text;
-        let cell = cell_of(text, self.length, columns, c);
-        self.bad = self.bad | cell.bad;
-        if c < 6 {
-            self.values[c] = cell.size;
+        if !self.header_row || self.record != 1 {
+            self.row_ended(line_end)?;
         }
-        if cell.negative {
-            self.values[6] = 1;
-        }
-        self.fields = plus(c, 1);
-        self.state = START;
-        self.written = 0;
-        self.length = 0;
-        self
-    }
-
-    fn line_ended(mut self, line_end: u64, columns: usize) -> Reading {
-        self.line_end = line_end;
-        self.field_ended(columns)
+        self.record = self.record.saturating_add(1);
+        self.fields = 0;
+        self.row = Some(R::default());
+        self.state = State::Start;
+        Ok(())
     }
 
     // After a field comes a comma, a CR or an LF.
-    fn after_field(mut self, b: u8, columns: usize) -> Reading {
-        if b == 44 {
-            return self.field_ended(columns);
+    fn after_field(&mut self, i: usize, b: u8) -> Result<(), Refusal> {
+        if b != b',' && b != b'\r' && b != b'\n' {
+            return Err(self.refusal(102));
         }
-        if b == 10 {
-            return self.line_ended(LF, columns);
+        self.field_ended(i)?;
+        match b {
+            b'\r' => self.state = State::Return,
+            b'\n' => self.record_ended(LineEnd::Lf)?,
+            _ => {}
         }
-        if b == 13 {
-            self.state = RETURN;
-            return self;
-        }
-        self.fault = 102;
-        self
+        Ok(())
     }
 
-    // A field's first byte, or a further one of a plain field.
-    fn in_plain(mut self, b: u8, columns: usize) -> Reading {
-        let first = self.state == START;
-        if first & (b == 34) {
-            self.state = QUOTED;
-            return self.with_byte(b, false);
+    fn byte(&mut self, i: usize, b: u8) -> Result<(), Refusal> {
+        if self.state == State::Start {
+            self.from = i;
         }
-        if (b == 34) | (b == 44) | (b == 13) | (b == 10) {
-            return self.after_field(b, columns);
+        match (self.state, b) {
+            (State::Start | State::Mark, b'"') => self.state = State::Quoted,
+            (State::Quoted, b'"') => self.state = State::Mark,
+            (State::Quoted, _) => {}
+            (State::Return, b'\n') => self.record_ended(LineEnd::CrLf)?,
+            (State::Return, _) => return Err(self.refusal(102)),
+            (State::Mark, _) | (_, b'"' | b',' | b'\r' | b'\n') => self.after_field(i, b)?,
+            _ => self.state = State::Plain,
         }
-        self.state = PLAIN;
-        self.with_byte(b, true)
-    }
-
-    fn in_quotes(mut self, b: u8) -> Reading {
-        let mark = b == 34;
-        if mark {
-            self.state = MARK;
-        }
-        self.with_byte(b, !mark)
-    }
-
-    fn after_mark(mut self, b: u8, columns: usize) -> Reading {
-        if b == 34 {
-            self.state = QUOTED;
-            return self.with_byte(b, true);
-        }
-        self.after_field(b, columns)
-    }
-
-    fn after_return(mut self, b: u8, columns: usize) -> Reading {
-        if b != 10 {
-            self.fault = 102;
-            return self;
-        }
-        self.line_ended(CR_LF, columns)
-    }
-
-    fn with(self, b: u8, columns: usize) -> Reading {
-        let state = self.state;
-        if state == QUOTED {
-            return self.in_quotes(b);
-        }
-        if state == MARK {
-            return self.after_mark(b, columns);
-        }
-        if state == RETURN {
-            return self.after_return(b, columns);
-        }
-        self.in_plain(b, columns)
-    }
-
-    // The first number that the record is refused with, 0 where there is none.
-    fn record_fault(self, of_header: bool, columns: usize, room: usize) -> u32 {
-        if self.fields != columns {
-            return 103;
-        }
-        if of_header {
-            return 0;
-        }
-        if self.bad {
-            return 104;
-        }
-        if self.values[0] != self.row {
-            return 105;
-        }
-        if self.row >= room {
-            return 106;
-        }
-        if self.ends_otherwise() { 108 } else { 0 }
-    }
-
-    // Whether the record's line end is neither the first record's nor the end of the text.
-    fn ends_otherwise(self) -> bool {
-        (self.line_end != self.first_end) & (self.line_end != TEXT_END)
-    }
-
-    fn record_ended(
-        mut self,
-        header: bool,
-        columns: usize,
-        room: usize,
-        out: &mut RowCells,
-    ) -> Reading {
-        let of_header = header & (self.record == 1);
-        if self.record == 1 {
-            self.first_end = self.line_end;
-        }
-        let fault = self.record_fault(of_header, columns, room);
-        self.fault = fault;
-        if fault != 0 {
-            return self;
-        }
-        if !of_header {
-            let values = self.values;
-            put_row(out, self.row, values);
-            self.row = plus(self.row, 1);
-        }
-        self.next_record()
-    }
-
-    fn next_record(mut self) -> Reading {
-        self.record = plus(self.record, 1);
-        self.fields = 0;
-        self.bad = false;
-        self.line_end = TEXT_END;
-        self.values[6] = 0;
-        self
-    }
-
-    fn turn(self, b: u8, header: bool, columns: usize, room: usize, out: &mut RowCells) -> Reading {
-        if self.fault != 0 {
-            return self;
-        }
-        let next = self.with(b, columns);
-        if (next.line_end != TEXT_END) & (next.fault == 0) {
-            return next.record_ended(header, columns, room, out);
-        }
-        next
+        Ok(())
     }
 
     // The text ends: so does a record that has begun, unless a quote is open or a CR has no LF.
-    fn end(mut self, header: bool, columns: usize, room: usize, out: &mut RowCells) -> Reading {
-        let state = self.state;
-        let begun = (self.fields != 0) | (state != START);
-        if (self.fault != 0) | !begun {
-            return self;
+    fn end(&mut self) -> Result<(), Refusal> {
+        match self.state {
+            State::Quoted | State::Return => return Err(self.refusal(102)),
+            State::Start if self.fields == 0 => return Ok(()),
+            State::Start => self.from = self.text.len(),
+            State::Plain | State::Mark => {}
         }
-        if (state == QUOTED) | (state == RETURN) {
-            self.fault = 102;
-            return self;
-        }
-        self.field_ended(columns)
-            .record_ended(header, columns, room, out)
-    }
-
-    fn reply(self, header: bool) -> Verdict {
-        if self.fault != 0 {
-            return refused(self.fault, self.record);
-        }
-        if header & (self.record == 1) {
-            return refused(103, 1);
-        }
-        row_count(self.row, self.first_end)
+        self.field_ended(self.text.len())?;
+        self.record_ended(LineEnd::TextEnd)
     }
 }
 
-// The rows of an accepted text, and its first record's line end.
-fn row_count(count: usize, line_end: u64) -> Verdict {
-    if count > 1024 {
-        return impossible();
-    }
-    accepted(count as i64, line_end)
-}
-
-fn put_row(out: &mut RowCells, row: usize, values: [usize; 7]) {
-    if row >= 1026 {
-        return;
-    }
-    for c in 0..7 {
-        out[row * 7 + c] = values[c];
-    }
-}
-
-// Reads a table of 6 or 5 columns, of at most `room` rows, into `out`.
-pub fn read(text: &[u8], header: bool, columns: usize, room: usize, out: &mut RowCells) -> Verdict {
+// Reads a table into rows, of which it may have no more than these.
+pub fn read_table<R: Row>(text: &[u8], header_row: bool, rows: &mut [R]) -> Answer {
     if text.len() > 65536 {
-        return refused(101, 0);
+        return Err(Refusal {
+            number: 101,
+            place: 0,
+        });
     }
-    let mut s = Reading::new();
-    for i in 0..text.len() {
-        s = s.turn(text[i], header, columns, room, out);
+    let mut reading = Reading {
+        text,
+        header_row,
+        rows,
+        count: 0,
+        line_end: LineEnd::TextEnd,
+        state: State::Start,
+        record: 1,
+        fields: 0,
+        number: None,
+        row: Some(R::default()),
+        from: 0,
+    };
+    for (i, &b) in text.iter().enumerate() {
+        reading.byte(i, b)?;
     }
-    s = s.end(header, columns, room, out);
-    s.reply(header)
+    reading.end()?;
+    if header_row && reading.record == 1 {
+        return Err(reading.refusal(103));
+    }
+    Ok(Accepted::Table {
+        rows: reading.count,
+        line_end: reading.line_end,
+    })
 }

@@ -1,166 +1,116 @@
-// The walk, written from document 01 apart from the library: one block at a time, and at each block one loop after the other.
-use crate::rules::{
-    BlockCells, FOR_TABLES, FOR_WALKS, LoopCells, bound, copy_tables, first_refusal, inside,
-    is_exit, of_block, of_loop, refusal_by,
-};
-use pieces::{Verdict, accepted, impossible, plus, refused, u16_at};
+// The replies to a pair of tables and to a walk over it, written from document 01 apart from the library: one block at a time, and at each block one loop
+// after the other.
+use crate::tables::Tables;
+use pieces::answers::{Accepted, Answer, Refusal};
+use pieces::at;
 
-// What the reply is to: a pair of tables, a walk over it, or what these must keep for a value change dump.
-pub const TABLES: u8 = 0;
+// What the block behind another one is refused with, whatever the limits are; the first block has none before it.
+fn block_fault(t: &Tables<'_>, before: Option<usize>, v: usize) -> Option<u32> {
+    if v >= t.blocks() {
+        return Some(302);
+    }
+    match before {
+        None => (v != 0).then_some(303),
+        Some(u) if t.is_exit(u) => Some(311),
+        Some(u) => (!t.has_edge(u, v)).then_some(312),
+    }
+}
 
-pub const WALK: u8 = 1;
-
-pub const DUMP: u8 = 2;
-
-// The count of loop k after the edge from u to v.
-fn counted(b: &BlockCells, l: &LoopCells, k: usize, u: usize, v: usize, count: usize) -> usize {
-    if of_loop(l, k, 1) == v {
-        if !inside(b, l, u, k) {
-            return 1;
+// Follows a walk: 301 to 312, 314, and 313 where a test of an edge finds that it passes a limit. The lowest place counts.
+pub fn follow<F: FnMut(usize, usize) -> bool>(
+    t: &Tables<'_>,
+    blocks: &[u16],
+    mut passes_limit: F,
+) -> Result<(), Refusal>
+    requires { F.IsAlwaysCallable passes_limit }
+{
+    if !matches!(blocks.len(), 1..=1048576) {
+        return Err(Refusal {
+            number: 301,
+            place: 0,
+        });
+    }
+    let mut before = None;
+    for (place, &block) in blocks.iter().enumerate() {
+        let v = usize::from(block);
+        if let Some(number) = block_fault(t, before, v) {
+            return Err(Refusal { number, place });
         }
-        return plus(count, 1);
+        if let Some(u) = before
+            && passes_limit(u, v)
+        {
+            return Err(Refusal { number: 313, place });
+        }
+        before = Some(v);
     }
-    if inside(b, l, u, k) & !inside(b, l, v, k) {
-        return 0;
+    if before.is_some_and(|v| t.is_exit(v)) {
+        return Ok(());
     }
-    count
+    Err(Refusal {
+        number: 314,
+        place: blocks.len(),
+    })
+}
+
+// The visits to the header of loop k in the present stay, after the edge from u to v.
+fn counted(t: &Tables<'_>, k: usize, u: usize, v: usize, count: u32) -> u32 {
+    let was_inside = t.is_inside(u, k);
+    if t.header_of(k) == v {
+        return if was_inside {
+            count.saturating_add(1)
+        } else {
+            1
+        };
+    }
+    if was_inside && !t.is_inside(v, k) {
+        0
+    } else {
+        count
+    }
 }
 
 // Takes every loop's count over the edge from u to v, and says whether one passes its limit.
-fn passes_limit(
-    b: &BlockCells,
-    l: &LoopCells,
-    m: usize,
-    u: usize,
-    v: usize,
-    counts: &mut [usize; 64],
-) -> bool {
+fn passes_limit(t: &Tables<'_>, u: usize, v: usize, counts: &mut [u32; 64]) -> bool {
     let mut passed = false;
-    for k in 0..m {
-        if k < 64 {
-            let count = counted(b, l, k, u, v, counts[k]);
-            counts[k] = count;
-            passed = passed | (count > of_loop(l, k, 2));
-        }
+    for (k, count) in counts.iter_mut().enumerate().take(t.loops()) {
+        *count = counted(t, k, u, v, *count);
+        passed = passed || *count > at(t.limit, k);
     }
     passed
 }
 
-fn edge(b: &BlockCells, u: usize, v: usize) -> bool {
-    (v == of_block(b, u, 2)) | (v == of_block(b, u, 3))
+// The steps of a walk.
+pub fn steps_of(blocks: &[u16]) -> i64 {
+    i64::try_from(blocks.len())
+        .unwrap_or(i64::MAX)
+        .saturating_sub(1)
 }
 
-// The first number that the block at an index of the walk is refused with, whatever the limits are; 0 where there is none.
-pub fn place_fault(b: &BlockCells, n: usize, blocks: &[u16], i: usize) -> u32 {
-    let v = u16_at(blocks, i);
-    if v >= n {
-        return 302;
-    }
-    if i == 0 {
-        return if v == 0 { 0 } else { 303 };
-    }
-    let u = u16_at(blocks, i - 1);
-    if is_exit(n, u) {
-        return 311;
-    }
-    if edge(b, u, v) { 0 } else { 312 }
+// The reply to a pair of tables.
+pub fn check(t: &Tables<'_>) -> Answer {
+    t.keep_order()?;
+    t.keep_figures()?;
+    Ok(t.bound())
 }
 
-// The same with the limits.
-fn block_fault(
-    b: &BlockCells,
-    l: &LoopCells,
-    n: usize,
-    m: usize,
-    blocks: &[u16],
-    i: usize,
-    counts: &mut [usize; 64],
-) -> u32 {
-    let fault = place_fault(b, n, blocks, i);
-    if fault != 0 {
-        return fault;
-    }
-    if i == 0 {
-        return 0;
-    }
-    let u = u16_at(blocks, i - 1);
-    let v = u16_at(blocks, i);
-    if passes_limit(b, l, m, u, v, counts) {
-        313
-    } else {
-        0
-    }
+// What the tables of a value change dump are refused with.
+pub fn check_dumped(t: &Tables<'_>) -> Result<(), Refusal> {
+    t.keep_structure()?;
+    t.keep_changes()
 }
 
-// The reply to a walk of n blocks whose cost is the sum.
-fn finish(n: usize, blocks: &[u16], sum: usize) -> Verdict {
-    let length = blocks.len();
-    if length == 0 {
-        return impossible();
-    }
-    if sum > 4611686018427387904 {
-        return impossible();
-    }
-    if !is_exit(n, u16_at(blocks, length - 1)) {
-        return refused(314, length);
-    }
-    accepted(sum as i64, (length - 1) as u64)
-}
-
-fn follow(b: &BlockCells, l: &LoopCells, n: usize, m: usize, blocks: &[u16]) -> Verdict {
-    if (blocks.len() == 0) | (blocks.len() > 1048576) {
-        return refused(301, 0);
-    }
-    let mut counts = [0usize; 64];
+// The reply to a walk over a pair of tables.
+pub fn walk(t: &Tables<'_>, blocks: &[u16]) -> Answer {
+    t.keep_structure()?;
+    // The walk begins inside loop 0, at its header.
+    let mut counts = [0u32; 64];
     counts[0] = 1;
-    let mut sum = 0;
-    for i in 0..blocks.len() {
-        let fault = block_fault(b, l, n, m, blocks, i, &mut counts);
-        if fault != 0 {
-            return refused(fault, i);
-        }
-        sum = plus(sum, of_block(b, u16_at(blocks, i), 0));
-    }
-    finish(n, blocks, sum)
-}
-
-fn judged(b: &BlockCells, l: &LoopCells, n: usize, m: usize, to: u8, steps: &[u16]) -> Verdict {
-    let count = if to == TABLES { FOR_TABLES } else { FOR_WALKS };
-    let refusal = first_refusal(b, l, n, m, count);
-    if refusal.number != 0 {
-        return refusal;
-    }
-    if to == WALK {
-        return follow(b, l, n, m, steps);
-    }
-    if to == DUMP {
-        refusal_by(431, b, l, n, m)
-    } else {
-        bound(b, n)
-    }
-}
-
-// The reply to a pair of tables, or to a walk over it; for a dump the tables' first refusal, number 0 where there is none.
-pub fn reply(
-    cost: &[u32],
-    inner: &[u16],
-    first: &[u16],
-    second: &[u16],
-    figure: &[i64],
-    parent: &[u16],
-    header: &[u16],
-    limit: &[u32],
-    multiplier: &[u64],
-    to: u8,
-    steps: &[u16],
-) -> Verdict {
-    let mut b = [0usize; 5125];
-    let mut l = [0usize; 260];
-    let fit = copy_tables(
-        cost, inner, first, second, figure, parent, header, limit, multiplier, &mut b, &mut l,
-    );
-    if !fit {
-        return refused(201, 0);
-    }
-    judged(&b, &l, cost.len(), parent.len(), to, steps)
+    follow(t, blocks, |u, v| passes_limit(t, u, v, &mut counts))?;
+    let cost = blocks.iter().fold(0i64, |sum, &v| {
+        sum.saturating_add(i64::from(at(t.cost, usize::from(v))))
+    });
+    Ok(Accepted::Walk {
+        cost,
+        steps: steps_of(blocks),
+    })
 }
