@@ -14,7 +14,7 @@ use limits::MOST_LOOPS;
 pub type Sets = [u64; MOST_LOOPS];
 
 // A set of loops.
-#[derive(Clone, Copy)]
+#[derive(Clone, Copy, PartialEq, Eq)]
 pub struct LoopSet {
     pub word: u64,
 }
@@ -77,8 +77,7 @@ pub fn set_at(sets: &Sets, l: usize) -> LoopSet
     requires { l < most_loops }
     ensures { result ≡ set_at sets.now l }
 {
-    let word = sets[l];
-    LoopSet { word }
+    LoopSet { word: sets[l] }
 }
 
 // The loops around each loop of the parent column: loop 0 around itself, and around any other loop itself and the loops around its parent.
@@ -89,13 +88,11 @@ pub fn sets_around(parent: &[u16]) -> Sets
 {
     let mut around = [0u64; MOST_LOOPS];
     around[0] = 1;
-    let mut l = 1;
-    while l < parent.len() {
+    for l in 1..parent.len() {
         let p = parent[l] as usize;
-        let s = LoopSet { word: around[p] };
+        let s = set_at(&around, p);
         let t = s.with(l);
         around[l] = t.word;
-        l += 1;
     }
     around
 }

@@ -1,4 +1,3 @@
-pub mod Scan
 pub mod Loops
 pub mod Edges
 pub mod Entered

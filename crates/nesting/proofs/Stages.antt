@@ -15,7 +15,7 @@ use Rattle.wcet.specs.Rules.{sizes_wrong, loop_wrong, figure_outside, block_wron
 use Rattle.wcet.specs.Claim.{AllHold}
 use Rattle.wcet.proofs.Ranges.{BlockKept, sizes_kept, root_kept, loop_kept, block_kept}
 use Rattle.wcet.proofs.Nesting.{no_edge, first_edge, second_edge}
-use Rattle.nesting.specs.Columns.{loop_columns, block_columns, nesting_columns, BlocksSized, LoopsSized, Sized, Names, Ranged, Headed, HeadersNamed, Innermost, Linked, Nestable}
+use Rattle.nesting.specs.Columns.{BlocksSized, LoopsSized, Sized, Names, Ranged, Headed, HeadersNamed, Innermost, Linked, Nestable}
 
 -- 203, of a figure
 pub figure_range : (z : ℤ) → figure_outside z ≡ false → (neg_ℤ (pos (2 ^ 60)) ≤ℤ z) × (z ≤ℤ pos (2 ^ 60))
@@ -41,10 +41,10 @@ module _ (t : Routine) where
       }
 
   -- the part of it that the functions of 202 and 203 require
-  pub loops_sized : Sized t → LoopsSized (loop_columns t.costs t.parents t.headers t.limits t.multipliers)
+  pub loops_sized : Sized t → LoopsSized t
   loops_sized S = record { headers = S.headers; limits = S.limits; multipliers = S.multipliers; some_loop = S.some_loop; few_loops = S.few_loops }
 
-  pub blocks_sized : Sized t → BlocksSized (block_columns t.costs t.loops t.firsts t.seconds t.figures t.parents)
+  pub blocks_sized : Sized t → BlocksSized t
   blocks_sized S = record { loops = S.loops; firsts = S.firsts; seconds = S.seconds; figures = S.figures; some_block = S.some_block; few_blocks = S.few_blocks }
 
   -- 202, of any loop
@@ -102,11 +102,8 @@ module _ (t : Routine) where
           go false e = omega (arith, get_or-eq_default t.parents 0 {n = l} (ltb-false l (loop_count t) e))
 
   -- the parts of it that the functions of 204 to 208 require
-  pub headers_named : Ranged t → HeadersNamed t.loops t.headers
-  headers_named R = record {
-    few = omega (arith, R.sized.headers, R.sized.few_loops);
-    below = λ l b. omega (arith, R.header_below l (omega (arith, R.sized.headers)), R.sized.loops);
-  }
+  pub headers_named : Ranged t → HeadersNamed t
+  headers_named R = record { few = R.sized.few_loops; headers = R.sized.headers; below = λ l b. omega (arith, R.header_below l b, R.sized.loops) }
 
   pub innermost : Ranged t → Innermost t.loops t.headers
   innermost R = record {
@@ -122,7 +119,7 @@ module _ (t : Routine) where
   unfolding header_elsewhere
   heads R H = record { ranged = R; own = λ l b. eqb-true (loop_of t (header t l)) l (not-false _ (H l b)) }
 
-  pub nestable : Headed t → Nestable (nesting_columns t.costs t.loops t.firsts t.seconds t.parents t.headers)
+  pub nestable : Headed t → Nestable t
   nestable H = record {
     some_block = H.ranged.sized.some_block;
     some_loop = H.ranged.sized.some_loop;

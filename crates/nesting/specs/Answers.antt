@@ -1,50 +1,44 @@
 -- What the answers of the structure check say: the paper's number and place of each case.
-use Rattle.std.specs.Prelude.{ℕ, ◌≡◌, List, drop}
-use Rattle.std.proofs.Math.Option.{Option, none, some}
+use Rattle.std.specs.Prelude.{ℕ, ◌≡◌, List, drop, Result, Ok, Err}
 use Rattle.wcet.specs.Table.{Routine}
 use Rattle.wcet.specs.Rules.{Reply, accepted, refused, Rule, check, structure_rules}
-use Rattle.loopsets.specs.Sets.{sets_around, no_sets}
-use Rattle.nesting.specs.declared.Place.{Place}
-use Rattle.nesting.specs.declared.Place.TheVariants.{At, Nowhere}
+use Rattle.loopsets.specs.Sets.{sets_around}
+use Rattle.nesting.specs.declared.Refusal.{Refusal}
 use Rattle.nesting.specs.declared.StructureFault.{StructureFault}
 use Rattle.nesting.specs.declared.StructureFault.TheVariants.{Sizes, Loop, Block, Header, Depth, EntryOrExit, PastHeader}
-use Rattle.nesting.specs.declared.Structure.{Structure}
-use Rattle.nesting.specs.declared.Structure.TheVariants.{Sound, Broken}
-use Rattle.nesting.specs.declared.Structured.{Structured}
-
--- the lowest place that breaks a rule, or none
-abbrev pub place_of : Place → Option ℕ
-place_of (At p) = some p
-place_of Nowhere = none
 
 -- the number and the place of each broken rule
+abbrev pub refusal_of : StructureFault → Refusal
+refusal_of Sizes = record { number = 201; place = 0 }
+refusal_of (Loop l) = record { number = 202; place = l }
+refusal_of (Block u) = record { number = 203; place = u }
+refusal_of (Header l) = record { number = 204; place = l }
+refusal_of (Depth l) = record { number = 205; place = l }
+refusal_of (EntryOrExit u) = record { number = 206; place = u }
+refusal_of (PastHeader u) = record { number = 207; place = u }
+
 abbrev pub refusal : {A : Type 0} → StructureFault → Reply A
-refusal Sizes = refused 201 0
-refusal (Loop l) = refused 202 l
-refusal (Block u) = refused 203 u
-refusal (Header l) = refused 204 l
-refusal (Depth l) = refused 205 l
-refusal (EntryOrExit u) = refused 206 u
-refusal (PastHeader u) = refused 207 u
+refusal f = refused (refusal_of f).number (refusal_of f).place
 
-abbrev pub structure_reply : Structure → Reply Unit
-structure_reply Sound = accepted tt
-structure_reply (Broken f) = refusal f
+-- the reply that an answer of the structure check stands for: sets are given where the rules hold, and a refusal has none
+abbrev pub structure_reply : Result (List ℕ) StructureFault → Reply Unit
+structure_reply (Ok around) = accepted tt
+structure_reply (Err f) = refusal f
 
--- the sets beside the answer: those of the loops around each loop where the rules hold, empty ones beside a refusal
-abbrev pub sets_beside : Structure → (parents : List ℕ) → List ℕ
-sets_beside Sound parents = sets_around parents
-sets_beside (Broken f) parents = no_sets
+-- the sets that are given are those of the loops around each loop
+abbrev pub SetsGiven : (parents : List ℕ) → Result (List ℕ) StructureFault → Type 0
+SetsGiven parents (Ok around) = around ≡ sets_around parents
+SetsGiven parents (Err f) = Unit
 
 -- a check of these rules: its answer is theirs, and the sets are the ones beside that answer
-pub record RulesChecked (rules : List Rule) (parents : List ℕ) (r : Structured) : Type 0 where
-  pub replied : structure_reply r.answer ≡ check rules (accepted tt)
-  pub sets : r.around ≡ sets_beside r.answer parents
+pub record RulesChecked (rules : List Rule) (parents : List ℕ) (r : Result (List ℕ) StructureFault) : Type 0 where
+  pub replied : structure_reply r ≡ check rules (accepted tt)
+  pub sets : SetsGiven parents r
 
 -- what the structure check ensures
-abbrev pub StructureChecked : Routine → Structured → Type 0
+abbrev pub StructureChecked : Routine → Result (List ℕ) StructureFault → Type 0
 StructureChecked t = RulesChecked (structure_rules t) t.parents
 
 -- the same of 205 to 207, where 201 to 204 hold
-abbrev pub NestingChecked : Routine → Structured → Type 0
+abbrev pub NestingChecked : Routine → Result (List ℕ) StructureFault → Type 0
 NestingChecked t = RulesChecked (drop 4 (structure_rules t)) t.parents

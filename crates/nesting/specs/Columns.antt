@@ -1,11 +1,12 @@
--- The routine of the nine columns that a caller lends. For functions that are no public entry: the routine of some of its columns, what each
--- rule ensures for the next, and 205 and 207 as they are read off the loop sets.
+-- The routine of the nine columns that a caller lends. For functions that are no public entry: what each rule ensures for the next, and 205 and
+-- 207 as they are read off the loop sets.
 use Rattle.std.specs.Prelude.{ℕ, ◌^◌, ◌≤◌, ◌<◌, ◌≡◌, Bool, not, ◌&&◌, ◌||◌, List, [], eqb, ltb, ℤ, pos, neg_ℤ, length, get_or, ◌≤ℤ◌}
 use Rattle.limits.specs.Limits.{most_blocks, most_loops, most_depth}
 use Rattle.lists.specs.Search.{count_below}
 use Rattle.wcet.specs.Table.{Routine, block_count, loop_count, missing, cost, loop_of, first, second, figure, header, limit, multiplier, some_edge}
 use Rattle.wcet.specs.Rules.{out_of_range, block_columns_equal, loop_columns_equal}
 use Rattle.loopsets.specs.Sets.{member, set_at, Parents}
+use Rattle.nesting.specs.declared.Tables.{Tables}
 
 -- the routine of nine columns, in the order in which every function takes them
 abbrev pub routine : (costs loops firsts seconds : List ℕ) (figures : List ℤ) (parents headers limits multipliers : List ℕ) → Routine
@@ -21,22 +22,13 @@ routine costs loops firsts seconds figures parents headers limits multipliers = 
   multipliers = multipliers;
 }
 
--- The columns that a rule reads; the others are empty. The rule says the same of this routine as of the whole one. 202 and 206 use the costs
--- only for the number of blocks, and 203 uses the parents only for the number of loops.
-abbrev pub loop_columns : (costs parents headers limits multipliers : List ℕ) → Routine
-loop_columns costs parents headers limits multipliers = routine costs [] [] [] [] parents headers limits multipliers
+-- the routine of the tables that a function is lent
+abbrev pub routine_of : Tables → Routine
+routine_of t = routine t.cost.now t.loops.now t.first.now t.second.now t.figure.now t.parent.now t.header.now t.limit.now t.multiplier.now
 
-abbrev pub block_columns : (costs loops firsts seconds : List ℕ) (figures : List ℤ) (parents : List ℕ) → Routine
-block_columns costs loops firsts seconds figures parents = routine costs loops firsts seconds figures parents [] [] []
-
-abbrev pub header_columns : (loops headers : List ℕ) → Routine
-header_columns loops headers = routine [] loops [] [] [] [] headers [] []
-
+-- the routine of the two columns of successors, for what reads no other
 abbrev pub edge_columns : (costs firsts seconds : List ℕ) → Routine
 edge_columns costs firsts seconds = routine costs [] firsts seconds [] [] [] [] []
-
-abbrev pub nesting_columns : (costs loops firsts seconds parents headers : List ℕ) → Routine
-nesting_columns costs loops firsts seconds parents headers = routine costs loops firsts seconds [] parents headers [] []
 
 -- 201, of either table
 abbrev pub block_sizes_wrong : Routine → Bool
@@ -103,9 +95,10 @@ pub record Headed (t : Routine) : Type 0 where
   pub own : (l : ℕ) → l < loop_count t → loop_of t (header t l) ≡ l
 
 -- of these, for functions that read only some of the columns: each header is a block
-pub record HeadersNamed (loops headers : List ℕ) : Type 0 where
-  pub few : length headers ≤ most_loops
-  pub below : (l : ℕ) → l < length headers → get_or headers l 0 < length loops
+pub record HeadersNamed (t : Routine) : Type 0 where
+  pub few : loop_count t ≤ most_loops
+  pub headers : length t.headers ≡ loop_count t
+  pub below : (l : ℕ) → l < loop_count t → header t l < length t.loops
 
 -- each block's innermost loop is a loop
 pub record Innermost (loops headers : List ℕ) : Type 0 where

@@ -2,28 +2,35 @@
 // finds the lowest place that breaks it.
 #![tactic(auto)]
 
-ghost use Rattle.std.specs.Prelude.{◌≡◌, not, ◌&&◌, ◌||◌, [], ◌^◌, ◌≤◌, ◌<◌, eqb, ltb, pos, neg_ℤ, length};
+ghost use Rattle.std.specs.Prelude.{◌≡◌, not, ◌&&◌, ◌||◌, ◌^◌, ◌≤◌, ◌<◌, eqb, ltb, pos, neg_ℤ, length};
 ghost use Rattle.std.specs.Int.Signed.{lt_z};
 ghost use Rattle.limits.specs.Limits.{most_loops};
-ghost use Rattle.lists.specs.Search.{when◌then◌else◌, first_below};
-ghost use Rattle.wcet.specs.Rules.{out_of_range, loop_wrong, block_wrong, header_elsewhere, entry_or_exit_edge};
-ghost use Rattle.loopsets.specs.Sets.{no_sets};
-ghost use Rattle.nesting.specs.Columns.{routine, loop_columns, block_columns, header_columns, edge_columns, nesting_columns, block_sizes_wrong, loop_sizes_wrong, BlocksSized, LoopsSized, HeadersNamed, Innermost, Linked, Nestable, Names, of_edge, deep_by_sets, past_by_sets, any_past_by_sets};
-ghost use Rattle.nesting.specs.Answers.{place_of, StructureChecked, NestingChecked};
-ghost use Rattle.nesting.specs.declared.Structure.TheVariants.{Broken};
+ghost use Rattle.lists.specs.Search.{first_below};
+ghost use Rattle.wcet.specs.Table.{block_count, loop_count};
+ghost use Rattle.wcet.specs.Rules.{out_of_range, sizes_wrong, loop_wrong, block_wrong, header_elsewhere, entry_or_exit_edge};
+ghost use Rattle.nesting.specs.Columns.{routine_of, block_sizes_wrong, loop_sizes_wrong, BlocksSized, LoopsSized, HeadersNamed, Innermost, Linked, Nestable, Names, of_edge, deep_by_sets, past_by_sets, any_past_by_sets};
+ghost use Rattle.nesting.specs.Answers.{refusal_of, StructureChecked, NestingChecked};
 
 use limits::{MOST_BLOCKS, MOST_DEPTH, MOST_LOOPS};
 use loopsets::Sets;
 
-// The lowest place that breaks a rule, or none.
+// The two tables of a routine in the columns that a caller lends. Of each block: its cost, its innermost loop, its two successors (65,535 is a missing
+// one) and its figure. Of each loop: its parent, its header, its limit and its multiplier.
 #[derive(Clone, Copy)]
-pub enum Place {
-    At(usize),
-    Nowhere,
+pub struct Tables<'a> {
+    pub cost: &'a [u32],
+    pub loops: &'a [u16],
+    pub first: &'a [u16],
+    pub second: &'a [u16],
+    pub figure: &'a [i64],
+    pub parent: &'a [u16],
+    pub header: &'a [u16],
+    pub limit: &'a [u32],
+    pub multiplier: &'a [u64],
 }
 
 // The first broken rule, 201 to 207 in this order, with its place.
-#[derive(Clone, Copy)]
+#[derive(Clone, Copy, PartialEq, Eq)]
 pub enum StructureFault {
     Sizes,
     Loop(usize),
@@ -34,69 +41,57 @@ pub enum StructureFault {
     PastHeader(usize),
 }
 
-#[derive(Clone, Copy)]
-pub enum Structure {
-    Sound,
-    Broken(StructureFault),
+// The number and the place that a refusal has.
+#[derive(Clone, Copy, PartialEq, Eq)]
+pub struct Refusal {
+    pub number: u32,
+    pub place: usize,
 }
 
-// The answer, and beside it the sets of the loops around each loop, made once for the checks that follow. Beside a refusal they are empty.
-#[derive(Clone, Copy)]
-pub struct Structured {
-    pub answer: Structure,
-    pub around: Sets,
+impl StructureFault {
+    pub fn refusal(self) -> Refusal
+        ensures { result ≡ refusal_of self }
+    {
+        let (number, place) = match self {
+            StructureFault::Sizes => (201, 0),
+            StructureFault::Loop(l) => (202, l),
+            StructureFault::Block(u) => (203, u),
+            StructureFault::Header(l) => (204, l),
+            StructureFault::Depth(l) => (205, l),
+            StructureFault::EntryOrExit(u) => (206, u),
+            StructureFault::PastHeader(u) => (207, u),
+        };
+        Refusal { number, place }
+    }
 }
 
 // ---- 201
 
-fn out_of_range(lo: usize, hi: usize, x: usize) -> bool
-    ensures { result ≡ out_of_range lo hi x }
+fn block_sizes_wrong(tables: &Tables<'_>) -> bool
+    ensures { result ≡ block_sizes_wrong (routine_of tables.now) }
 {
-    if x < lo {
-        return true;
-    }
-    hi < x
+    let n = tables.cost.len();
+    !(2..=MOST_BLOCKS).contains(&n)
+        || tables.loops.len() != n
+        || tables.first.len() != n
+        || tables.second.len() != n
+        || tables.figure.len() != n
 }
 
-fn block_sizes_wrong(
-    cost: &[u32],
-    loops: &[u16],
-    first: &[u16],
-    second: &[u16],
-    figure: &[i64],
-) -> bool
-    ensures { result ≡ block_sizes_wrong (block_columns cost.now loops.now first.now second.now figure.now []) }
+fn loop_sizes_wrong(tables: &Tables<'_>) -> bool
+    ensures { result ≡ loop_sizes_wrong (routine_of tables.now) }
 {
-    let n = cost.len();
-    if out_of_range(2, MOST_BLOCKS, n) {
-        return true;
-    }
-    if loops.len() != n {
-        return true;
-    }
-    if first.len() != n {
-        return true;
-    }
-    if second.len() != n {
-        return true;
-    }
-    figure.len() != n
+    let m = tables.parent.len();
+    !(1..=MOST_LOOPS).contains(&m)
+        || tables.header.len() != m
+        || tables.limit.len() != m
+        || tables.multiplier.len() != m
 }
 
-fn loop_sizes_wrong(parent: &[u16], header: &[u16], limit: &[u32], multiplier: &[u64]) -> bool
-    ensures { result ≡ loop_sizes_wrong (loop_columns [] parent.now header.now limit.now multiplier.now) }
+fn sizes_wrong(tables: &Tables<'_>) -> bool
+    ensures { result ≡ sizes_wrong (routine_of tables.now) }
 {
-    let m = parent.len();
-    if out_of_range(1, MOST_LOOPS, m) {
-        return true;
-    }
-    if header.len() != m {
-        return true;
-    }
-    if limit.len() != m {
-        return true;
-    }
-    multiplier.len() != m
+    block_sizes_wrong(tables) || loop_sizes_wrong(tables)
 }
 
 // ---- 202
@@ -105,166 +100,105 @@ fn loop_sizes_wrong(parent: &[u16], header: &[u16], limit: &[u32], multiplier: &
 fn root_wrong(parent: u16, header: u16, limit: u32, multiplier: u64) -> bool
     ensures { result ≡ not (eqb parent 0 && eqb header 0 && eqb limit 1 && eqb multiplier 0) }
 {
-    if parent != 0 {
-        return true;
-    }
-    if header != 0 {
-        return true;
-    }
-    if limit != 1 {
-        return true;
-    }
-    multiplier != 0
+    parent != 0 || header != 0 || limit != 1 || multiplier != 0
 }
 
-// Whether a value of loop l, from 1 up, is out of its range.
+// Whether a value of loop l, from 1 up, is out of its range among n blocks.
 fn inner_wrong(l: usize, n: usize, parent: u16, header: u16, limit: u32, multiplier: u64) -> bool
     ensures { result ≡ (not (ltb parent l) || not (ltb header n) || out_of_range 1 65535 limit || ltb (2 ^ 40) multiplier) }
 {
-    if l <= parent as usize {
-        return true;
-    }
-    if n <= header as usize {
-        return true;
-    }
-    if limit < 1 {
-        return true;
-    }
-    if 65535 < limit {
-        return true;
-    }
-    1099511627776 < multiplier
+    l <= parent as usize
+        || n <= header as usize
+        || limit < 1
+        || 65535 < limit
+        || 1099511627776 < multiplier
 }
 
-// Whether a value of loop l is out of its range, among n blocks.
-fn loop_wrong(l: usize, n: usize, parent: u16, header: u16, limit: u32, multiplier: u64) -> bool
-    ensures { result ≡ (when eqb l 0 then not (eqb parent 0 && eqb header 0 && eqb limit 1 && eqb multiplier 0) else (not (ltb parent l) || not (ltb header n) || out_of_range 1 65535 limit || ltb (2 ^ 40) multiplier)) }
+// Whether a value of loop l is out of its range.
+#[tactic(auto, unfolding(wcet::specs::Rules::loop_wrong))]
+fn loop_wrong(tables: &Tables<'_>, l: usize) -> bool
+    requires { LoopsSized (routine_of tables.now) × (l < loop_count (routine_of tables.now)) }
+    ensures { result ≡ loop_wrong (routine_of tables.now) l }
 {
+    let (parent, header) = (tables.parent[l], tables.header[l]);
+    let (limit, multiplier) = (tables.limit[l], tables.multiplier[l]);
     if l == 0 {
-        return root_wrong(parent, header, limit, multiplier);
+        root_wrong(parent, header, limit, multiplier)
+    } else {
+        inner_wrong(l, tables.cost.len(), parent, header, limit, multiplier)
     }
-    inner_wrong(l, n, parent, header, limit, multiplier)
 }
 
-fn first_wrong_loop(
-    cost: &[u32],
-    parent: &[u16],
-    header: &[u16],
-    limit: &[u32],
-    multiplier: &[u64],
-) -> Place
-    requires { LoopsSized (loop_columns cost.now parent.now header.now limit.now multiplier.now) }
-    ensures { place_of result ≡ first_below (length parent.now) (loop_wrong (loop_columns cost.now parent.now header.now limit.now multiplier.now)) }
+fn first_wrong_loop(tables: &Tables<'_>) -> Option<usize>
+    requires { LoopsSized (routine_of tables.now) }
+    ensures { result ≡ first_below (loop_count (routine_of tables.now)) (loop_wrong (routine_of tables.now)) }
 {
-    let n = cost.len();
-    let m = parent.len();
-    let mut l = 0;
-    while l < m {
-        if loop_wrong(l, n, parent[l], header[l], limit[l], multiplier[l]) {
-            return Place::At(l);
-        }
-        l += 1;
-    }
-    Place::Nowhere
+    (0..tables.parent.len()).find(|l| loop_wrong(tables, *l))
 }
 
 // ---- 203
 
-// Whether a successor is present and names no block.
+// Whether a successor is present and names none of n blocks.
 fn no_block(v: u16, n: usize) -> bool
     ensures { result ≡ of_edge v (λ x. not (ltb x n)) }
 {
-    if v == 65535 {
-        return false;
-    }
-    !((v as usize) < n)
+    v != 65535 && n <= v as usize
 }
 
 // Whether a figure is outside −2^60 to 2^60.
 pub fn figure_wrong(z: i64) -> bool
     ensures { result ≡ (lt_z z (neg_ℤ (pos (2 ^ 60))) || lt_z (pos (2 ^ 60)) z) }
 {
-    if z < -1152921504606846976 {
-        return true;
-    }
-    1152921504606846976 < z
+    z < -1152921504606846976 || 1152921504606846976 < z
 }
 
-// Whether a value of a block is out of its range, among n blocks and m loops.
-fn block_wrong(n: usize, m: usize, cost: u32, l: u16, first: u16, second: u16, figure: i64) -> bool
-    ensures { result ≡ (ltb 1000000 cost || not (ltb l m) || (of_edge first (λ v. not (ltb v n)) || of_edge second (λ v. not (ltb v n))) || (lt_z figure (neg_ℤ (pos (2 ^ 60))) || lt_z (pos (2 ^ 60)) figure)) }
+// Whether a value of block u is out of its range.
+#[tactic(auto, unfolding(wcet::specs::Rules::block_wrong, wcet::specs::Table::some_edge))]
+fn block_wrong(tables: &Tables<'_>, u: usize) -> bool
+    requires { BlocksSized (routine_of tables.now) × (u < block_count (routine_of tables.now)) }
+    ensures { result ≡ block_wrong (routine_of tables.now) u }
 {
-    if 1000000 < cost {
-        return true;
-    }
-    if m <= l as usize {
-        return true;
-    }
-    if no_block(first, n) {
-        return true;
-    }
-    if no_block(second, n) {
-        return true;
-    }
-    figure_wrong(figure)
+    let n = tables.cost.len();
+    1000000 < tables.cost[u]
+        || tables.parent.len() <= tables.loops[u] as usize
+        || no_block(tables.first[u], n)
+        || no_block(tables.second[u], n)
+        || figure_wrong(tables.figure[u])
 }
 
-fn first_wrong_block(
-    cost: &[u32],
-    loops: &[u16],
-    first: &[u16],
-    second: &[u16],
-    figure: &[i64],
-    parent: &[u16],
-) -> Place
-    requires { BlocksSized (block_columns cost.now loops.now first.now second.now figure.now parent.now) }
-    ensures { place_of result ≡ first_below (length cost.now) (block_wrong (block_columns cost.now loops.now first.now second.now figure.now parent.now)) }
+fn first_wrong_block(tables: &Tables<'_>) -> Option<usize>
+    requires { BlocksSized (routine_of tables.now) }
+    ensures { result ≡ first_below (block_count (routine_of tables.now)) (block_wrong (routine_of tables.now)) }
 {
-    let n = cost.len();
-    let m = parent.len();
-    let mut u = 0;
-    while u < n {
-        if block_wrong(n, m, cost[u], loops[u], first[u], second[u], figure[u]) {
-            return Place::At(u);
-        }
-        u += 1;
-    }
-    Place::Nowhere
+    (0..tables.cost.len()).find(|u| block_wrong(tables, *u))
 }
 
 // ---- 204
 
-fn first_header_elsewhere(loops: &[u16], header: &[u16]) -> Place
-    requires { HeadersNamed loops.now header.now }
-    ensures { place_of result ≡ first_below (length header.now) (header_elsewhere (header_columns loops.now header.now)) }
+// Whether the innermost loop of loop l's header is another loop.
+#[tactic(auto, unfolding(wcet::specs::Rules::header_elsewhere))]
+fn header_elsewhere(tables: &Tables<'_>, l: usize) -> bool
+    requires { HeadersNamed (routine_of tables.now) × (l < loop_count (routine_of tables.now)) }
+    ensures { result ≡ header_elsewhere (routine_of tables.now) l }
 {
-    let m = header.len();
-    let mut l = 0;
-    while l < m {
-        let h = header[l] as usize;
-        if loops[h] as usize != l {
-            return Place::At(l);
-        }
-        l += 1;
-    }
-    Place::Nowhere
+    let h = tables.header[l] as usize;
+    tables.loops[h] as usize != l
+}
+
+fn first_header_elsewhere(tables: &Tables<'_>) -> Option<usize>
+    requires { HeadersNamed (routine_of tables.now) }
+    ensures { result ≡ first_below (loop_count (routine_of tables.now)) (header_elsewhere (routine_of tables.now)) }
+{
+    (0..tables.parent.len()).find(|l| header_elsewhere(tables, *l))
 }
 
 // ---- 205
 
-fn first_too_deep(around: &Sets, m: usize) -> Place
+fn first_too_deep(around: &Sets, m: usize) -> Option<usize>
     requires { m ≤ most_loops }
-    ensures { place_of result ≡ first_below m (deep_by_sets around.now) }
+    ensures { result ≡ first_below m (deep_by_sets around.now) }
 {
-    let mut l = 0;
-    while l < m {
-        let set = loopsets::set_at(around, l);
-        if MOST_DEPTH < set.size() {
-            return Place::At(l);
-        }
-        l += 1;
-    }
-    Place::Nowhere
+    (0..m).find(|l| MOST_DEPTH < loopsets::set_at(around, *l).size())
 }
 
 // ---- 206
@@ -273,159 +207,100 @@ fn first_too_deep(around: &Sets, m: usize) -> Place
 fn entry_or_exit(v: u16, u: usize, exit: usize) -> bool
     ensures { result ≡ of_edge v (λ x. eqb x 0 || eqb u exit) }
 {
-    if v == 65535 {
-        return false;
-    }
-    if v == 0 {
-        return true;
-    }
-    u == exit
+    v != 65535 && (v == 0 || u == exit)
 }
 
-fn first_entry_or_exit_edge(cost: &[u32], first: &[u16], second: &[u16]) -> Place
-    requires { (0 < length cost.now) × Linked (length cost.now) first.now second.now }
-    ensures { place_of result ≡ first_below (length cost.now) (entry_or_exit_edge (edge_columns cost.now first.now second.now)) }
+// The same of both edges from block u.
+#[tactic(auto, unfolding(wcet::specs::Rules::entry_or_exit_edge, wcet::specs::Table::some_edge))]
+fn entry_or_exit_edge(tables: &Tables<'_>, u: usize) -> bool
+    requires { Linked (block_count (routine_of tables.now)) tables.now.first.now tables.now.second.now × (u < block_count (routine_of tables.now)) }
+    ensures { result ≡ entry_or_exit_edge (routine_of tables.now) u }
 {
-    let n = cost.len();
-    let exit = n - 1;
-    let mut u = 0;
-    while u < n {
-        if entry_or_exit(first[u], u, exit) {
-            return Place::At(u);
-        }
-        if entry_or_exit(second[u], u, exit) {
-            return Place::At(u);
-        }
-        u += 1;
-    }
-    Place::Nowhere
+    let exit = tables.cost.len() - 1;
+    entry_or_exit(tables.first[u], u, exit) || entry_or_exit(tables.second[u], u, exit)
+}
+
+fn first_entry_or_exit_edge(tables: &Tables<'_>) -> Option<usize>
+    requires { Linked (block_count (routine_of tables.now)) tables.now.first.now tables.now.second.now }
+    ensures { result ≡ first_below (block_count (routine_of tables.now)) (entry_or_exit_edge (routine_of tables.now)) }
+{
+    (0..tables.cost.len()).find(|u| entry_or_exit_edge(tables, *u))
 }
 
 // ---- 207
 
 // Whether an edge from block u to v enters a loop elsewhere than at its header. Within one innermost loop it enters none, and no set is
 // looked at. Else it enters its target's innermost loop if it enters any, so it may enter that one, at its header, and no other.
-fn past_header(around: &Sets, loops: &[u16], header: &[u16], u: usize, v: u16) -> bool
-    requires { Innermost loops.now header.now × (u < length loops.now) × Names (length loops.now) v }
-    ensures { result ≡ of_edge v (past_by_sets around.now loops.now header.now u) }
+#[tactic(auto, unfolding(crate::specs::Columns::past_by_sets))]
+fn past_header(around: &Sets, tables: &Tables<'_>, u: usize, v: u16) -> bool
+    requires { Innermost tables.now.loops.now tables.now.header.now × (u < length tables.now.loops.now) × Names (length tables.now.loops.now) v }
+    ensures { result ≡ of_edge v (past_by_sets around.now tables.now.loops.now tables.now.header.now u) }
 {
     if v == 65535 {
         return false;
     }
-    let from = loops[u] as usize;
-    let to = loops[v as usize] as usize;
+    let from = tables.loops[u] as usize;
+    let to = tables.loops[v as usize] as usize;
     if from == to {
         return false;
     }
     let target = loopsets::set_at(around, to);
     let entered = target.without(loopsets::set_at(around, from)).size();
-    if entered == 0 {
-        return false;
-    }
-    if entered != 1 {
-        return true;
-    }
-    header[to] != v
+    entered != 0 && (entered != 1 || tables.header[to] != v)
 }
 
-fn first_past_header(
-    around: &Sets,
-    loops: &[u16],
-    first: &[u16],
-    second: &[u16],
-    header: &[u16],
-) -> Place
-    requires { Innermost loops.now header.now × Linked (length loops.now) first.now second.now }
-    ensures { place_of result ≡ first_below (length loops.now) (any_past_by_sets around.now loops.now first.now second.now header.now) }
+// The same of both edges from block u.
+#[tactic(auto, unfolding(wcet::specs::Table::some_edge))]
+fn any_past_header(around: &Sets, tables: &Tables<'_>, u: usize) -> bool
+    requires { Innermost tables.now.loops.now tables.now.header.now × Linked (length tables.now.loops.now) tables.now.first.now tables.now.second.now × (u < length tables.now.loops.now) }
+    ensures { result ≡ any_past_by_sets around.now tables.now.loops.now tables.now.first.now tables.now.second.now tables.now.header.now u }
 {
-    let n = loops.len();
-    let mut u = 0;
-    while u < n {
-        if past_header(around, loops, header, u, first[u]) {
-            return Place::At(u);
-        }
-        if past_header(around, loops, header, u, second[u]) {
-            return Place::At(u);
-        }
-        u += 1;
-    }
-    Place::Nowhere
+    past_header(around, tables, u, tables.first[u])
+        || past_header(around, tables, u, tables.second[u])
+}
+
+fn first_past_header(around: &Sets, tables: &Tables<'_>) -> Option<usize>
+    requires { Innermost tables.now.loops.now tables.now.header.now × Linked (length tables.now.loops.now) tables.now.first.now tables.now.second.now }
+    ensures { result ≡ first_below (length tables.now.loops.now) (any_past_by_sets around.now tables.now.loops.now tables.now.first.now tables.now.second.now tables.now.header.now) }
+{
+    (0..tables.loops.len()).find(|u| any_past_header(around, tables, *u))
 }
 
 // ---- 201 to 207
 
-// A refusal has empty sets beside it.
-fn broken(fault: StructureFault) -> Structured
-    ensures { (result.answer ≡ Broken fault) × (result.around ≡ no_sets) }
-{
-    Structured {
-        answer: Structure::Broken(fault),
-        around: [0u64; MOST_LOOPS],
-    }
-}
-
 // 205 to 207, which are read off the sets of the loops around each loop.
-fn check_nesting(
-    cost: &[u32],
-    loops: &[u16],
-    first: &[u16],
-    second: &[u16],
-    parent: &[u16],
-    header: &[u16],
-) -> Structured
-    requires { Nestable (nesting_columns cost.now loops.now first.now second.now parent.now header.now) }
-    ensures { NestingChecked (nesting_columns cost.now loops.now first.now second.now parent.now header.now) result }
+fn check_nesting(tables: &Tables<'_>) -> Result<Sets, StructureFault>
+    requires { Nestable (routine_of tables.now) }
+    ensures { NestingChecked (routine_of tables.now) result }
 {
-    let around = loopsets::sets_around(parent);
-    let deep = first_too_deep(&around, parent.len());
-    if let Place::At(l) = deep {
-        return broken(StructureFault::Depth(l));
+    let around = loopsets::sets_around(tables.parent);
+    if let Some(l) = first_too_deep(&around, tables.parent.len()) {
+        return Err(StructureFault::Depth(l));
     }
-    let ends = first_entry_or_exit_edge(cost, first, second);
-    if let Place::At(u) = ends {
-        return broken(StructureFault::EntryOrExit(u));
+    if let Some(u) = first_entry_or_exit_edge(tables) {
+        return Err(StructureFault::EntryOrExit(u));
     }
-    let past = first_past_header(&around, loops, first, second, header);
-    if let Place::At(u) = past {
-        return broken(StructureFault::PastHeader(u));
+    if let Some(u) = first_past_header(&around, tables) {
+        return Err(StructureFault::PastHeader(u));
     }
-    Structured {
-        answer: Structure::Sound,
-        around,
-    }
+    Ok(around)
 }
 
-// The structure check: the first broken rule of 201 to 207, or none and the sets of the loops around each loop.
-pub fn check_structure(
-    cost: &[u32],
-    loops: &[u16],
-    first: &[u16],
-    second: &[u16],
-    figure: &[i64],
-    parent: &[u16],
-    header: &[u16],
-    limit: &[u32],
-    multiplier: &[u64],
-) -> Structured
-    ensures { StructureChecked (routine cost.now loops.now first.now second.now figure.now parent.now header.now limit.now multiplier.now) result }
+// The structure check: the sets of the loops around each loop, made once for the checks that follow, or the first broken rule of 201 to 207.
+pub fn check_structure(tables: &Tables<'_>) -> Result<Sets, StructureFault>
+    ensures { StructureChecked (routine_of tables.now) result }
 {
-    if block_sizes_wrong(cost, loops, first, second, figure) {
-        return broken(StructureFault::Sizes);
+    if sizes_wrong(tables) {
+        return Err(StructureFault::Sizes);
     }
-    if loop_sizes_wrong(parent, header, limit, multiplier) {
-        return broken(StructureFault::Sizes);
+    if let Some(l) = first_wrong_loop(tables) {
+        return Err(StructureFault::Loop(l));
     }
-    let l = first_wrong_loop(cost, parent, header, limit, multiplier);
-    if let Place::At(l) = l {
-        return broken(StructureFault::Loop(l));
+    if let Some(u) = first_wrong_block(tables) {
+        return Err(StructureFault::Block(u));
     }
-    let u = first_wrong_block(cost, loops, first, second, figure, parent);
-    if let Place::At(u) = u {
-        return broken(StructureFault::Block(u));
+    if let Some(l) = first_header_elsewhere(tables) {
+        return Err(StructureFault::Header(l));
     }
-    let h = first_header_elsewhere(loops, header);
-    if let Place::At(l) = h {
-        return broken(StructureFault::Header(l));
-    }
-    check_nesting(cost, loops, first, second, parent, header)
+    check_nesting(tables)
 }

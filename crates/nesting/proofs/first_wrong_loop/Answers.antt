@@ -1,18 +1,13 @@
-use mathlib.Core.Path.{sym, ◌∙◌}
-use native.Mathlib.Omega.{arith}
-use borrow.Author.Count.{below_more}
-use Rattle.nesting.proofs.Scan.{stops, clear}
-use Rattle.nesting.proofs.Loops.{loop_rule}
+use Rattle.std.proofs.Common.{◌≡◌, ℕ, true, false, rules}
+use Rattle.std.proofs.lemmas.Iterator.{first_from_Range}
+use Rattle.lists.proofs.Search.{found_first}
+use Rattle.wcet.specs.Table.{loop_count}
+use Rattle.wcet.specs.Rules.{loop_wrong}
+use Rattle.nesting.specs.Columns.{routine_of}
 use Rattle.nesting.proofs.first_wrong_loop.Goals as goal
 
-pub loop-l-init : goal.loop-l-init
-loop-l-init c = (omega arith, λ k h. absurd (omega arith))
-
-pub returns-then-loop_wrong : goal.returns-then-loop_wrong
-returns-then-loop_wrong c = stops _ _ c.loop-l.l (omega arith) c.loop-l.invariant.1 (loop_rule _ c.loop-l.l ∙ sym c.loop_wrong.ensures ∙ c.if-loop_wrong.true)
-
-pub loop-l-preserved : goal.loop-l-preserved
-loop-l-preserved c = (omega arith, below_more _ c.loop-l.l c.loop-l.invariant.1 (loop_rule _ c.loop-l.l ∙ sym c.loop_wrong.ensures ∙ c.if-loop_wrong.false))
-
 pub returns : goal.returns
-returns c = clear _ _ c.loop-l.l (omega arith) c.loop-l.invariant.1
+returns c =
+    let broken = loop_wrong (routine_of c.args.tables.now) in
+    found_first (loop_count (routine_of c.args.tables.now)) broken _
+    (first_from_Range _ _ _ _ (λ (i : ℕ). broken i ≡ true) (λ (i : ℕ). broken i ≡ false) c.find.ensures.ran (λ x q h. search rules) (λ x q h. search rules))
