@@ -1,5 +1,5 @@
 -- 208 read off the loop sets is 208, and so is 453. Assumes nothing.
-use mathlib.Core.Path.{◌≡◌, refl, sym, ◌∙◌, ap}
+use mathlib.Core.Path.{◌≡◌, sym, ◌∙◌, ap}
 use mathlib.Core.Bool.{Bool, not}
 use mathlib.Core.List.{List}
 use Prim.Native.Nat.{ℕ, ◌<◌}
@@ -9,30 +9,15 @@ use lib.ListN.{length, get_or}
 use lib.Signed.{le_z}
 use Rattle.lists.specs.Search.{first_below}
 use Rattle.lists.proofs.Search.{first_ext}
-use Rattle.wcet.specs.Table.{Routine, block_count, loop_count, exit, cost, loop_of, first, second, figure, some_edge, inside, is_header}
+use Rattle.wcet.specs.Table.{Routine, block_count, loop_count, exit, cost, loop_of, first, second, some_edge, inside, is_header}
 use Rattle.wcet.specs.Rules.{inequality, edge_holds, inequality_broken}
 use Rattle.wcet.specs.Shortest.{inequality_by}
 use Rattle.loopsets.specs.Sets.{sets_around}
 use Rattle.loopsets.proofs.Laws.{member_around}
-use Rattle.nesting.specs.Columns.{Ranged}
+use Rattle.nesting.specs.Columns.{routine, Ranged}
 use Rattle.nesting.proofs.Stages.{innermost}
 use Rattle.nesting.proofs.Edges.{edges_ext}
-use Rattle.certificate.specs.Figures.{Figure}
-use Rattle.certificate.specs.Columns.{weight_columns, price_columns, Weighed, Priced, broken_by_sets, any_broken_by_sets, Comparable, Weighable, broken_by, any_broken_by}
-
--- by ≤, the inequality read off the sets is that of 208
-pub broken_by_le : (sets : List ℕ) (t : Routine) (u v : ℕ) → broken_by le_z sets t u v ≡ broken_by_sets sets t u v
-unfolding broken_by broken_by_sets inequality inequality_by
-broken_by_le sets t u v = refl
-
--- columns that keep 202 and 203 serve either comparison
-pub weighable : (t : Routine) → 0 < block_count t → Weighed t → Weighable t
-weighable t b W = record {
-  comparable = record { some_block = b; few_blocks = W.few_blocks; loops = W.loops; figures = W.figures; limits = W.limits; multipliers = W.multipliers; innermost = W.innermost; cost_most = W.cost_most };
-  figure_range = W.figure_range;
-  limit_most = W.limit_most;
-  multiplier_most = W.multiplier_most;
-}
+use Rattle.certificate.specs.Columns.{price_columns, Priced, Comparable, Weighable, broken_by, any_broken_by}
 
 -- what the bound reads, of the columns that the inequalities read
 pub priced_of : (t : Routine) → Weighable t → Priced (price_columns t.costs t.figures)
@@ -45,37 +30,13 @@ priced_of t W = record {
   exit_range = W.figure_range (exit t) (omega (arith, W.comparable.some_block));
 }
 
+-- the routine with the figures, the multipliers and the limits of a certificate: its own, or those of the second one
+abbrev pub claiming : Routine → (figures : List ℤ) (visits multipliers : List ℕ) → Routine
+claiming t figures visits multipliers = routine t.costs t.loops t.firsts t.seconds figures t.parents t.headers visits multipliers
+
 module _ (t : Routine) (R : Ranged t) where
-  figure_of_lem : (u : ℕ) → u < block_count t → Figure (figure t u)
-  figure_of_lem u b = record { least = R.figure_least u b; most = R.figure_most u b }
-
-  pub weighed : Weighed (weight_columns t.costs t.loops t.figures t.headers t.limits t.multipliers)
-  weighed = record {
-    few_blocks = R.sized.few_blocks;
-    loops = R.sized.loops;
-    figures = R.sized.figures;
-    limits = omega (arith, R.sized.limits, R.sized.headers);
-    multipliers = omega (arith, R.sized.multipliers, R.sized.headers);
-    innermost = innermost t R;
-    cost_most = R.cost_most;
-    figure_range = figure_of_lem;
-    limit_least = λ l b. R.limit_least l (omega (arith, R.sized.headers));
-    limit_most = λ l b. R.limit_most l (omega (arith, R.sized.headers));
-    multiplier_most = λ l b. R.multiplier_most l (omega (arith, R.sized.headers));
-  }
-
-  pub priced : Priced (price_columns t.costs t.figures)
-  priced = record {
-    some_block = R.sized.some_block;
-    few_blocks = R.sized.few_blocks;
-    figures = R.sized.figures;
-    cost_most = R.cost_most 0 R.sized.some_block;
-    entry_range = figure_of_lem 0 R.sized.some_block;
-    exit_range = figure_of_lem (exit t) (omega (arith, R.sized.some_block));
-  }
-
   pub comparable : (figures : List ℤ) (visits multipliers : List ℕ) → length figures ≡ block_count t → length visits ≡ loop_count t → length multipliers ≡ loop_count t
-      → Comparable (weight_columns t.costs t.loops figures t.headers visits multipliers)
+      → Comparable (claiming t figures visits multipliers)
   comparable figures visits multipliers f v m = record {
     some_block = R.sized.some_block;
     few_blocks = R.sized.few_blocks;
@@ -87,13 +48,21 @@ module _ (t : Routine) (R : Ranged t) where
     cost_most = R.cost_most;
   }
 
+  pub weighable : Weighable t
+  weighable = record {
+    comparable = comparable t.figures t.limits t.multipliers R.sized.figures R.sized.limits R.sized.multipliers;
+    figure_range = λ u b. record { least = R.figure_least u b; most = R.figure_most u b };
+    limit_most = λ l b. R.limit_most l (omega (arith, R.sized.headers));
+    multiplier_most = λ l b. R.multiplier_most l (omega (arith, R.sized.headers));
+  }
+
   -- for these figures, visits and multipliers, the tables' own or those of a second certificate
   module _ (compare : ℤ → ℤ → Bool) (figures : List ℤ) (visits multipliers : List ℕ) (sets : List ℕ) (S : sets ≡ sets_around t.parents) where
     abbrev holds : ℕ → ℕ → Bool
     holds u v = inequality_by compare (is_header t v) (inside t u (loop_of t v)) (cost t v) (get_or figures u (pos 0)) (get_or figures v (pos 0)) (get_or multipliers (loop_of t v) 0) (get_or visits (loop_of t v) 0)
 
     abbrev columns : Routine
-    columns = weight_columns t.costs t.loops figures t.headers visits multipliers
+    columns = claiming t figures visits multipliers
 
     -- membership of the source's set is being inside
     edge_broken : (u v : ℕ) → u < block_count t → v < block_count t → broken_by compare sets columns u v ≡ not (holds u v)
@@ -102,15 +71,14 @@ module _ (t : Routine) (R : Ranged t) where
         ap (λ (i : Bool). not (inequality_by compare (is_header t v) i (cost t v) (get_or figures u (pos 0)) (get_or figures v (pos 0)) (get_or multipliers (loop_of t v) 0) (get_or visits (loop_of t v) 0)))
         (member_around t.parents sets S R.sized.few_loops (loop_of t u) (loop_of t v) (R.loop_below u b) (omega (arith, R.loop_below v h, R.sized.few_loops)))
 
-    any_broken : (u : ℕ) → u < block_count t → any_broken_by compare sets t.firsts t.seconds columns u ≡ some_edge t u (λ v. not (holds u v))
+    any_broken : (u : ℕ) → u < block_count t → any_broken_by compare sets columns u ≡ some_edge t u (λ v. not (holds u v))
     unfolding some_edge
     any_broken u b = edges_ext t u (broken_by compare sets columns u) (λ v. not (holds u v)) (λ h. edge_broken u (first t u) b (R.first_names u b h)) (λ h. edge_broken u (second t u) b (R.second_names u b h))
 
-    pub broken_places_by : first_below (block_count t) (any_broken_by compare sets t.firsts t.seconds columns) ≡ first_below (block_count t) (λ u. some_edge t u (λ v. not (holds u v)))
+    pub broken_places_by : first_below (block_count t) (any_broken_by compare sets columns) ≡ first_below (block_count t) (λ u. some_edge t u (λ v. not (holds u v)))
     broken_places_by = first_ext (block_count t) _ _ any_broken
 
   -- 208, of the tables' own
-  pub broken_places : (sets : List ℕ) → sets ≡ sets_around t.parents
-      → first_below (block_count t) (any_broken_by_sets sets t.firsts t.seconds (weight_columns t.costs t.loops t.figures t.headers t.limits t.multipliers)) ≡ first_below (block_count t) (inequality_broken t)
-  unfolding inequality_broken edge_holds inequality inequality_by broken_by broken_by_sets
+  pub broken_places : (sets : List ℕ) → sets ≡ sets_around t.parents → first_below (block_count t) (any_broken_by le_z sets t) ≡ first_below (block_count t) (inequality_broken t)
+  unfolding inequality_broken edge_holds inequality inequality_by broken_by
   broken_places sets S = broken_places_by le_z t.figures t.limits t.multipliers sets S

@@ -1,12 +1,12 @@
 -- What the answers of the table checker say: the paper's number, place and value of each case.
-use Rattle.std.specs.Prelude.{ℤ}
+use Rattle.std.specs.Prelude.{ℤ, Result, Ok, Err}
 use Rattle.wcet.specs.Rules.{Reply, accepted, refused}
 use Rattle.nesting.specs.Answers.{refusal}
-use Rattle.certificate.specs.declared.TableReply.{TableReply}
-use Rattle.certificate.specs.declared.TableReply.TheVariants.{Accepted, Structure, Inequality, UndeclaredLoop}
+use Rattle.certificate.specs.declared.TableFault.{TableFault}
+use Rattle.certificate.specs.declared.TableFault.TheVariants.{Structure, Inequality, UndeclaredLoop}
 
-abbrev pub table_meaning : TableReply → Reply ℤ
-table_meaning (Accepted b) = accepted b
-table_meaning (Structure f) = refusal f
-table_meaning (Inequality u) = refused 208 u
-table_meaning UndeclaredLoop = refused 209 0
+abbrev pub table_meaning : Result ℤ TableFault → Reply ℤ
+table_meaning (Ok b) = accepted b
+table_meaning (Err (Structure f)) = refusal f
+table_meaning (Err (Inequality u)) = refused 208 u
+table_meaning (Err UndeclaredLoop) = refused 209 0

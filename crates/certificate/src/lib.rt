@@ -3,79 +3,120 @@
 // Figures and multipliers are claims, and are never believed: what an accepted bound means does not depend on who made them.
 #![tactic(auto)]
 
-ghost use Rattle.std.specs.Prelude.{◌≡◌, ◌^◌, ◌≤◌, ◌<◌, pos, ◌+ℤ◌, ◌-ℤ◌, ◌*ℤ◌, length};
+ghost use Rattle.std.specs.Prelude.{◌≡◌, Bool, ◌^◌, ◌≤◌, ◌<◌, ℤ, pos, ◌+ℤ◌, ◌-ℤ◌, ◌*ℤ◌, length};
+ghost use Rattle.std.specs.Int.Signed.{le_z};
 ghost use Rattle.lists.specs.Search.{first_below};
-ghost use Rattle.wcet.specs.Rules.{bound};
-ghost use Rattle.wcet.specs.Shortest.{inequality_by};
-ghost use Rattle.wcet.specs.Claim.{Checked};
-ghost use Rattle.nesting.specs.Columns.{routine, Names, Linked, of_edge};
-ghost use Rattle.nesting.specs.Answers.{place_of};
-ghost use Rattle.nesting.specs.declared.Structure.TheVariants.{Sound};
+ghost use Rattle.wcet.specs.Table.{block_count};
+ghost use Rattle.wcet.specs.Rules.{refused, bound, structure_rules, table_reply};
+ghost use Rattle.wcet.specs.Shortest.{inequality_by, ge_z};
+ghost use Rattle.wcet.specs.Claim.{AllHold, Checked};
+ghost use Rattle.loopsets.specs.Sets.{sets_around};
+ghost use Rattle.nesting.specs.Columns.{routine_of, Names, Linked, of_edge};
 ghost use Rattle.certificate.specs.Answers.{table_meaning};
+ghost use Rattle.certificate.specs.declared.TableFault.TheVariants.{Structure};
 ghost use Rattle.certificate.specs.Figures.{Figure};
-ghost use Rattle.certificate.specs.Columns.{comparison, weight_columns, price_columns, Weighed, Weighable, Priced, broken_by_sets, any_broken_by_sets, broken_by, Certified, RepliedAfter};
+ghost use Rattle.certificate.specs.Columns.{price_columns, Weighable, Priced, broken_by, any_broken_by};
 
 use loopsets::Sets;
-use nesting::{Place, Structure, StructureFault, Structured};
+use nesting::{Refusal, StructureFault, Tables};
 
-// The bound, or the first broken rule: 201 to 207 as the structure check names them, 208 at its source block, or 209, which comes ahead of 208.
-#[derive(Clone, Copy)]
-pub enum TableReply {
-    Accepted(i64),
+// The first broken rule: 201 to 207 as the structure check names them, 208 at its source block, or 209, which comes ahead of 208.
+#[derive(Clone, Copy, PartialEq, Eq)]
+pub enum TableFault {
     Structure(StructureFault),
     Inequality(usize),
     UndeclaredLoop,
 }
 
-// Which way the inequalities are compared: for an upper bound, or turned round for a lower one.
-#[derive(Clone, Copy)]
-pub enum Sense {
-    AtMost,
-    AtLeast,
+impl From<StructureFault> for TableFault {
+    ghost from_gives = { λ fault result. result ≡ Structure fault };
+
+    fn from(fault: StructureFault) -> Self {
+        TableFault::Structure(fault)
+    }
+}
+
+impl TableFault {
+    pub fn refusal(self) -> Refusal
+        ensures { refused result.number result.place ≡ table_meaning (Err self) }
+    {
+        match self {
+            TableFault::Structure(fault) => fault.refusal(),
+            TableFault::Inequality(u) => Refusal {
+                number: 208,
+                place: u,
+            },
+            TableFault::UndeclaredLoop => Refusal {
+                number: 209,
+                place: 0,
+            },
+        }
+    }
+}
+
+// Which way the inequalities are compared. The scan over the edges is compiled for each way alone.
+pub trait Sense {
+    ghost compare: { ℤ → ℤ → Bool };
+
+    fn compares(x: i64, y: i64) -> bool
+        ensures { result ≡ compare x y };
+}
+
+// For an upper bound.
+pub struct AtMost;
+
+// Turned round, for a lower bound.
+pub struct AtLeast;
+
+impl Sense for AtMost {
+    ghost compare = { le_z };
+
+    fn compares(x: i64, y: i64) -> bool {
+        x <= y
+    }
+}
+
+impl Sense for AtLeast {
+    ghost compare = { ge_z };
+
+    fn compares(x: i64, y: i64) -> bool {
+        y <= x
+    }
 }
 
 // ---- the inequality on numbers, in its three forms
 
-fn compares(sense: Sense, x: i64, y: i64) -> bool
-    ensures { result ≡ comparison sense x y }
-{
-    match sense {
-        Sense::AtMost => x <= y,
-        Sense::AtLeast => y <= x,
-    }
-}
-
 // Of an edge to a block that is no header.
-fn plain_holds(sense: Sense, cost: u32, from: i64, to: i64) -> bool
+fn plain_holds<S: Sense>(cost: u32, from: i64, to: i64) -> bool
     requires { (cost ≤ 1000000) × Figure from × Figure to }
-    ensures { result ≡ comparison sense (pos cost) (from -ℤ to) }
+    ensures { result ≡ S.compare (pos cost) (from -ℤ to) }
 {
     let d = from - to;
-    compares(sense, cost as i64, d)
+    S::compares(cost as i64, d)
 }
 
 // Of an edge back to a header from inside its loop.
-fn return_holds(sense: Sense, cost: u32, from: i64, to: i64, multiplier: u64) -> bool
+fn return_holds<S: Sense>(cost: u32, from: i64, to: i64, multiplier: u64) -> bool
     requires { (cost ≤ 1000000) × Figure from × Figure to × (multiplier ≤ 2 ^ 40) }
-    ensures { result ≡ comparison sense (pos cost) (from -ℤ to +ℤ pos multiplier) }
+    ensures { result ≡ S.compare (pos cost) (from -ℤ to +ℤ pos multiplier) }
 {
     let d = from - to;
-    compares(sense, cost as i64, d + multiplier as i64)
+    S::compares(cost as i64, d + multiplier as i64)
 }
 
 // Of an edge to a header from outside its loop. Where no visit is asked for, visits less 1 is −1.
-fn entry_holds(sense: Sense, cost: u32, from: i64, to: i64, multiplier: u64, visits: u32) -> bool
+fn entry_holds<S: Sense>(cost: u32, from: i64, to: i64, multiplier: u64, visits: u32) -> bool
     requires { (cost ≤ 1000000) × Figure from × Figure to × (multiplier ≤ 2 ^ 40) × (visits ≤ 65535) }
-    ensures { result ≡ comparison sense (pos cost +ℤ pos multiplier *ℤ (pos visits -ℤ pos 1)) (from -ℤ to) }
+    ensures { result ≡ S.compare (pos cost +ℤ pos multiplier *ℤ (pos visits -ℤ pos 1)) (from -ℤ to) }
 {
     let d = from - to;
     let later = multiplier as i64 * (visits as i64 - 1);
-    compares(sense, cost as i64 + later, d)
+    S::compares(cost as i64 + later, d)
 }
 
 // The form that applies: to a header or not, and from inside its loop or not.
-fn inequality_holds(
-    sense: Sense,
+#[tactic(auto, unfolding(wcet::specs::Shortest::inequality_by))]
+fn inequality_holds<S: Sense>(
     headed: bool,
     inside: bool,
     cost: u32,
@@ -85,111 +126,58 @@ fn inequality_holds(
     visits: u32,
 ) -> bool
     requires { (cost ≤ 1000000) × Figure from × Figure to × (multiplier ≤ 2 ^ 40) × (visits ≤ 65535) }
-    ensures { result ≡ inequality_by (comparison sense) headed inside cost from to multiplier visits }
+    ensures { result ≡ inequality_by S.compare headed inside cost from to multiplier visits }
 {
     if !headed {
-        return plain_holds(sense, cost, from, to);
+        return plain_holds::<S>(cost, from, to);
     }
     if inside {
-        return return_holds(sense, cost, from, to, multiplier);
+        return return_holds::<S>(cost, from, to, multiplier);
     }
-    entry_holds(sense, cost, from, to, multiplier, visits)
+    entry_holds::<S>(cost, from, to, multiplier, visits)
 }
 
-// Whether an edge from block u to v breaks its inequality. For a lower bound the columns are those of the second certificate, with the least
-// visits for the limits.
-pub fn edge_broken(
-    sense: Sense,
-    around: &Sets,
-    cost: &[u32],
-    loops: &[u16],
-    figure: &[i64],
-    header: &[u16],
-    visits: &[u32],
-    multiplier: &[u64],
-    u: usize,
-    v: u16,
-) -> bool
-    requires { Weighable (weight_columns cost.now loops.now figure.now header.now visits.now multiplier.now) × (u < length cost.now) × Names (length cost.now) v }
-    ensures { result ≡ of_edge v (broken_by (comparison sense) around.now (weight_columns cost.now loops.now figure.now header.now visits.now multiplier.now) u) }
+// Whether an edge from block u to v breaks its inequality.
+#[tactic(auto, unfolding(crate::specs::Columns::broken_by))]
+fn edge_broken<S: Sense>(around: &Sets, tables: &Tables<'_>, u: usize, v: u16) -> bool
+    requires { Weighable (routine_of tables.now) × (u < block_count (routine_of tables.now)) × Names (block_count (routine_of tables.now)) v }
+    ensures { result ≡ of_edge v (broken_by S.compare around.now (routine_of tables.now) u) }
 {
     if v == 65535 {
         return false;
     }
     let to = v as usize;
-    let l = loops[to] as usize;
-    let from = loops[u] as usize;
+    let l = tables.loops[to] as usize;
+    let from = tables.loops[u] as usize;
     let inside = loopsets::set_at(around, from).contains(l);
-    !inequality_holds(
-        sense,
-        header[l] == v,
+    !inequality_holds::<S>(
+        tables.header[l] == v,
         inside,
-        cost[to],
-        figure[u],
-        figure[to],
-        multiplier[l],
-        visits[l],
+        tables.cost[to],
+        tables.figure[u],
+        tables.figure[to],
+        tables.multiplier[l],
+        tables.limit[l],
     )
 }
 
-// ---- 208
-
-fn edge_breaks(
-    around: &Sets,
-    cost: &[u32],
-    loops: &[u16],
-    figure: &[i64],
-    header: &[u16],
-    limit: &[u32],
-    multiplier: &[u64],
-    u: usize,
-    v: u16,
-) -> bool
-    requires { Weighed (weight_columns cost.now loops.now figure.now header.now limit.now multiplier.now) × (u < length cost.now) × Names (length cost.now) v }
-    ensures { result ≡ of_edge v (broken_by_sets around.now (weight_columns cost.now loops.now figure.now header.now limit.now multiplier.now) u) }
+// The same of either edge from block u.
+#[tactic(auto, unfolding(wcet::specs::Table::some_edge))]
+fn either_broken<S: Sense>(around: &Sets, tables: &Tables<'_>, u: usize) -> bool
+    requires { Weighable (routine_of tables.now) × Linked (block_count (routine_of tables.now)) tables.now.first.now tables.now.second.now × (u < block_count (routine_of tables.now)) }
+    ensures { result ≡ any_broken_by S.compare around.now (routine_of tables.now) u }
 {
-    edge_broken(
-        Sense::AtMost,
-        around,
-        cost,
-        loops,
-        figure,
-        header,
-        limit,
-        multiplier,
-        u,
-        v,
-    )
+    edge_broken::<S>(around, tables, u, tables.first[u])
+        || edge_broken::<S>(around, tables, u, tables.second[u])
 }
 
-fn first_broken_inequality(
-    around: &Sets,
-    cost: &[u32],
-    loops: &[u16],
-    first: &[u16],
-    second: &[u16],
-    figure: &[i64],
-    header: &[u16],
-    limit: &[u32],
-    multiplier: &[u64],
-) -> Place
-    requires { Weighed (weight_columns cost.now loops.now figure.now header.now limit.now multiplier.now) × Linked (length cost.now) first.now second.now }
-    ensures { place_of result ≡ first_below (length cost.now) (any_broken_by_sets around.now first.now second.now (weight_columns cost.now loops.now figure.now header.now limit.now multiplier.now)) }
+// The lowest block from which an edge breaks its inequality: 208, or 453 where the figures, multipliers and limits are those of the second
+// certificate, with the least visits for the limits.
+pub fn first_broken<S: Sense>(around: &Sets, tables: &Tables<'_>) -> Option<usize>
+    requires { Weighable (routine_of tables.now) × Linked (block_count (routine_of tables.now)) tables.now.first.now tables.now.second.now }
+    ensures { result ≡ first_below (block_count (routine_of tables.now)) (any_broken_by S.compare around.now (routine_of tables.now)) }
 {
-    let n = cost.len();
-    let mut u = 0;
-    while u < n {
-        let v = first[u];
-        if edge_breaks(around, cost, loops, figure, header, limit, multiplier, u, v) {
-            return Place::At(u);
-        }
-        let v = second[u];
-        if edge_breaks(around, cost, loops, figure, header, limit, multiplier, u, v) {
-            return Place::At(u);
-        }
-        u += 1;
-    }
-    Place::Nowhere
+    (0..tables.cost.len()).find(|u| either_broken::<S>(around, tables, *u))
 }
 
 // ---- the reply
@@ -214,76 +202,24 @@ pub fn bound_at_exit(cost: &[u32], figure: &[i64]) -> i64
 
 // The reply to tables that pass 201 to 207, whose loop sets are given: 209, 208 or the bound. 209 comes first: a cycle that no loop declares and
 // that costs something breaks an inequality too, whatever the figures are.
-fn certify(
-    around: &Sets,
-    cost: &[u32],
-    loops: &[u16],
-    first: &[u16],
-    second: &[u16],
-    figure: &[i64],
-    header: &[u16],
-    limit: &[u32],
-    multiplier: &[u64],
-) -> TableReply
-    requires { Weighed (weight_columns cost.now loops.now figure.now header.now limit.now multiplier.now) × Linked (length cost.now) first.now second.now × Priced (price_columns cost.now figure.now) }
-    ensures { Certified around.now cost.now loops.now first.now second.now figure.now header.now limit.now multiplier.now (table_meaning result) }
+fn certify(around: &Sets, tables: &Tables<'_>) -> Result<i64, TableFault>
+    requires { AllHold (structure_rules (routine_of tables.now)) × (around.now ≡ sets_around tables.now.parent.now) }
+    ensures { table_meaning result ≡ table_reply (routine_of tables.now) }
 {
-    let order = order::order_of(around, loops, first, second, header);
-    if order.count < cost.len() {
-        return TableReply::UndeclaredLoop;
+    let order = order::order_of(around, tables);
+    if order.count < tables.cost.len() {
+        return Err(TableFault::UndeclaredLoop);
     }
-    let place = first_broken_inequality(
-        around, cost, loops, first, second, figure, header, limit, multiplier,
-    );
-    if let Place::At(u) = place {
-        return TableReply::Inequality(u);
+    if let Some(u) = first_broken::<AtMost>(around, tables) {
+        return Err(TableFault::Inequality(u));
     }
-    TableReply::Accepted(bound_at_exit(cost, figure))
-}
-
-// The reply after the structure check: its refusal, or else what the other rules give.
-fn reply_after(
-    checked: Structured,
-    cost: &[u32],
-    loops: &[u16],
-    first: &[u16],
-    second: &[u16],
-    figure: &[i64],
-    header: &[u16],
-    limit: &[u32],
-    multiplier: &[u64],
-) -> TableReply
-    requires { checked.answer ≡ Sound → Weighed (weight_columns cost.now loops.now figure.now header.now limit.now multiplier.now) × Linked (length cost.now) first.now second.now × Priced (price_columns cost.now figure.now) }
-    ensures { RepliedAfter checked cost.now loops.now first.now second.now figure.now header.now limit.now multiplier.now (table_meaning result) }
-{
-    let answer = checked.answer;
-    if let Structure::Broken(fault) = answer {
-        return TableReply::Structure(fault);
-    }
-    let around = checked.around;
-    certify(
-        &around, cost, loops, first, second, figure, header, limit, multiplier,
-    )
+    Ok(bound_at_exit(tables.cost, tables.figure))
 }
 
 // The reply to a pair of tables: its bound, or the first broken rule. With it comes what an accepted bound means for every list of blocks.
-pub fn check(
-    cost: &[u32],
-    loops: &[u16],
-    first: &[u16],
-    second: &[u16],
-    figure: &[i64],
-    parent: &[u16],
-    header: &[u16],
-    limit: &[u32],
-    multiplier: &[u64],
-) -> TableReply
-    ensures { Checked (routine cost.now loops.now first.now second.now figure.now parent.now header.now limit.now multiplier.now) (table_meaning result) }
+pub fn check(tables: &Tables<'_>) -> Result<i64, TableFault>
+    ensures { Checked (routine_of tables.now) (table_meaning result) }
 {
-    let checked = nesting::check_structure(
-        cost, loops, first, second, figure, parent, header, limit, multiplier,
-    );
-    reply_after(
-        checked, cost, loops, first, second, figure, header, limit, multiplier,
-    )
+    let around = nesting::check_structure(tables)?;
+    certify(&around, tables)
 }

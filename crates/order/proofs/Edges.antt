@@ -1,6 +1,7 @@
 -- The forward edges by number, read off the loop sets, are the forward edges. Assumes nothing.
 use mathlib.Core.Path.{◌≡◌, refl, sym, ◌∙◌, ap}
-use mathlib.Core.Logic.{⊎_elim}
+use mathlib.Core.Logic.{◌⊎◌, inl, inr, ⊎_elim}
+use Rattle.std.specs.Prelude.{Option, Some, None}
 use mathlib.Core.Bool.{Bool, true, false, not, ◌&&◌}
 use mathlib.Core.List.{List}
 use Prim.Native.Nat.{ℕ, ◌+◌, ◌*◌, ◌<◌, ◌/◌, ◌%◌}
@@ -17,26 +18,27 @@ use Rattle.loopsets.specs.Sets.{sets_around}
 use Rattle.loopsets.proofs.Laws.{member_around}
 use Rattle.nesting.specs.Columns.{of_edge, Names, Linked, Ranged}
 use Rattle.nesting.proofs.Edges.{by_first, by_second}
-use Rattle.order.specs.Edges.{back_by_sets, target_by_sets, successor, edge_target}
+use Rattle.order.specs.Edges.{back_by_sets, target_by_sets, named_target, successor, edge_target}
 
 -- ---- what the code finds for a successor v of block u
 
 module _ (sets loops headers : List ℕ) (u v : ℕ) where
-  pub ends_missing : v ≡ missing → v ≡ target_by_sets sets loops headers u v
-  unfolding target_by_sets
-  ends_missing m = go (back_by_sets sets loops headers u v)
-    where
-      go : (b : Bool) → v ≡ (when b then missing else v)
-      go true = m
-      go false = refl
-
-  pub ends_nowhere : back_by_sets sets loops headers u v ≡ true → missing ≡ target_by_sets sets loops headers u v
-  unfolding target_by_sets
-  ends_nowhere b = rw b
-
-  pub ends_there : back_by_sets sets loops headers u v ≡ false → v ≡ target_by_sets sets loops headers u v
+  ends_there : back_by_sets sets loops headers u v ≡ false → v ≡ target_by_sets sets loops headers u v
   unfolding target_by_sets
   ends_there b = rw b
+
+  pub no_target : (v ≡ missing) ⊎ (back_by_sets sets loops headers u v ≡ true) → None ≡ named_target (target_by_sets sets loops headers u v)
+  unfolding target_by_sets
+  no_target (inl m) = go (back_by_sets sets loops headers u v)
+    where
+      go : (b : Bool) → None ≡ named_target (when b then missing else v)
+      go true = refl
+      go false = rw (eq-eqb v missing m)
+  no_target (inr b) = rw b
+
+  pub a_target : (v ≡ missing → ⊥) → back_by_sets sets loops headers u v ≡ false → Some v ≡ named_target (target_by_sets sets loops headers u v)
+  unfolding target_by_sets
+  a_target ne b = rw (b, ne_eqb v missing ne)
 
   -- which is a block, where there is one
   target_names : (n : ℕ) → Names n v → Names n (target_by_sets sets loops headers u v)
@@ -46,6 +48,30 @@ module _ (sets loops headers : List ℕ) (u v : ℕ) where
       go : (b : Bool) → Names n (when b then missing else v)
       go true ne = absurd (ne refl)
       go false ne = names ne
+
+-- what a named target says of the number
+pub named_at : (v x : ℕ) → Some x ≡ named_target v → (v ≡ x) × (v ≡ missing → ⊥)
+named_at v x e = go (ℕ_discrete v missing)
+  where
+    go : Dec (v ≡ missing) → (v ≡ x) × (v ≡ missing → ⊥)
+    go (yes m) = absurd (apart (rw (eq-eqb v missing m) at e))
+      where
+        apart : ◌≡◌ {A = Option ℕ} (Some x) None → ⊥
+        apart q = cc
+    go (no ne) = (same (rw (ne_eqb v missing ne) at e), ne)
+      where
+        same : ◌≡◌ {A = Option ℕ} (Some x) (Some v) → v ≡ x
+        same q = cc
+
+pub named_none : (v : ℕ) → None ≡ named_target v → v ≡ missing
+named_none v e = go (ℕ_discrete v missing)
+  where
+    go : Dec (v ≡ missing) → v ≡ missing
+    go (yes m) = m
+    go (no ne) = absurd (apart (rw (ne_eqb v missing ne) at e))
+      where
+        apart : ◌≡◌ {A = Option ℕ} None (Some v) → ⊥
+        apart q = cc
 
 -- ---- edges by number
 

@@ -1,6 +1,6 @@
 -- The forward edges, as they are read off the loop sets, and what the removal of one does to the counts and the queue: for functions that
 -- are no public entry.
-use Rattle.std.specs.Prelude.{ℕ, ◌+◌, ◌-◌, ◌≤◌, ◌<◌, ◌/◌, ◌%◌, ◌≡◌, Bool, not, ◌&&◌, List, eqb, length, get_or, set}
+use Rattle.std.specs.Prelude.{ℕ, ◌+◌, ◌-◌, ◌≤◌, ◌<◌, ◌/◌, ◌%◌, ◌≡◌, Bool, not, ◌&&◌, List, eqb, length, get_or, set, Option, Some, None}
 use Rattle.limits.specs.Limits.{most_blocks}
 use Rattle.lists.specs.Search.{when◌then◌else◌, count_below}
 use Rattle.wcet.specs.Table.{missing}
@@ -13,6 +13,10 @@ back_by_sets sets loops headers u v = eqb (get_or headers (get_or loops v 0) 0) 
 -- the target of the forward edge from u to its successor v, and `missing` where the successor is missing or it is a back edge
 unfoldable pub target_by_sets : (sets loops headers : List ℕ) → ℕ → ℕ → ℕ
 target_by_sets sets loops headers u v = when back_by_sets sets loops headers u v then missing else v
+
+-- a target, where there is one
+abbrev pub named_target : ℕ → Option ℕ
+named_target v = when eqb v missing then None else Some v
 
 -- Edges have numbers, 2u from block u to its first successor and 2u + 1 to its second.
 abbrev pub successor : (firsts seconds : List ℕ) → ℕ → ℕ

@@ -7,10 +7,11 @@ ghost use Rattle.std.specs.Prelude.{◌≡◌, ◌*◌, ◌≤◌, ◌<◌, leng
 ghost use Rattle.limits.specs.Limits.{most_blocks};
 ghost use Rattle.nesting.specs.Columns.{Names, Innermost, Linked};
 ghost use Rattle.order.specs.Ordering.{Orders};
-ghost use Rattle.order.specs.Edges.{back_by_sets, target_by_sets, edge_target, Counted, Countable, one_more, Queue, Removable, Removed};
+ghost use Rattle.order.specs.Edges.{back_by_sets, target_by_sets, named_target, edge_target, Counted, Countable, one_more, Queue, Removable, Removed};
 
 use limits::MOST_BLOCKS;
 use loopsets::Sets;
+use nesting::Tables;
 
 // For each block the number of incoming forward edges that are not removed.
 type Counts = [u16; MOST_BLOCKS];
@@ -26,63 +27,49 @@ pub struct Order {
 }
 
 // Whether an edge from block u to v is a back edge: it returns to a header from inside that header's loop.
-pub fn back_edge(around: &Sets, loops: &[u16], header: &[u16], u: usize, v: u16) -> bool
-    requires { Innermost loops.now header.now × (u < length loops.now) × (v < length loops.now) }
-    ensures { result ≡ back_by_sets around.now loops.now header.now u v }
+#[tactic(auto, unfolding(crate::specs::Edges::back_by_sets))]
+pub fn back_edge(around: &Sets, tables: &Tables<'_>, u: usize, v: u16) -> bool
+    requires { Innermost tables.now.loops.now tables.now.header.now × (u < length tables.now.loops.now) × (v < length tables.now.loops.now) }
+    ensures { result ≡ back_by_sets around.now tables.now.loops.now tables.now.header.now u v }
 {
-    let l = loops[v as usize] as usize;
-    if header[l] != v {
-        return false;
-    }
-    let from = loops[u] as usize;
-    loopsets::set_at(around, from).contains(l)
+    let l = tables.loops[v as usize] as usize;
+    let from = tables.loops[u] as usize;
+    tables.header[l] == v && loopsets::set_at(around, from).contains(l)
 }
 
-// The target of the forward edge from block u to its successor v; 65535 where the successor is missing or it is a back edge.
-fn forward_target(around: &Sets, loops: &[u16], header: &[u16], u: usize, v: u16) -> u16
-    requires { Innermost loops.now header.now × (u < length loops.now) × Names (length loops.now) v }
-    ensures { result ≡ target_by_sets around.now loops.now header.now u v }
+// The target of the forward edge from block u to its successor v, if there is one: none where the successor is missing or it is a back edge.
+#[tactic(auto, using(crate::proofs::Edges::no_target, crate::proofs::Edges::a_target))]
+fn forward_target(around: &Sets, tables: &Tables<'_>, u: usize, v: u16) -> Option<usize>
+    requires { Innermost tables.now.loops.now tables.now.header.now × (u < length tables.now.loops.now) × Names (length tables.now.loops.now) v }
+    ensures { result ≡ named_target (target_by_sets around.now tables.now.loops.now tables.now.header.now u v) }
 {
-    if v == 65535 {
-        return v;
+    if v == 65535 || back_edge(around, tables, u, v) {
+        None
+    } else {
+        Some(v as usize)
     }
-    if back_edge(around, loops, header, u, v) {
-        return 65535;
-    }
-    v
 }
 
 // Counts the edge from block u to its successor v at its target, if it is a forward edge.
-fn count_edge(counts: &mut Counts, around: &Sets, loops: &[u16], header: &[u16], u: usize, v: u16)
-    requires { Innermost loops.now header.now × (u < length loops.now) × Names (length loops.now) v × Countable counts.old (target_by_sets around.now loops.now header.now u v) }
-    ensures { counts.new ≡ one_more counts.old (target_by_sets around.now loops.now header.now u v) }
+#[tactic(auto, using(crate::proofs::Edges::named_at, crate::proofs::Edges::named_none))]
+fn count_edge(counts: &mut Counts, around: &Sets, tables: &Tables<'_>, u: usize, v: u16)
+    requires { Innermost tables.now.loops.now tables.now.header.now × (u < length tables.now.loops.now) × Names (length tables.now.loops.now) v × Countable counts.old (target_by_sets around.now tables.now.loops.now tables.now.header.now u v) }
+    ensures { counts.new ≡ one_more counts.old (target_by_sets around.now tables.now.loops.now tables.now.header.now u v) }
 {
-    let target = forward_target(around, loops, header, u, v);
-    if target != 65535 {
-        let to = target as usize;
-        let more = counts[to] + 1;
-        counts[to] = more;
+    if let Some(to) = forward_target(around, tables, u, v) {
+        counts[to] += 1;
     }
 }
 
 // The incoming forward edges of each block. Document 02, §2: "The work marks for all 1,024 blocks are cleared before each check."
-fn incoming_edges(
-    around: &Sets,
-    loops: &[u16],
-    first: &[u16],
-    second: &[u16],
-    header: &[u16],
-) -> Counts
-    requires { Innermost loops.now header.now × Linked (length loops.now) first.now second.now }
-    ensures { Counted (edge_target around.now loops.now first.now second.now header.now) (length loops.now) result (2 * length loops.now) }
+fn incoming_edges(around: &Sets, tables: &Tables<'_>) -> Counts
+    requires { Innermost tables.now.loops.now tables.now.header.now × Linked (length tables.now.loops.now) tables.now.first.now tables.now.second.now }
+    ensures { Counted (edge_target around.now tables.now.loops.now tables.now.first.now tables.now.second.now tables.now.header.now) (length tables.now.loops.now) result (2 * length tables.now.loops.now) }
 {
     let mut counts = [0u16; MOST_BLOCKS];
-    let n = loops.len();
-    let mut u = 0;
-    while u < n {
-        count_edge(&mut counts, around, loops, header, u, first[u]);
-        count_edge(&mut counts, around, loops, header, u, second[u]);
-        u += 1;
+    for u in 0..tables.loops.len() {
+        count_edge(&mut counts, around, tables, u, tables.first[u]);
+        count_edge(&mut counts, around, tables, u, tables.second[u]);
     }
     counts
 }
@@ -93,68 +80,72 @@ fn sources(counts: &Counts, blocks: &mut Blocks, n: usize) -> usize
     ensures { (length blocks.new ≡ most_blocks) × Queue counts.now blocks.new n result }
 {
     let mut count = 0;
-    let mut v = 0;
-    while v < n {
+    for v in 0..n {
         if counts[v] == 0 {
             blocks[count] = v as u16;
             count += 1;
         }
-        v += 1;
     }
     count
 }
 
 // Removes the edge from block u to its successor v, if it is a forward edge. If it was the last one to its target, the target is taken.
 // Returns the number of blocks taken.
+#[tactic(auto, using(crate::proofs::Edges::named_at, crate::proofs::Edges::named_none))]
 fn remove_edge(
     counts: &mut Counts,
     blocks: &mut Blocks,
     count: usize,
     around: &Sets,
-    loops: &[u16],
-    header: &[u16],
+    tables: &Tables<'_>,
     u: usize,
     v: u16,
 ) -> usize
-    requires { Innermost loops.now header.now × (u < length loops.now) × Names (length loops.now) v × Removable counts.old count (target_by_sets around.now loops.now header.now u v) }
-    ensures { Removed counts.old blocks.old count (target_by_sets around.now loops.now header.now u v) counts.new blocks.new result }
+    requires { Innermost tables.now.loops.now tables.now.header.now × (u < length tables.now.loops.now) × Names (length tables.now.loops.now) v × Removable counts.old count (target_by_sets around.now tables.now.loops.now tables.now.header.now u v) }
+    ensures { Removed counts.old blocks.old count (target_by_sets around.now tables.now.loops.now tables.now.header.now u v) counts.new blocks.new result }
 {
-    let target = forward_target(around, loops, header, u, v);
-    if target == 65535 {
+    let Some(to) = forward_target(around, tables, u, v) else {
+        return count;
+    };
+    counts[to] -= 1;
+    if counts[to] != 0 {
         return count;
     }
-    let to = target as usize;
-    let left = counts[to] - 1;
-    counts[to] = left;
-    if left != 0 {
-        return count;
-    }
-    blocks[count] = target;
+    blocks[count] = to as u16;
     count + 1
 }
 
 // The order, for tables that pass 201 to 207. `blocks` is also the queue: the outgoing edges of the blocks from place i on are still to be
 // removed.
-pub fn order_of(
-    around: &Sets,
-    loops: &[u16],
-    first: &[u16],
-    second: &[u16],
-    header: &[u16],
-) -> Order
-    requires { Innermost loops.now header.now × Linked (length loops.now) first.now second.now }
-    ensures { Orders around.now loops.now first.now second.now header.now result }
+pub fn order_of(around: &Sets, tables: &Tables<'_>) -> Order
+    requires { Innermost tables.now.loops.now tables.now.header.now × Linked (length tables.now.loops.now) tables.now.first.now tables.now.second.now }
+    ensures { Orders around.now tables.now.loops.now tables.now.first.now tables.now.second.now tables.now.header.now result }
 {
-    let mut counts = incoming_edges(around, loops, first, second, header);
+    let mut counts = incoming_edges(around, tables);
     let mut blocks = [0u16; MOST_BLOCKS];
-    let mut count = sources(&counts, &mut blocks, loops.len());
+    let mut count = sources(&counts, &mut blocks, tables.loops.len());
+    // Kept: the queue grows while it is read, so that no range or iterator over it has a fixed end.
     let mut i = 0;
     while i < count {
         let u = blocks[i] as usize;
-        let v = first[u];
-        count = remove_edge(&mut counts, &mut blocks, count, around, loops, header, u, v);
-        let v = second[u];
-        count = remove_edge(&mut counts, &mut blocks, count, around, loops, header, u, v);
+        count = remove_edge(
+            &mut counts,
+            &mut blocks,
+            count,
+            around,
+            tables,
+            u,
+            tables.first[u],
+        );
+        count = remove_edge(
+            &mut counts,
+            &mut blocks,
+            count,
+            around,
+            tables,
+            u,
+            tables.second[u],
+        );
         i += 1;
     }
     Order { blocks, count }

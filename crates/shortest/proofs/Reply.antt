@@ -2,6 +2,7 @@
 use mathlib.Core.Path.{◌≡◌, sym, ◌∙◌, ap}
 use mathlib.Core.Bool.{true, false, ◌&&◌}
 use mathlib.Core.List.{List, [], ◌∷◌, ◌++◌}
+use Rattle.std.specs.Prelude.{Option, Some, None, Err}
 use Prim.Native.Nat.{ℕ, ◌≤◌, ◌<◌}
 use native.Mathlib.Omega.{arith}
 use borrow.Author.Tests.{eqb-true, not-false}
@@ -15,19 +16,15 @@ use Rattle.wcet.specs.Claim.{AllHold}
 use Rattle.wcet.specs.Shortest.{LowCertificate, ge_z, low_edge_holds, low_bound, low_sizes_wrong, low_loop_wrong, low_figure_wrong, low_inequality_broken, low_size_rule, low_rules, shortest_rules, shortest_reply}
 use Rattle.wcet.proofs.Replies.{decides, hands_on}
 use Rattle.loopsets.specs.Sets.{sets_around}
-use Rattle.nesting.specs.Answers.{place_of, refusal, StructureChecked}
-use Rattle.nesting.specs.declared.Place.{Place}
-use Rattle.nesting.specs.declared.Place.TheVariants.{At, Nowhere}
+use Rattle.nesting.specs.Answers.{refusal, StructureChecked}
 use Rattle.nesting.specs.declared.StructureFault.{StructureFault}
-use Rattle.nesting.specs.declared.Structure.TheVariants.{Broken}
-use Rattle.nesting.specs.declared.Structured.{Structured}
 use Rattle.nesting.proofs.Chain.{place_decides, place_clear, none_left, refusal_stands}
 use Rattle.nesting.proofs.Stages.{headed}
 use Rattle.order.specs.Ordering.{Ordering}
 use Rattle.order.specs.declared.Order.{Order}
 use Rattle.order.proofs.Orders.{undeclared_decides, declared_hands_on}
-use Rattle.certificate.specs.Columns.{weight_columns, Comparable, any_broken_by}
-use Rattle.certificate.proofs.Edge.{comparable, broken_places_by}
+use Rattle.certificate.specs.Columns.{Comparable, any_broken_by}
+use Rattle.certificate.proofs.Edge.{comparable, claiming, broken_places_by}
 
 module _ (t : Routine) (c : LowCertificate) where
   abbrev passed : Reply ℤ
@@ -39,12 +36,12 @@ module _ (t : Routine) (c : LowCertificate) where
   sizes_refused e = sym (decides (low_size_rule t c) _ passed 0 (record { below = omega arith; passes = e; lower = λ j h. absurd (omega arith) }))
 
   module _ (fit : low_sizes_wrong t c ≡ false) where
-    record Fits : Type 0 where
-      figures : length c.figures ≡ block_count t
-      multipliers : length c.multipliers ≡ loop_count t
-      leasts : length c.leasts ≡ loop_count t
+    pub record Fits : Type 0 where
+      pub figures : length c.figures ≡ block_count t
+      pub multipliers : length c.multipliers ≡ loop_count t
+      pub leasts : length c.leasts ≡ loop_count t
 
-    fits : Fits
+    pub fits : Fits
     unfolding low_sizes_wrong
     fits =
         let p = and-true (sized (block_count t) c.figures && sized (loop_count t) c.multipliers) (sized (loop_count t) c.leasts) (not-false _ fit) in
@@ -56,12 +53,12 @@ module _ (t : Routine) (c : LowCertificate) where
     unfolding shortest_reply shortest_rules
     handed_on = sym (hands_on (low_size_rule t c) _ passed (λ p b. fit))
 
-    pub structure_refused : (s : Structured) → StructureChecked t s → (f : StructureFault) → s.answer ≡ Broken f → refusal f ≡ shortest_reply t c
-    structure_refused s C f e = refusal_stands t s C f e (undeclared_rule t ∷ low_rules t c) passed ∙ handed_on
+    pub structure_refused : (f : StructureFault) → StructureChecked t (Err f) → refusal f ≡ shortest_reply t c
+    structure_refused f C = refusal_stands t f C (undeclared_rule t ∷ low_rules t c) passed ∙ handed_on
 
     -- ---- where 201 to 207 hold
     module _ (h : AllHold (structure_rules t)) where
-      pub columns_comparable : Comparable (weight_columns t.costs t.loops c.figures t.headers c.leasts c.multipliers)
+      pub columns_comparable : Comparable (claiming t c.figures c.leasts c.multipliers)
       columns_comparable = comparable t (headed t h).ranged c.figures c.leasts c.multipliers fits.figures fits.leasts fits.multipliers
 
       -- 209, by the order of the blocks
@@ -70,31 +67,31 @@ module _ (t : Routine) (c : LowCertificate) where
         undeclared_refused few = undeclared_decides t h r O (low_rules t c) passed few ∙ handed_on
 
         -- 451
-        module _ (all : block_count t ≤ r.count) (loop : Place) (at-loop : place_of loop ≡ first_below (length c.multipliers) (low_loop_wrong c)) where
+        module _ (all : block_count t ≤ r.count) (loop : Option ℕ) (at-loop : loop ≡ first_below (length c.multipliers) (low_loop_wrong c)) where
           low_rules_lem : check (low_rules t c) passed ≡ shortest_reply t c
           low_rules_lem = declared_hands_on t h r O (low_rules t c) passed all ∙ handed_on
 
-          loop_place : place_of loop ≡ first_below (loop_count t) (low_loop_wrong c)
+          loop_place : loop ≡ first_below (loop_count t) (low_loop_wrong c)
           loop_place = at-loop ∙ ap (λ (m : ℕ). first_below m (low_loop_wrong c)) fits.multipliers
 
-          pub loop_refused : (l : ℕ) → loop ≡ At l → refused 451 l ≡ shortest_reply t c
+          pub loop_refused : (l : ℕ) → loop ≡ Some l → refused 451 l ≡ shortest_reply t c
           loop_refused l e = place_decides (loop_count t) (low_loop_wrong c) loop loop_place 451 _ passed l e ∙ low_rules_lem
 
           -- 452
-          module _ (no_loop : loop ≡ Nowhere) (figure : Place) (at-figure : place_of figure ≡ first_below (length c.figures) (low_figure_wrong c)) where
-            figure_place : place_of figure ≡ first_below (block_count t) (low_figure_wrong c)
+          module _ (no_loop : loop ≡ None) (figure : Option ℕ) (at-figure : figure ≡ first_below (length c.figures) (low_figure_wrong c)) where
+            figure_place : figure ≡ first_below (block_count t) (low_figure_wrong c)
             figure_place = at-figure ∙ ap (λ (n : ℕ). first_below n (low_figure_wrong c)) fits.figures
 
-            pub figure_refused : (u : ℕ) → figure ≡ At u → refused 452 u ≡ shortest_reply t c
+            pub figure_refused : (u : ℕ) → figure ≡ Some u → refused 452 u ≡ shortest_reply t c
             figure_refused u e =
                 place_decides (block_count t) (low_figure_wrong c) figure figure_place 452 _ passed u e
                 ∙ place_clear (loop_count t) (low_loop_wrong c) loop loop_place 451 _ passed no_loop
                 ∙ low_rules_lem
 
             -- 453, looked for by the sets
-            module _ (no_figure_lem : figure ≡ Nowhere) (sets : List ℕ) (S : sets ≡ sets_around t.parents) (edge : Place)
-                (at_Edge : place_of edge ≡ first_below (block_count t) (any_broken_by ge_z sets t.firsts t.seconds (weight_columns t.costs t.loops c.figures t.headers c.leasts c.multipliers))) where
-              edge_place : place_of edge ≡ first_below (block_count t) (low_inequality_broken t c)
+            module _ (no_figure_lem : figure ≡ None) (sets : List ℕ) (S : sets ≡ sets_around t.parents) (edge : Option ℕ)
+                (at_Edge : edge ≡ first_below (block_count t) (any_broken_by ge_z sets (claiming t c.figures c.leasts c.multipliers))) where
+              edge_place : edge ≡ first_below (block_count t) (low_inequality_broken t c)
               unfolding low_inequality_broken low_edge_holds
               edge_place = at_Edge ∙ broken_places_by t (headed t h).ranged ge_z c.figures c.leasts c.multipliers sets S
 
@@ -104,8 +101,8 @@ module _ (t : Routine) (c : LowCertificate) where
                   ∙ place_clear (loop_count t) (low_loop_wrong c) loop loop_place 451 _ passed no_loop
                   ∙ low_rules_lem
 
-              pub inequality_refused : (u : ℕ) → edge ≡ At u → refused 453 u ≡ shortest_reply t c
+              pub inequality_refused : (u : ℕ) → edge ≡ Some u → refused 453 u ≡ shortest_reply t c
               inequality_refused u e = place_decides (block_count t) (low_inequality_broken t c) edge edge_place 453 [] passed u e ∙ last
 
-              pub bound_accepted : edge ≡ Nowhere → passed ≡ shortest_reply t c
+              pub bound_accepted : edge ≡ None → passed ≡ shortest_reply t c
               bound_accepted e = none_left passed ∙ place_clear (block_count t) (low_inequality_broken t c) edge edge_place 453 [] passed e ∙ last

@@ -1,3 +1,2 @@
--- The definitions that the public contract cites; then those of private functions.
+-- The definitions that the public contract cites.
 pub mod Answers
-pub mod Columns

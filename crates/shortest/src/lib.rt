@@ -2,27 +2,32 @@
 // own figures and multipliers are, and are never believed.
 #![tactic(auto)]
 
-ghost use Rattle.std.specs.Prelude.{◌≡◌, not, ◌&&◌, ◌||◌, [], ◌^◌, ◌≤◌, ◌<◌, eqb, ltb, length};
+ghost use Rattle.std.specs.Prelude.{◌≡◌, not, ◌&&◌, ◌||◌, [], ◌≤◌, ◌<◌, false, length};
 ghost use Rattle.limits.specs.Limits.{most_blocks, most_loops};
-ghost use Rattle.lists.specs.Search.{when◌then◌else◌, first_below};
-ghost use Rattle.wcet.specs.Rules.{sized};
-ghost use Rattle.wcet.specs.Shortest.{ge_z, low_loop_wrong, low_figure_wrong};
-ghost use Rattle.wcet.specs.Claim.{ShortestChecked};
-ghost use Rattle.nesting.specs.Columns.{routine, Names, Linked, of_edge};
-ghost use Rattle.nesting.specs.Answers.{place_of};
-ghost use Rattle.certificate.specs.Columns.{weight_columns, Comparable, Weighable, broken_by, any_broken_by};
-ghost use Rattle.shortest.specs.Answers.{low_certificate, shortest_meaning};
-ghost use Rattle.shortest.specs.Columns.{Certified};
+ghost use Rattle.lists.specs.Search.{first_below};
+ghost use Rattle.wcet.specs.Rules.{refused, sized, structure_rules};
+ghost use Rattle.wcet.specs.Shortest.{low_sizes_wrong, low_loop_wrong, low_figure_wrong, shortest_reply};
+ghost use Rattle.wcet.specs.Claim.{AllHold, ShortestChecked};
+ghost use Rattle.loopsets.specs.Sets.{sets_around};
+ghost use Rattle.nesting.specs.Columns.{routine_of};
+ghost use Rattle.shortest.specs.declared.ShortestFault.TheVariants.{Structure};
+ghost use Rattle.shortest.specs.Answers.{low_certificate, certificate_of, shortest_meaning};
 
-use certificate::Sense;
+use certificate::AtLeast;
 use loopsets::Sets;
-use nesting::{Place, Structure, StructureFault};
+use nesting::{Refusal, StructureFault, Tables};
 
-// The lower bound, or the first broken rule: 201 to 207 as the structure check names them, 209, 451 at its loop, 452 at its block, or 453 at
-// its source block.
+// The second certificate in the three columns that a caller lends: of each block its figure, of each loop its multiplier and its least visits.
 #[derive(Clone, Copy)]
-pub enum ShortestReply {
-    Accepted(i64),
+pub struct LowCertificate<'a> {
+    pub figure: &'a [i64],
+    pub multiplier: &'a [u64],
+    pub least: &'a [u32],
+}
+
+// The first broken rule: 201 to 207 as the structure check names them, 209, 451 at its loop, 452 at its block, or 453 at its source block.
+#[derive(Clone, Copy, PartialEq, Eq)]
+pub enum ShortestFault {
     Structure(StructureFault),
     UndeclaredLoop,
     Loop(usize),
@@ -30,130 +35,77 @@ pub enum ShortestReply {
     Inequality(usize),
 }
 
+impl From<StructureFault> for ShortestFault {
+    ghost from_gives = { λ fault result. result ≡ Structure fault };
+
+    fn from(fault: StructureFault) -> Self {
+        ShortestFault::Structure(fault)
+    }
+}
+
+impl ShortestFault {
+    // The number and the place of the refusal.
+    pub fn refusal(self) -> Refusal
+        ensures { refused result.number result.place ≡ shortest_meaning (Err self) }
+    {
+        let (number, place) = match self {
+            ShortestFault::Structure(fault) => return fault.refusal(),
+            ShortestFault::UndeclaredLoop => (209, 0),
+            ShortestFault::Loop(l) => (451, l),
+            ShortestFault::Figure(u) => (452, u),
+            ShortestFault::Inequality(u) => (453, u),
+        };
+        Refusal { number, place }
+    }
+}
+
 // ---- 201
 
 // Whether a column of the certificate has another length than its table, of n blocks or m loops.
-fn sizes_wrong(n: usize, m: usize, figure: &[i64], multiplier: &[u64], least: &[u32]) -> bool
-    ensures { result ≡ not (sized n figure.now && sized m multiplier.now && sized m least.now) }
+fn sizes_wrong(n: usize, m: usize, low: &LowCertificate<'_>) -> bool
+    ensures { result ≡ not (sized n low.now.figure.now && sized m low.now.multiplier.now && sized m low.now.least.now) }
 {
-    if figure.len() != n {
-        return true;
-    }
-    if multiplier.len() != m {
-        return true;
-    }
-    least.len() != m
+    low.figure.len() != n || low.multiplier.len() != m || low.least.len() != m
 }
 
 // ---- 451
 
 // Whether the multiplier or the least visits of loop l are out of range.
-fn loop_wrong(l: usize, multiplier: u64, least: u32) -> bool
-    ensures { result ≡ (when eqb l 0 then not (eqb multiplier 0 && eqb least 1) else (ltb (2 ^ 40) multiplier || ltb 65535 least)) }
+#[tactic(auto, unfolding(wcet::specs::Shortest::low_loop_wrong))]
+fn loop_wrong(low: &LowCertificate<'_>, l: usize) -> bool
+    requires { (l < length low.now.multiplier.now) × (length low.now.multiplier.now ≤ most_loops) × (length low.now.least.now ≡ length low.now.multiplier.now) }
+    ensures { result ≡ low_loop_wrong (certificate_of low.now) l }
 {
+    let (multiplier, least) = (low.multiplier[l], low.least[l]);
     if l == 0 {
-        if multiplier != 0 {
-            return true;
-        }
-        return least != 1;
+        multiplier != 0 || least != 1
+    } else {
+        1099511627776 < multiplier || 65535 < least
     }
-    if 1099511627776 < multiplier {
-        return true;
-    }
-    65535 < least
 }
 
-fn first_wrong_loop(multiplier: &[u64], least: &[u32]) -> Place
-    requires { (length multiplier.now ≤ most_loops) × (length least.now ≡ length multiplier.now) }
-    ensures { place_of result ≡ first_below (length multiplier.now) (low_loop_wrong (low_certificate [] multiplier.now least.now)) }
+fn first_wrong_loop(low: &LowCertificate<'_>) -> Option<usize>
+    requires { (length low.now.multiplier.now ≤ most_loops) × (length low.now.least.now ≡ length low.now.multiplier.now) }
+    ensures { result ≡ first_below (length low.now.multiplier.now) (low_loop_wrong (certificate_of low.now)) }
 {
-    let m = multiplier.len();
-    let mut l = 0;
-    while l < m {
-        if loop_wrong(l, multiplier[l], least[l]) {
-            return Place::At(l);
-        }
-        l += 1;
-    }
-    Place::Nowhere
+    (0..low.multiplier.len()).find(|l| loop_wrong(low, *l))
 }
 
 // ---- 452
 
-fn first_wrong_figure(figure: &[i64]) -> Place
+#[tactic(auto, unfolding(wcet::specs::Shortest::low_figure_wrong))]
+fn figure_wrong(figure: &[i64], u: usize) -> bool
+    requires { (u < length figure.now) × (length figure.now ≤ most_blocks) }
+    ensures { result ≡ low_figure_wrong (low_certificate figure.now [] []) u }
+{
+    nesting::figure_wrong(figure[u])
+}
+
+fn first_wrong_figure(figure: &[i64]) -> Option<usize>
     requires { length figure.now ≤ most_blocks }
-    ensures { place_of result ≡ first_below (length figure.now) (low_figure_wrong (low_certificate figure.now [] [])) }
+    ensures { result ≡ first_below (length figure.now) (low_figure_wrong (low_certificate figure.now [] [])) }
 {
-    let n = figure.len();
-    let mut u = 0;
-    while u < n {
-        if nesting::figure_wrong(figure[u]) {
-            return Place::At(u);
-        }
-        u += 1;
-    }
-    Place::Nowhere
-}
-
-// ---- 453
-
-fn edge_breaks(
-    around: &Sets,
-    cost: &[u32],
-    loops: &[u16],
-    figure: &[i64],
-    header: &[u16],
-    least: &[u32],
-    multiplier: &[u64],
-    u: usize,
-    v: u16,
-) -> bool
-    requires { Weighable (weight_columns cost.now loops.now figure.now header.now least.now multiplier.now) × (u < length cost.now) × Names (length cost.now) v }
-    ensures { result ≡ of_edge v (broken_by ge_z around.now (weight_columns cost.now loops.now figure.now header.now least.now multiplier.now) u) }
-{
-    certificate::edge_broken(
-        Sense::AtLeast,
-        around,
-        cost,
-        loops,
-        figure,
-        header,
-        least,
-        multiplier,
-        u,
-        v,
-    )
-}
-
-// The scan for 208, over edges whose inequalities turn round. It is compiled for that comparison alone, as the other is for its own.
-fn first_broken_inequality(
-    around: &Sets,
-    cost: &[u32],
-    loops: &[u16],
-    first: &[u16],
-    second: &[u16],
-    header: &[u16],
-    figure: &[i64],
-    multiplier: &[u64],
-    least: &[u32],
-) -> Place
-    requires { Weighable (weight_columns cost.now loops.now figure.now header.now least.now multiplier.now) × Linked (length cost.now) first.now second.now }
-    ensures { place_of result ≡ first_below (length cost.now) (any_broken_by ge_z around.now first.now second.now (weight_columns cost.now loops.now figure.now header.now least.now multiplier.now)) }
-{
-    let n = cost.len();
-    let mut u = 0;
-    while u < n {
-        let v = first[u];
-        if edge_breaks(around, cost, loops, figure, header, least, multiplier, u, v) {
-            return Place::At(u);
-        }
-        let v = second[u];
-        if edge_breaks(around, cost, loops, figure, header, least, multiplier, u, v) {
-            return Place::At(u);
-        }
-        u += 1;
-    }
-    Place::Nowhere
+    (0..figure.len()).find(|u| figure_wrong(figure, *u))
 }
 
 // ---- the reply
@@ -162,77 +114,42 @@ fn first_broken_inequality(
 // bound.
 fn certify(
     around: &Sets,
-    cost: &[u32],
-    loops: &[u16],
-    first: &[u16],
-    second: &[u16],
-    header: &[u16],
-    figure: &[i64],
-    multiplier: &[u64],
-    least: &[u32],
-) -> ShortestReply
-    requires { Comparable (weight_columns cost.now loops.now figure.now header.now least.now multiplier.now) × Linked (length cost.now) first.now second.now }
-    ensures { Certified around.now cost.now loops.now first.now second.now header.now (low_certificate figure.now multiplier.now least.now) (shortest_meaning result) }
+    tables: &Tables<'_>,
+    low: &LowCertificate<'_>,
+) -> Result<i64, ShortestFault>
+    requires { AllHold (structure_rules (routine_of tables.now)) × (around.now ≡ sets_around tables.now.parent.now) × (low_sizes_wrong (routine_of tables.now) (certificate_of low.now) ≡ false) }
+    ensures { shortest_meaning result ≡ shortest_reply (routine_of tables.now) (certificate_of low.now) }
 {
-    let order = order::order_of(around, loops, first, second, header);
-    if order.count < cost.len() {
-        return ShortestReply::UndeclaredLoop;
+    let order = order::order_of(around, tables);
+    if order.count < tables.cost.len() {
+        return Err(ShortestFault::UndeclaredLoop);
     }
-    let place = first_wrong_loop(multiplier, least);
-    if let Place::At(l) = place {
-        return ShortestReply::Loop(l);
+    if let Some(l) = first_wrong_loop(low) {
+        return Err(ShortestFault::Loop(l));
     }
-    let place = first_wrong_figure(figure);
-    if let Place::At(u) = place {
-        return ShortestReply::Figure(u);
+    if let Some(u) = first_wrong_figure(low.figure) {
+        return Err(ShortestFault::Figure(u));
     }
-    let place = first_broken_inequality(
-        around, cost, loops, first, second, header, figure, multiplier, least,
-    );
-    if let Place::At(u) = place {
-        return ShortestReply::Inequality(u);
+    let claimed = Tables {
+        figure: low.figure,
+        limit: low.least,
+        multiplier: low.multiplier,
+        ..*tables
+    };
+    if let Some(u) = certificate::first_broken::<AtLeast>(around, &claimed) {
+        return Err(ShortestFault::Inequality(u));
     }
-    ShortestReply::Accepted(certificate::bound_at_exit(cost, figure))
+    Ok(certificate::bound_at_exit(tables.cost, low.figure))
 }
 
 // The reply to a second certificate of a pair of tables: the lower bound of the routine, or the first broken rule. With it comes what an
 // accepted number means for every finished run.
-pub fn shortest(
-    cost: &[u32],
-    loops: &[u16],
-    first: &[u16],
-    second: &[u16],
-    figure: &[i64],
-    parent: &[u16],
-    header: &[u16],
-    limit: &[u32],
-    multiplier: &[u64],
-    low_figure: &[i64],
-    low_multiplier: &[u64],
-    least: &[u32],
-) -> ShortestReply
-    ensures { ShortestChecked (routine cost.now loops.now first.now second.now figure.now parent.now header.now limit.now multiplier.now) (low_certificate low_figure.now low_multiplier.now least.now) (shortest_meaning result) }
+pub fn shortest(tables: &Tables<'_>, low: &LowCertificate<'_>) -> Result<i64, ShortestFault>
+    ensures { ShortestChecked (routine_of tables.now) (certificate_of low.now) (shortest_meaning result) }
 {
-    if sizes_wrong(cost.len(), parent.len(), low_figure, low_multiplier, least) {
-        return ShortestReply::Structure(StructureFault::Sizes);
+    if sizes_wrong(tables.cost.len(), tables.parent.len(), low) {
+        return Err(ShortestFault::Structure(StructureFault::Sizes));
     }
-    let checked = nesting::check_structure(
-        cost, loops, first, second, figure, parent, header, limit, multiplier,
-    );
-    let answer = checked.answer;
-    if let Structure::Broken(fault) = answer {
-        return ShortestReply::Structure(fault);
-    }
-    let around = checked.around;
-    certify(
-        &around,
-        cost,
-        loops,
-        first,
-        second,
-        header,
-        low_figure,
-        low_multiplier,
-        least,
-    )
+    let around = nesting::check_structure(tables)?;
+    certify(&around, tables, low)
 }

@@ -1,33 +1,37 @@
-use mathlib.Core.Path.{◌∙◌, ap}
-use mathlib.Core.List.{List}
-use Prim.Native.Nat.{ℕ}
-use native.Mathlib.Omega.{arith}
-use mir.Syntax.{w64}
-use mir.Val.{SFits}
+use Rattle.std.proofs.Common.{◌∙◌, ap, arith, FitsSigned, w64}
 use mir.Facts.{to_z-of_z}
-use Rattle.wcet.specs.Table.{Routine}
 use Rattle.wcet.specs.Rules.{accepted, bound}
-use Rattle.nesting.specs.Columns.{routine}
+use Rattle.nesting.specs.Columns.{routine_of, Ranged}
+use Rattle.nesting.proofs.Stages.{headed, innermost, linked}
+use Rattle.certificate.proofs.Edge.{weighable, priced_of}
 use Rattle.certificate.proofs.Reply.{undeclared_refused, inequality_refused, bound_accepted}
 use Rattle.certificate.proofs.certify.Goals as goal
 
 pub order_of-order-requires : goal.order_of-order-requires
-order_of-order-requires c = let p = c.requires in (p.0.innermost, rw p.0.loops p.1)
+order_of-order-requires c =
+    let t = routine_of c.args.tables.now in
+    let R : Ranged t = (headed t c.requires.0).ranged in
+    (innermost t R, rw R.sized.loops (linked t R))
 
-pub returns-then-order-cost : goal.returns-then-order-cost
-returns-then-order-cost c = λ parents holds S.
-    let with-parents : List ℕ → Routine = λ parents. let a = c.args in routine a.cost.now a.loops.now a.first.now a.second.now a.figure.now parents a.header.now a.limit.now a.multiplier.now in
-    undeclared_refused (with-parents parents) holds _ (c.order_of-order.ensures _ _ _ _ _ holds S) (omega arith)
+pub returns-then-order-tables : goal.returns-then-order-tables
+returns-then-order-tables c = undeclared_refused (routine_of c.args.tables.now) c.requires.0 _ (c.order_of-order.ensures _ _ _ _ _ c.requires.0 c.requires.1) (omega arith)
 
-pub returns-in-At : goal.returns-in-At
-returns-in-At c = λ parents holds S.
-    let with-parents : List ℕ → Routine = λ parents. let a = c.args in routine a.cost.now a.loops.now a.first.now a.second.now a.figure.now parents a.header.now a.limit.now a.multiplier.now in
-    inequality_refused (with-parents parents) holds _ (c.order_of-order.ensures _ _ _ _ _ holds S) (omega arith) _ S _ c.first_broken_inequality-place.ensures _ c.in-At.is
+pub first_broken-requires : goal.first_broken-requires
+first_broken-requires c =
+    let t = routine_of c.args.tables.now in
+    let R : Ranged t = (headed t c.requires.0).ranged in
+    (weighable t R, linked t R)
+
+pub returns-in-Some : goal.returns-in-Some
+returns-in-Some c =
+    inequality_refused (routine_of c.args.tables.now) c.requires.0 _ (c.order_of-order.ensures _ _ _ _ _ c.requires.0 c.requires.1) (omega arith) _ c.requires.1 _ c.first_broken.ensures _ c.in-Some.is
+
+pub bound_at_exit-requires : goal.bound_at_exit-requires
+bound_at_exit-requires c = let t = routine_of c.args.tables.now in priced_of t (weighable t (headed t c.requires.0).ranged)
 
 pub returns : goal.returns
 unfolding bound
-returns c = λ parents holds S.
-    let with-parents : List ℕ → Routine = λ parents. let a = c.args in routine a.cost.now a.loops.now a.first.now a.second.now a.figure.now parents a.header.now a.limit.now a.multiplier.now in
-    let fits : SFits w64 c.bound_at_exit.result = record { sfits = c.bound_at_exit.type_inv } in
+returns c =
+    let fits : FitsSigned w64 c.bound_at_exit.result = record { sfits = c.bound_at_exit.type_inv } in
     ap accepted (to_z-of_z fits ∙ c.bound_at_exit.ensures)
-    ∙ bound_accepted (with-parents parents) holds _ (c.order_of-order.ensures _ _ _ _ _ holds S) (omega arith) _ S _ c.first_broken_inequality-place.ensures c.in_default.is
+    ∙ bound_accepted (routine_of c.args.tables.now) c.requires.0 _ (c.order_of-order.ensures _ _ _ _ _ c.requires.0 c.requires.1) (omega arith) _ c.requires.1 _ c.first_broken.ensures c.in_default.is

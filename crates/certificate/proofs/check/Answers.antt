@@ -1,19 +1,18 @@
-use Rattle.nesting.specs.Columns.{routine, Ranged}
-use Rattle.nesting.proofs.Stages.{linked}
-use Rattle.certificate.proofs.Edge.{weighed, priced}
+use Rattle.std.proofs.lemmas.Result.{err_from_is_err_and}
 use Rattle.wcet.proofs.Bound.{checked}
-use Rattle.certificate.proofs.Reply.{ranged}
+use Rattle.nesting.specs.Columns.{routine_of}
+use Rattle.nesting.proofs.Chain.{sound_holds, sound_sets}
+use Rattle.certificate.proofs.Reply.{structure_refused}
 use Rattle.certificate.proofs.check.Goals as goal
 
-pub reply_after-requires : goal.reply_after-requires
-reply_after-requires c =
-    let at_entry = let a = c.args in routine a.cost.now a.loops.now a.first.now a.second.now a.figure.now a.parent.now a.header.now a.limit.now a.multiplier.now in
-    λ e.
-    let t = at_entry in
-    let R : Ranged t = ranged t _ c.check_structure-checked.ensures e in
-    (weighed t R, linked t R, priced t R)
+pub returns-in_err-around : goal.returns-in_err-around
+returns-in_err-around c =
+    let t = routine_of c.args.tables.now in
+    let p = err_from_is_err_and c.from_residual.result c.from_residual.ensures.1 in
+    rw (p.1, p.2) (checked t _ (structure_refused t _ c.in_err-around.ensures))
+
+pub certify-requires : goal.certify-requires
+certify-requires c = let t = routine_of c.args.tables.now in (sound_holds t _ c.in_ok-around.ensures, sound_sets t _ c.in_ok-around.ensures)
 
 pub returns : goal.returns
-returns c =
-    let at_entry = let a = c.args in routine a.cost.now a.loops.now a.first.now a.second.now a.figure.now a.parent.now a.header.now a.limit.now a.multiplier.now in
-    checked (at_entry) _ (c.reply_after.ensures _ c.check_structure-checked.ensures)
+returns c = checked (routine_of c.args.tables.now) _ c.certify.ensures

@@ -19,53 +19,31 @@ loop-i-init c = taken_start _ _ _ _ _ c.sources-count.ensures.0 c.sources-count.
 
 pub offset_bounds-blocks-i : goal.offset_bounds-blocks-i
 offset_bounds-blocks-i c =
-    let few : (length c.args.loops.now ≤ most_blocks) × (c.loop-i.count ≤ length c.args.loops.now) = (c.requires.1.few, c.loop-i.invariant.queued.few) in
+    let few : (length c.args.tables.now.loops.now ≤ most_blocks) × (c.loop-i.count ≤ length c.args.tables.now.loops.now) = (c.requires.1.few, c.loop-i.invariant.queued.few) in
     omega (arith, few)
 
 pub bounds-blocks-i : goal.bounds-blocks-i
 bounds-blocks-i c =
-    let few : (length c.args.loops.now ≤ most_blocks) × (c.loop-i.count ≤ length c.args.loops.now) = (c.requires.1.few, c.loop-i.invariant.queued.few) in
+    let few : (length c.args.tables.now.loops.now ≤ most_blocks) × (c.loop-i.count ≤ length c.args.tables.now.loops.now) = (c.requires.1.few, c.loop-i.invariant.queued.few) in
     omega (arith, few)
 
 pub overflow_cast-u : goal.overflow_cast-u
 overflow_cast-u c =
-    let few : (length c.args.loops.now ≤ most_blocks) × (c.loop-i.count ≤ length c.args.loops.now) = (c.requires.1.few, c.loop-i.invariant.queued.few) in
-    let low : get_or c.loop-i.blocks c.loop-i.i 0 < length c.args.loops.now = let loop = c.loop-i in block_low _ _ _ _ _ c.requires.1 loop.i loop.counts loop.blocks loop.count (omega arith) loop.invariant in
+    let few : (length c.args.tables.now.loops.now ≤ most_blocks) × (c.loop-i.count ≤ length c.args.tables.now.loops.now) = (c.requires.1.few, c.loop-i.invariant.queued.few) in
+    let low : get_or c.loop-i.blocks c.loop-i.i 0 < length c.args.tables.now.loops.now = let loop = c.loop-i in block_low _ _ _ _ _ c.requires.1 loop.i loop.counts loop.blocks loop.count (omega arith) loop.invariant in
     omega (arith, low, few)
-
-pub offset_bounds-first-u : goal.offset_bounds-first-u
-offset_bounds-first-u c =
-    let few : (length c.args.loops.now ≤ most_blocks) × (c.loop-i.count ≤ length c.args.loops.now) = (c.requires.1.few, c.loop-i.invariant.queued.few) in
-    let low : get_or c.loop-i.blocks c.loop-i.i 0 < length c.args.loops.now = let loop = c.loop-i in block_low _ _ _ _ _ c.requires.1 loop.i loop.counts loop.blocks loop.count (omega arith) loop.invariant in
-    omega (arith, low, few)
-
-pub bounds-first-u : goal.bounds-first-u
-bounds-first-u c =
-    let low : get_or c.loop-i.blocks c.loop-i.i 0 < length c.args.loops.now = let loop = c.loop-i in block_low _ _ _ _ _ c.requires.1 loop.i loop.counts loop.blocks loop.count (omega arith) loop.invariant in
-    omega (arith, low, c.requires.1.first_size)
 
 pub remove_edge-count-requires : goal.remove_edge-count-requires
 remove_edge-count-requires c =
-    let low : get_or c.loop-i.blocks c.loop-i.i 0 < length c.args.loops.now = let loop = c.loop-i in block_low _ _ _ _ _ c.requires.1 loop.i loop.counts loop.blocks loop.count (omega arith) loop.invariant in
+    let low : get_or c.loop-i.blocks c.loop-i.i 0 < length c.args.tables.now.loops.now = let loop = c.loop-i in block_low _ _ _ _ _ c.requires.1 loop.i loop.counts loop.blocks loop.count (omega arith) loop.invariant in
     let loop = c.loop-i in
     let p = c.requires in
     let u = low in
     (p.0, u, p.1.first_names _ u, first_removable _ _ _ _ _ p.1 loop.i loop.counts loop.blocks loop.count (omega arith) loop.invariant)
 
-pub offset_bounds-second-u : goal.offset_bounds-second-u
-offset_bounds-second-u c =
-    let few : (length c.args.loops.now ≤ most_blocks) × (c.loop-i.count ≤ length c.args.loops.now) = (c.requires.1.few, c.loop-i.invariant.queued.few) in
-    let low : get_or c.loop-i.blocks c.loop-i.i 0 < length c.args.loops.now = let loop = c.loop-i in block_low _ _ _ _ _ c.requires.1 loop.i loop.counts loop.blocks loop.count (omega arith) loop.invariant in
-    omega (arith, low, few)
-
-pub bounds-second-u : goal.bounds-second-u
-bounds-second-u c =
-    let low : get_or c.loop-i.blocks c.loop-i.i 0 < length c.args.loops.now = let loop = c.loop-i in block_low _ _ _ _ _ c.requires.1 loop.i loop.counts loop.blocks loop.count (omega arith) loop.invariant in
-    omega (arith, low, c.requires.1.second_size)
-
 pub remove_edge-count-requires-in-loop-i : goal.remove_edge-count-requires-in-loop-i
 remove_edge-count-requires-in-loop-i c =
-    let low : get_or c.loop-i.blocks c.loop-i.i 0 < length c.args.loops.now = let loop = c.loop-i in block_low _ _ _ _ _ c.requires.1 loop.i loop.counts loop.blocks loop.count (omega arith) loop.invariant in
+    let low : get_or c.loop-i.blocks c.loop-i.i 0 < length c.args.tables.now.loops.now = let loop = c.loop-i in block_low _ _ _ _ _ c.requires.1 loop.i loop.counts loop.blocks loop.count (omega arith) loop.invariant in
     let loop = c.loop-i in
     let p = c.requires in
     let u = low in
@@ -73,12 +51,12 @@ remove_edge-count-requires-in-loop-i c =
 
 pub overflow_add-i : goal.overflow_add-i
 overflow_add-i c =
-    let few : (length c.args.loops.now ≤ most_blocks) × (c.loop-i.count ≤ length c.args.loops.now) = (c.requires.1.few, c.loop-i.invariant.queued.few) in
+    let few : (length c.args.tables.now.loops.now ≤ most_blocks) × (c.loop-i.count ≤ length c.args.tables.now.loops.now) = (c.requires.1.few, c.loop-i.invariant.queued.few) in
     omega (arith, few)
 
 pub loop-i-smaller : goal.loop-i-smaller
 loop-i-smaller c =
-    let few : (length c.args.loops.now ≤ most_blocks) × (c.loop-i.count ≤ length c.args.loops.now) = (c.requires.1.few, c.loop-i.invariant.queued.few) in
+    let few : (length c.args.tables.now.loops.now ≤ most_blocks) × (c.loop-i.count ≤ length c.args.tables.now.loops.now) = (c.requires.1.few, c.loop-i.invariant.queued.few) in
     omega (arith, few)
 
 pub loop-i-preserved : goal.loop-i-preserved
@@ -90,5 +68,5 @@ returns c = λ costs figures parents limits multipliers holds S.
     let loop = c.loop-i in
     let a = c.args in
     let done : loop.i ≡ loop.count = omega (arith, loop.invariant.within) in
-    ordering (routine costs a.loops.now a.first.now a.second.now figures parents a.header.now limits multipliers) holds a.around.now S loop.counts loop.blocks loop.count
+    ordering (routine costs a.tables.now.loops.now a.tables.now.first.now a.tables.now.second.now figures parents a.tables.now.header.now limits multipliers) holds a.around.now S loop.counts loop.blocks loop.count
     (rw done at loop.invariant)

@@ -1,89 +1,69 @@
-use mathlib.Core.Path.{◌≡◌, ◌∙◌, ap}
-use native.Mathlib.Omega.{arith}
-use lib.ListN.{length}
-use mir.Syntax.{w64}
-use mir.Val.{SFits}
+use Rattle.std.proofs.Common.{◌∙◌, sym, ap, arith, FitsSigned, w64}
 use mir.Facts.{to_z-of_z}
-use Rattle.lists.specs.Search.{first_below}
 use Rattle.wcet.specs.Rules.{accepted, bound}
 use Rattle.wcet.specs.Shortest.{low_loop_wrong, low_figure_wrong, low_bound}
-use Rattle.nesting.specs.Columns.{routine}
-use Rattle.nesting.specs.Answers.{place_of}
+use Rattle.nesting.specs.Columns.{routine_of, Ranged}
 use Rattle.nesting.proofs.Chain.{place_holds}
-use Rattle.certificate.specs.Columns.{weight_columns, Weighable}
-use Rattle.certificate.proofs.Edge.{priced_of}
-use Rattle.shortest.specs.Answers.{low_certificate}
+use Rattle.nesting.proofs.Stages.{headed, innermost, linked}
+use Rattle.certificate.proofs.Edge.{claiming, priced_of}
+use Rattle.shortest.specs.Answers.{certificate_of}
 use Rattle.shortest.proofs.Ranges.{weighed}
-use Rattle.shortest.proofs.Reply.{undeclared_refused, loop_refused, figure_refused, inequality_refused, bound_accepted}
+use Rattle.shortest.proofs.Reply.{Fits, fits, columns_comparable, undeclared_refused, loop_refused, figure_refused, inequality_refused, bound_accepted}
 use Rattle.shortest.proofs.certify.Goals as goal
 
 pub order_of-order-requires : goal.order_of-order-requires
-order_of-order-requires c = let p = c.requires in (p.0.innermost, rw p.0.loops p.1)
+order_of-order-requires c =
+    let t = routine_of c.args.tables.now in
+    let R : Ranged t = (headed t c.requires.0).ranged in
+    (innermost t R, rw R.sized.loops (linked t R))
 
-pub returns-then-order-cost : goal.returns-then-order-cost
-returns-then-order-cost c = λ figures parents limits multipliers holds S fit.
-    let claimed = let a = c.args in low_certificate a.figure.now a.multiplier.now a.least.now in
-    let a = c.args in
-    let tables = routine a.cost.now a.loops.now a.first.now a.second.now figures parents a.header.now limits multipliers in
-    undeclared_refused tables claimed fit holds _ (c.order_of-order.ensures _ _ _ _ _ holds S) (omega arith)
+pub returns-then-order-tables : goal.returns-then-order-tables
+returns-then-order-tables c =
+    undeclared_refused (routine_of c.args.tables.now) (certificate_of c.args.low.now) c.requires.2 c.requires.0 _ (c.order_of-order.ensures _ _ _ _ _ c.requires.0 c.requires.1) (omega arith)
 
-pub returns-in-At : goal.returns-in-At
-unfolding low_loop_wrong
-returns-in-At c = λ figures parents limits multipliers holds S fit.
-    let claimed = let a = c.args in low_certificate a.figure.now a.multiplier.now a.least.now in
-    let a = c.args in
-    let tables = routine a.cost.now a.loops.now a.first.now a.second.now figures parents a.header.now limits multipliers in
-    let at-loop : place_of c.first_wrong_loop-place.result ≡ first_below (length claimed.multipliers) (low_loop_wrong claimed) = c.first_wrong_loop-place.ensures in
-    loop_refused tables claimed fit holds _ (c.order_of-order.ensures _ _ _ _ _ holds S) (omega arith) _ at-loop _ c.in-At.is
+pub first_wrong_loop-requires : goal.first_wrong_loop-requires
+first_wrong_loop-requires c =
+    let t = routine_of c.args.tables.now in
+    let F : Fits t (certificate_of c.args.low.now) c.requires.2 = fits t (certificate_of c.args.low.now) c.requires.2 in
+    (omega (arith, F.multipliers, (headed t c.requires.0).ranged.sized.few_loops), F.leasts ∙ sym F.multipliers)
 
-pub returns-in-At-place : goal.returns-in-At-place
-unfolding low_loop_wrong low_figure_wrong
-returns-in-At-place c = λ figures parents limits multipliers holds S fit.
-    let claimed = let a = c.args in low_certificate a.figure.now a.multiplier.now a.least.now in
-    let a = c.args in
-    let tables = routine a.cost.now a.loops.now a.first.now a.second.now figures parents a.header.now limits multipliers in
-    let at-loop : place_of c.first_wrong_loop-place.result ≡ first_below (length claimed.multipliers) (low_loop_wrong claimed) = c.first_wrong_loop-place.ensures in
-    let at-figure : place_of c.first_wrong_figure-place.result ≡ first_below (length claimed.figures) (low_figure_wrong claimed) = c.first_wrong_figure-place.ensures in
-    figure_refused tables claimed fit holds _ (c.order_of-order.ensures _ _ _ _ _ holds S) (omega arith) _ at-loop c.in_default.is _ at-figure _ c.in-At-place.is
+pub returns-in-Some : goal.returns-in-Some
+returns-in-Some c =
+    loop_refused (routine_of c.args.tables.now) (certificate_of c.args.low.now) c.requires.2 c.requires.0 _ (c.order_of-order.ensures _ _ _ _ _ c.requires.0 c.requires.1) (omega arith) _ c.first_wrong_loop.ensures _ c.in-Some.is
 
-pub first_broken_inequality-place-requires : goal.first_broken_inequality-place-requires
-unfolding low_loop_wrong low_figure_wrong
-first_broken_inequality-place-requires c =
-    let claimed = let a = c.args in low_certificate a.figure.now a.multiplier.now a.least.now in
-    let at-loop : place_of c.first_wrong_loop-place.result ≡ first_below (length claimed.multipliers) (low_loop_wrong claimed) = c.first_wrong_loop-place.ensures in
-    let at-figure : place_of c.first_wrong_figure-place.result ≡ first_below (length claimed.figures) (low_figure_wrong claimed) = c.first_wrong_figure-place.ensures in
-    let in_range : Weighable (weight_columns c.args.cost.now c.args.loops.now c.args.figure.now c.args.header.now c.args.least.now c.args.multiplier.now) =
-    weighed claimed c.args.cost.now c.args.loops.now c.args.header.now c.requires.0 (place_holds _ (low_loop_wrong claimed) _ at-loop c.in_default.is) (place_holds _ (low_figure_wrong claimed) _ at-figure c.in_default-place.is) in
-    (in_range, c.requires.1)
+pub first_wrong_figure-requires : goal.first_wrong_figure-requires
+first_wrong_figure-requires c =
+    let t = routine_of c.args.tables.now in
+    let F : Fits t (certificate_of c.args.low.now) c.requires.2 = fits t (certificate_of c.args.low.now) c.requires.2 in
+    omega (arith, F.figures, (headed t c.requires.0).ranged.sized.few_blocks)
 
-pub returns-in-At-place-2 : goal.returns-in-At-place-2
-unfolding low_loop_wrong low_figure_wrong
-returns-in-At-place-2 c = λ figures parents limits multipliers holds S fit.
-    let claimed = let a = c.args in low_certificate a.figure.now a.multiplier.now a.least.now in
-    let a = c.args in
-    let tables = routine a.cost.now a.loops.now a.first.now a.second.now figures parents a.header.now limits multipliers in
-    let at-loop : place_of c.first_wrong_loop-place.result ≡ first_below (length claimed.multipliers) (low_loop_wrong claimed) = c.first_wrong_loop-place.ensures in
-    let at-figure : place_of c.first_wrong_figure-place.result ≡ first_below (length claimed.figures) (low_figure_wrong claimed) = c.first_wrong_figure-place.ensures in
-    inequality_refused tables claimed fit holds _ (c.order_of-order.ensures _ _ _ _ _ holds S) (omega arith) _ at-loop c.in_default.is _ at-figure c.in_default-place.is _ S _ c.first_broken_inequality-place.ensures _ c.in-At-place-2.is
+pub returns-in-Some-first_wrong_figure : goal.returns-in-Some-first_wrong_figure
+unfolding low_figure_wrong
+returns-in-Some-first_wrong_figure c =
+    figure_refused (routine_of c.args.tables.now) (certificate_of c.args.low.now) c.requires.2 c.requires.0 _ (c.order_of-order.ensures _ _ _ _ _ c.requires.0 c.requires.1) (omega arith) _ c.first_wrong_loop.ensures c.in_default.is _ c.first_wrong_figure.ensures _ c.in-Some-first_wrong_figure.is
+
+pub first_broken-requires : goal.first_broken-requires
+unfolding low_figure_wrong
+first_broken-requires c =
+    let t = routine_of c.args.tables.now in
+    let claimed = certificate_of c.args.low.now in
+    (weighed claimed t (columns_comparable t claimed c.requires.2 c.requires.0) (place_holds _ (low_loop_wrong claimed) _ c.first_wrong_loop.ensures c.in_default.is) (place_holds _ (low_figure_wrong claimed) _ c.first_wrong_figure.ensures c.in_default-first_wrong_figure.is), linked t (headed t c.requires.0).ranged)
+
+pub returns-in-Some-first_broken : goal.returns-in-Some-first_broken
+unfolding low_figure_wrong
+returns-in-Some-first_broken c =
+    inequality_refused (routine_of c.args.tables.now) (certificate_of c.args.low.now) c.requires.2 c.requires.0 _ (c.order_of-order.ensures _ _ _ _ _ c.requires.0 c.requires.1) (omega arith) _ c.first_wrong_loop.ensures c.in_default.is _ c.first_wrong_figure.ensures c.in_default-first_wrong_figure.is _ c.requires.1 _ c.first_broken.ensures _ c.in-Some-first_broken.is
 
 pub bound_at_exit-requires : goal.bound_at_exit-requires
-unfolding low_loop_wrong low_figure_wrong
+unfolding low_figure_wrong
 bound_at_exit-requires c =
-    let claimed = let a = c.args in low_certificate a.figure.now a.multiplier.now a.least.now in
-    let at-loop : place_of c.first_wrong_loop-place.result ≡ first_below (length claimed.multipliers) (low_loop_wrong claimed) = c.first_wrong_loop-place.ensures in
-    let at-figure : place_of c.first_wrong_figure-place.result ≡ first_below (length claimed.figures) (low_figure_wrong claimed) = c.first_wrong_figure-place.ensures in
-    let in_range : Weighable (weight_columns c.args.cost.now c.args.loops.now c.args.figure.now c.args.header.now c.args.least.now c.args.multiplier.now) =
-    weighed claimed c.args.cost.now c.args.loops.now c.args.header.now c.requires.0 (place_holds _ (low_loop_wrong claimed) _ at-loop c.in_default.is) (place_holds _ (low_figure_wrong claimed) _ at-figure c.in_default-place.is) in
-    priced_of _ in_range
+    let t = routine_of c.args.tables.now in
+    let claimed = certificate_of c.args.low.now in
+    priced_of (claiming t claimed.figures claimed.leasts claimed.multipliers) (weighed claimed t (columns_comparable t claimed c.requires.2 c.requires.0) (place_holds _ (low_loop_wrong claimed) _ c.first_wrong_loop.ensures c.in_default.is) (place_holds _ (low_figure_wrong claimed) _ c.first_wrong_figure.ensures c.in_default-first_wrong_figure.is))
 
 pub returns : goal.returns
-unfolding bound low_bound low_loop_wrong low_figure_wrong
-returns c = λ figures parents limits multipliers holds S fit.
-    let claimed = let a = c.args in low_certificate a.figure.now a.multiplier.now a.least.now in
-    let a = c.args in
-    let tables = routine a.cost.now a.loops.now a.first.now a.second.now figures parents a.header.now limits multipliers in
-    let at-loop : place_of c.first_wrong_loop-place.result ≡ first_below (length claimed.multipliers) (low_loop_wrong claimed) = c.first_wrong_loop-place.ensures in
-    let at-figure : place_of c.first_wrong_figure-place.result ≡ first_below (length claimed.figures) (low_figure_wrong claimed) = c.first_wrong_figure-place.ensures in
-    let fits : SFits w64 c.bound_at_exit.result = record { sfits = c.bound_at_exit.type_inv } in
-    ap accepted (to_z-of_z fits ∙ c.bound_at_exit.ensures)
-    ∙ bound_accepted tables claimed fit holds _ (c.order_of-order.ensures _ _ _ _ _ holds S) (omega arith) _ at-loop c.in_default.is _ at-figure c.in_default-place.is _ S _ c.first_broken_inequality-place.ensures c.in_default-place-2.is
+unfolding bound low_bound low_figure_wrong
+returns c =
+    let fits_word : FitsSigned w64 c.bound_at_exit.result = record { sfits = c.bound_at_exit.type_inv } in
+    ap accepted (to_z-of_z fits_word ∙ c.bound_at_exit.ensures)
+    ∙ bound_accepted (routine_of c.args.tables.now) (certificate_of c.args.low.now) c.requires.2 c.requires.0 _ (c.order_of-order.ensures _ _ _ _ _ c.requires.0 c.requires.1) (omega arith) _ c.first_wrong_loop.ensures c.in_default.is _ c.first_wrong_figure.ensures c.in_default-first_wrong_figure.is _ c.requires.1 _ c.first_broken.ensures c.in_default-first_broken.is

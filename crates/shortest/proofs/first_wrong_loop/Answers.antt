@@ -1,18 +1,12 @@
-use mathlib.Core.Path.{sym, ◌∙◌}
-use native.Mathlib.Omega.{arith}
-use borrow.Author.Count.{below_more}
-use Rattle.nesting.proofs.Scan.{stops, clear}
-use Rattle.shortest.proofs.Ranges.{loop_rule}
+use Rattle.std.proofs.Common.{◌≡◌, ℕ, true, false, length, rules}
+use Rattle.std.proofs.lemmas.Iterator.{first_from_Range}
+use Rattle.lists.proofs.Search.{found_first}
+use Rattle.wcet.specs.Shortest.{low_loop_wrong}
+use Rattle.shortest.specs.Answers.{certificate_of}
 use Rattle.shortest.proofs.first_wrong_loop.Goals as goal
 
-pub loop-l-init : goal.loop-l-init
-loop-l-init c = (omega arith, λ k h. absurd (omega arith))
-
-pub returns-then-loop_wrong : goal.returns-then-loop_wrong
-returns-then-loop_wrong c = stops _ _ c.loop-l.l (omega arith) c.loop-l.invariant.1 (loop_rule _ c.loop-l.l ∙ sym c.loop_wrong.ensures ∙ c.if-loop_wrong.true)
-
-pub loop-l-preserved : goal.loop-l-preserved
-loop-l-preserved c = (omega arith, below_more _ c.loop-l.l c.loop-l.invariant.1 (loop_rule _ c.loop-l.l ∙ sym c.loop_wrong.ensures ∙ c.if-loop_wrong.false))
-
 pub returns : goal.returns
-returns c = clear _ _ c.loop-l.l (omega arith) c.loop-l.invariant.1
+returns c =
+    let broken = low_loop_wrong (certificate_of c.args.low.now) in
+    found_first (length c.args.low.now.multiplier.now) broken _
+    (first_from_Range _ _ _ _ (λ (i : ℕ). broken i ≡ true) (λ (i : ℕ). broken i ≡ false) c.find.ensures.ran (λ x q h. search rules) (λ x q h. search rules))
