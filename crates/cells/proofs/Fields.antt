@@ -1,24 +1,13 @@
 -- What a field says as a number: quote marks make no difference, and a number that is read fits its width.
 -- Assumes nothing.
-use mathlib.Core.Path.{◌≡◌, refl, ap, ◌∙◌}
-use mathlib.Core.Bool.{Bool, true, false, cond, ◌&&◌, ◌||◌, and-false, false≢true}
-use mathlib.Core.List.{List, [], ◌∷◌}
-use Prim.Native.Nat.{ℕ, ◌≤◌}
-use native.Mathlib.Omega.{arith}
-use borrow.Author.Tests.{eqb-true}
-use lib.Dec.{eqb}
-use lib.IntN.{ℤ}
-use lib.ListN.{drop}
-use mir.Syntax.{w64}
-use mir.Val.{SFits}
+use Rattle.std.proofs.Common.{◌≡◌, refl, ap, ◌∙◌, Bool, true, false, cond, ◌&&◌, ◌||◌, List, [], ◌∷◌, ℕ, ◌≤◌, eqb, ℤ, drop, Result, Ok, Err, SFits, w64, arith, eqb-true}
+use mathlib.Core.Bool.{and-false, false≢true}
 use Rattle.digits.specs.Decimal.{digit, digits}
-use Rattle.digits.specs.declared.Value.{Value}
-use Rattle.digits.specs.declared.Value.TheVariants.{Number, Bad}
+use Rattle.digits.specs.declared.NotNumber.{NotNumber}
+use Rattle.digits.specs.declared.NotNumber.TheVariants.{Bad}
 use Rattle.numbers.specs.Number.{natural, integer}
-use Rattle.numbers.specs.Steps.{sign_count}
-use Rattle.numbers.specs.declared.SignedValue.{SignedValue}
-use Rattle.numbers.specs.declared.SignedValue.TheVariants.{Number as Signed, Bad as BadSigned}
-use Rattle.numbers.proofs.Numbers.{no_digits, no_integer, natural_fits, integer_fits}
+use Rattle.numbers.specs.Steps.{sign_count, in_type}
+use Rattle.numbers.proofs.Numbers.{no_digits, no_integer, natural_fits, integer_fits, in_type_same}
 use Rattle.csv_text.specs.Grammar.{is_quote, content}
 use Rattle.csv_text.specs.Place.{inner}
 use Rattle.csv_text.proofs.Quotes.{has_mark, through}
@@ -48,20 +37,22 @@ mark_after_sign (b ∷ s) m = go (eqb b 45) refl m
     go false g m = m
 
 -- Each way through the functions on a field: r is what its inner part says.
-pub unsigned_law : {r : Value} {t : List ℕ} (w : List ℕ) (greatest : ℕ) → t ≡ inner w → r ≡ natural greatest t → r ≡ unsigned greatest w
+pub unsigned_law : {r : Result ℕ NotNumber} {t : List ℕ} (w : List ℕ) {g : ℕ} (greatest : ℕ) → t ≡ inner w → g ≡ greatest → r ≡ in_type (λ n. n) (natural g t) → r ≡ unsigned greatest w
 unfolding unsigned
-unsigned_law w greatest e q = q ∙ ap (natural greatest) e ∙ through (natural greatest) Bad (λ s m. no_digits s greatest (mark_no_digits s m)) w
+unsigned_law {r} {t} w {g} greatest e z q =
+    let y : r ≡ natural g t = q ∙ in_type_same (natural g t) in
+    y ∙ rw (z, e) (through (natural greatest) (Err Bad) (λ s m. no_digits s greatest (mark_no_digits s m)) w)
 
-pub signed_law : {r : SignedValue} {t : List ℕ} (w : List ℕ) → t ≡ inner w → r ≡ integer t → r ≡ signed w
+pub signed_law : {r : Result ℤ NotNumber} {t : List ℕ} (w : List ℕ) → t ≡ inner w → r ≡ integer t → r ≡ signed w
 unfolding signed
-signed_law w e q = q ∙ ap integer e ∙ through integer BadSigned (λ s m. no_integer s (mark_no_digits (drop (sign_count s) s) (mark_after_sign s m))) w
+signed_law w e q = q ∙ ap integer e ∙ through integer (Err Bad) (λ s m. no_integer s (mark_no_digits (drop (sign_count s) s) (mark_after_sign s m))) w
 
 -- a number that a field says is within its width
-pub unsigned_fits : (w : List ℕ) (greatest n : ℕ) {v : Value} → v ≡ unsigned greatest w → v ≡ Number n → n ≤ greatest
+pub unsigned_fits : (w : List ℕ) (greatest n : ℕ) {v : Result ℕ NotNumber} → v ≡ unsigned greatest w → v ≡ Ok n → n ≤ greatest
 unfolding unsigned
 unsigned_fits w greatest n q e = natural_fits (content w) greatest n q e
 
 -- a signed number that a field says fits an `i64`
-pub signed_fits : (w : List ℕ) (z : ℤ) {v : SignedValue} → v ≡ signed w → v ≡ Signed z → SFits w64 z
+pub signed_fits : (w : List ℕ) (z : ℤ) {v : Result ℤ NotNumber} → v ≡ signed w → v ≡ Ok z → SFits w64 z
 unfolding signed
 signed_fits w z q e = integer_fits (content w) z q e

@@ -1,27 +1,17 @@
 -- The short way: digits that a comma or a line end follows are the field that the grammar finds, and they say what it says.
 -- Assumes nothing.
-use mathlib.Core.Path.{◌≡◌, refl, sym, ap, subst, ◌∙◌}
-use mathlib.Core.Bool.{Bool, true, false, cond, and-eq-true_iff}
-use mathlib.Core.List.{List, [], ◌∷◌}
-use Prim.Native.Nat.{ℕ, suc, ◌+◌, ◌-◌, ◌^◌, ◌<◌, ◌≤◌}
-use native.Mathlib.Nat.{zero-add, add-zero}
-use native.Mathlib.Omega.{arith}
-use borrow.Author.Tests.{leb-true, ne_eqb, eqb-true, le-leb, lt-leb}
-use lib.Dec.{leb, eqb}
-use lib.ListN.{length, take, drop, length-drop, drop_of_length-le}
-use lib.Seq.{drop-drop}
+use Rattle.std.proofs.Common.{◌≡◌, refl, sym, ap, subst, ◌∙◌, Bool, true, false, cond, List, [], ◌∷◌, ℕ, suc, ◌+◌, ◌-◌, ◌^◌, ◌<◌, ◌≤◌, length, take, drop, leb, eqb, Result, Err, ℤ, arith, zero-add, add-zero, leb-true, ne_eqb, eqb-true, le-leb, length-drop, drop_of_length-le, drop-drop}
+use mathlib.Core.Bool.{and-eq-true_iff}
+use borrow.Author.Tests.{lt-leb}
 use Rattle.limits.specs.Limits.{most_field_bytes}
 use Rattle.digits.specs.Decimal.{digit, digits, decimal}
-use Rattle.digits.specs.Run.{digit_count, number_up_to, run_at, as_value, as_digit_run}
-use Rattle.digits.specs.declared.Value.{Value}
-use Rattle.digits.specs.declared.Value.TheVariants.{Missing}
+use Rattle.digits.specs.Run.{digit_count, held, run_at}
+use Rattle.digits.specs.declared.NotNumber.{NotNumber}
+use Rattle.digits.specs.declared.NotNumber.TheVariants.{Missing}
 use Rattle.digits.specs.declared.DigitRun.{DigitRun}
-use Rattle.digits.specs.declared.WideRun.{WideRun}
 use Rattle.digits.proofs.Runs.{count_within, count_digits}
 use Rattle.numbers.specs.Number.{natural, integer}
 use Rattle.numbers.specs.Steps.{sign_count, natural_by, integer_by}
-use Rattle.numbers.specs.declared.SignedValue.{SignedValue}
-use Rattle.numbers.specs.declared.SignedValue.TheVariants.{Missing as NoSigned}
 use Rattle.numbers.proofs.Numbers.{sign_within, natural_by_is, integer_by_is}
 use Rattle.csv_text.specs.Grammar.{is_text, width, size, comma, ends, following, limited, field, content}
 use Rattle.csv_text.specs.Place.{found_at}
@@ -37,7 +27,6 @@ use Rattle.csv_text.proofs.Inverse.{content_written}
 use Rattle.csv_text.proofs.Short.{short_field, Sized, short_sized}
 use Rattle.cells.specs.Cell.{unsigned, signed, cell_at, signed_count, signed_cell_at}
 use Rattle.cells.specs.declared.Cell.{Cell}
-use Rattle.cells.specs.declared.SignedCell.{SignedCell}
 
 -- digits are text, and so is a minus sign in front of them
 digit_text : (b : ℕ) → digit b ≡ true → is_text b ≡ true
@@ -88,18 +77,18 @@ module _ (s : List ℕ) (at e : ℕ) (l : at ≤ e) where
 
 -- Nothing at all, at the end of the text or after it.
 module _ (s : List ℕ) (at : ℕ) (h : length s ≤ at) where
-  pub cell_over : (g : ℕ) → record { value = Missing; found = Ends EndOfText at } ≡ cell_at g at (drop at s)
+  pub cell_over : (g : ℕ) → record { value = Err Missing; found = Ends EndOfText at } ≡ cell_at g at (drop at s)
   unfolding unsigned content natural digit_count following
   cell_over g = rw (drop_of_length-le s h, add-zero)
 
-  pub signed_over : record { value = NoSigned; found = Ends EndOfText at } ≡ signed_cell_at at (drop at s)
+  pub signed_over : record { value = Err Missing; found = Ends EndOfText at } ≡ signed_cell_at at (drop at s)
   unfolding signed content integer sign_count digit_count following
   signed_over = rw (drop_of_length-le s h, add-zero)
 
--- What `number_cell` puts together: x is the run of digits at `at`, gathered at the width that ends at g.
-module _ (g : ℕ) (s : List ℕ) (at : ℕ) {x : DigitRun} (q : x ≡ run_at g at (drop at s)) where
+-- What `number_cell` puts together: x is the run of digits at `at`, gathered in 32 bits.
+module _ (s : List ℕ) (at : ℕ) {x : DigitRun ℕ} (q : x ≡ run_at (λ n. n) (2 ^ 32 - 1) at (drop at s)) where
   run_end : x.end ≡ at + digit_count (drop at s)
-  run_end = ap (λ (y : DigitRun). y.end) q
+  run_end = ap (λ (y : DigitRun ℕ). y.end) q
 
   pub run_from : at ≤ x.end
   run_from = omega (arith, run_end)
@@ -107,24 +96,24 @@ module _ (g : ℕ) (s : List ℕ) (at : ℕ) {x : DigitRun} (q : x ≡ run_at g 
   pub run_inside : at < length s → x.end ≤ length s
   run_inside h = omega (arith, run_end, count_within (drop at s), length-drop at s)
 
-  pub cell_is : {w : List ℕ} {v : Value} {f : Found} (greatest : ℕ) → greatest < suc g → w ≡ take (x.end - at) (drop at s) → v ≡ natural_by greatest w x.value → f ≡ found_at at (limited (drop at s) (size (x.end - at))) → record { value = v; found = f } ≡ cell_at greatest at (drop at s)
+  pub cell_is : {w : List ℕ} {v : Result ℕ NotNumber} {f : Found} {g m : ℕ} → g ≤ 2 ^ 32 - 1 → m ≡ g → w ≡ take (x.end - at) (drop at s) → v ≡ natural_by (λ n. n) m w x.value → f ≡ found_at at (limited (drop at s) (size (x.end - at))) → record { value = v; found = f } ≡ cell_at g at (drop at s)
   unfolding unsigned
-  cell_is {w} {v} {f} greatest l a b c =
+  cell_is {w} {v} {f} {g} {m} l o a b c =
       let d : List ℕ = drop at s in
       let n : x.end - at ≡ digit_count d = omega (arith, run_end) in
       let t : w ≡ take (digit_count d) d = a ∙ ap (λ (k : ℕ). take k d) n in
-      let u : v ≡ natural_by greatest (take (digit_count d) d) (number_up_to g (decimal 0 (take (digit_count d) d))) = b ∙ rw (t, ap (λ (y : DigitRun). y.value) q) in
-      let y : v ≡ natural greatest (content (take (digit_count d) d)) = u ∙ natural_by_is g (take (digit_count d) d) greatest (omega arith) (count_digits d) ∙ ap (natural greatest) (sym (content_written (bare (take (digit_count d) d)) (count_text d))) in
+      let u : v ≡ natural_by (λ n. n) g (take (digit_count d) d) (held (λ n. n) (2 ^ 32 - 1) (decimal 0 (take (digit_count d) d))) = b ∙ rw (o, t, ap (λ (y : DigitRun ℕ). y.value) q) in
+      let y : v ≡ natural g (content (take (digit_count d) d)) = u ∙ natural_by_is (2 ^ 32 - 1) (take (digit_count d) d) g l (count_digits d) ∙ ap (natural g) (sym (content_written (bare (take (digit_count d) d)) (count_text d))) in
       let z : f ≡ found_at at (limited d (size (digit_count d))) = c ∙ ap (λ (k : ℕ). found_at at (limited d (size k))) n in
       λ i. record { value = y i; found = z i }
 
 -- The same of `integer_cell`, whose digits start at p and are gathered in 64 bits.
-module _ (s : List ℕ) (at p : ℕ) (h : p ≡ at + sign_count (drop at s)) (x : WideRun) (q : as_digit_run x ≡ run_at (2 ^ 64 - 1) p (drop p s)) where
+module _ (s : List ℕ) (at p : ℕ) (h : p ≡ at + sign_count (drop at s)) {x : DigitRun ℕ} (q : x ≡ run_at (λ n. n) (2 ^ 64 - 1) p (drop p s)) where
   digits_at_lem : drop p s ≡ drop (sign_count (drop at s)) (drop at s)
   digits_at_lem = ap (λ (k : ℕ). drop k s) h ∙ sym (drop-drop (sign_count (drop at s)) at s)
 
   signed_end : x.end ≡ at + signed_count (drop at s)
-  signed_end = ap (λ (y : DigitRun). y.end) q ∙ rw digits_at_lem (omega arith)
+  signed_end = ap (λ (y : DigitRun ℕ). y.end) q ∙ rw digits_at_lem (omega arith)
 
   pub signed_from : at ≤ x.end
   signed_from = omega (arith, signed_end)
@@ -132,7 +121,7 @@ module _ (s : List ℕ) (at p : ℕ) (h : p ≡ at + sign_count (drop at s)) (x 
   pub signed_inside : at < length s → x.end ≤ length s
   signed_inside i = omega (arith, signed_end, signed_within (drop at s), length-drop at s)
 
-  pub signed_is : {w : List ℕ} {v : SignedValue} {f : Found} → w ≡ take (x.end - at) (drop at s) → v ≡ integer_by w (as_value x.value) → f ≡ found_at at (limited (drop at s) (size (x.end - at))) → record { value = v; found = f } ≡ signed_cell_at at (drop at s)
+  pub signed_is : {w : List ℕ} {v : Result ℤ NotNumber} {f : Found} → w ≡ take (x.end - at) (drop at s) → v ≡ integer_by w x.value → f ≡ found_at at (limited (drop at s) (size (x.end - at))) → record { value = v; found = f } ≡ signed_cell_at at (drop at s)
   unfolding signed
   signed_is {w} {v} {f} a b c =
       let d : List ℕ = drop at s in
@@ -141,9 +130,9 @@ module _ (s : List ℕ) (at p : ℕ) (h : p ≡ at + sign_count (drop at s)) (x 
       let o : drop (sign_count m) m ≡ take (digit_count (drop (sign_count d) d)) (drop (sign_count d) d) = ap (λ (j : ℕ). drop j m) k.sign ∙ k.after in
       let n : x.end - at ≡ signed_count d = omega (arith, signed_end) in
       let t : w ≡ m = a ∙ ap (λ (j : ℕ). take j d) n in
-      let r : as_value x.value ≡ number_up_to (2 ^ 64 - 1) (decimal 0 (drop (sign_count m) m)) = ap (λ (y : DigitRun). y.value) q ∙ rw (o, digits_at_lem) in
+      let r : x.value ≡ held (λ n. n) (2 ^ 64 - 1) (decimal 0 (drop (sign_count m) m)) = ap (λ (y : DigitRun ℕ). y.value) q ∙ rw (o, digits_at_lem) in
       let g : digits (drop (sign_count m) m) ≡ true = ap digits o ∙ count_digits (drop (sign_count d) d) in
-      let u : v ≡ integer_by m (number_up_to (2 ^ 64 - 1) (decimal 0 (drop (sign_count m) m))) = b ∙ rw (t, r) in
+      let u : v ≡ integer_by m (held (λ n. n) (2 ^ 64 - 1) (decimal 0 (drop (sign_count m) m))) = b ∙ rw (t, r) in
       let y : v ≡ integer (content m) = u ∙ integer_by_is m g ∙ ap integer (sym (content_written (bare m) k.text)) in
       let z : f ≡ found_at at (limited d (size (signed_count d))) = c ∙ ap (λ (j : ℕ). found_at at (limited d (size j))) n in
       λ i. record { value = y i; found = z i }
@@ -169,7 +158,7 @@ module _ (s : List ℕ) (at n : ℕ) (l : n ≤ length (drop at s)) (u : all_tex
       let k = comma_of at e (limited (drop at s) (size n)) (sym p ∙ q) in
       let m : n ≡ k.0 = subst (Sized n) k.1 (short_sized (drop at s) n) in
       let o : n ≡ e - at = omega (arith, k.2) in
-      let g : field (drop at s) ≡ comma k.0 = short_field (drop at s) n l u (λ z. (let y : ◌≡◌ {A = ℕ} 0 1 = cc in omega arith)) ∙ k.1 in
+      let g : field (drop at s) ≡ comma k.0 = short_field (drop at s) n l u (λ z. (cc)) ∙ k.1 in
       let h : k.0 < length (drop at s) = subst (Within (length (drop at s))) g (field_within (drop at s)) in
       record { from = omega (arith, k.2); inside = omega (arith, k.2, rw length-drop at h); field = g ∙ ap comma (sym m ∙ o); value = w ∙ ap (λ (j : ℕ). f (take j (drop at s))) o }
 
@@ -178,14 +167,14 @@ module _ (s : List ℕ) (at n : ℕ) (l : n ≤ length (drop at s)) (u : all_tex
       let k = ends_of at e x (limited (drop at s) (size n)) (sym p ∙ q) in
       let m : n ≡ k.0 = subst (Sized n) k.1 (short_sized (drop at s) n) in
       let o : n ≡ e - at = omega (arith, k.2) in
-      let g : field (drop at s) ≡ ends x k.0 = short_field (drop at s) n l u (λ z. (let y : ◌≡◌ {A = ℕ} 0 1 = cc in omega arith)) ∙ k.1 in
+      let g : field (drop at s) ≡ ends x k.0 = short_field (drop at s) n l u (λ z. (cc)) ∙ k.1 in
       let h : (k.0 + width x ≤ length (drop at s)) × (width x ≡ 0 → k.0 ≡ length (drop at s)) = subst (Within (length (drop at s))) g (field_within (drop at s)) in
       record { from = omega (arith, k.2); inside = omega (arith, k.2, rw length-drop at h.0); field = g ∙ ap (ends x) (sym m ∙ o); value = w ∙ ap (λ (j : ℕ). f (take j (drop at s))) o }
 
 -- LAW: digits that a comma follows are a field, and say what it says.
-pub cell_comma : (s : List ℕ) (at g : ℕ) {r : Cell} → r ≡ cell_at g at (drop at s) → (e : ℕ) → r.found ≡ Comma e → CellField s at e (unsigned g) r.value
-cell_comma s at g {r} q e p = comma_field s at (digit_count (drop at s)) (count_within (drop at s)) (count_text (drop at s)) (unsigned g) (ap (λ (y : Cell). y.value) q) (ap (λ (y : Cell). y.found) q) e p
+pub cell_comma : (s : List ℕ) (at g : ℕ) {r : Cell ℕ} → r ≡ cell_at g at (drop at s) → (e : ℕ) → r.found ≡ Comma e → CellField s at e (unsigned g) r.value
+cell_comma s at g {r} q e p = comma_field s at (digit_count (drop at s)) (count_within (drop at s)) (count_text (drop at s)) (unsigned g) (ap (λ (y : Cell ℕ). y.value) q) (ap (λ (y : Cell ℕ). y.found) q) e p
 
 -- LAW: digits, with a minus sign or without, at the end of a record are a field, and say what it says.
-pub signed_ends : (s : List ℕ) (at : ℕ) {r : SignedCell} → r ≡ signed_cell_at at (drop at s) → at ≤ length s → (x : Ending) (e : ℕ) → r.found ≡ Ends x e → LastField s at x e signed r.value
-signed_ends s at {r} q i x e p = last_field s at (signed_count (drop at s)) (signed_within (drop at s)) (signed_word (drop at s)).text signed (ap (λ (y : SignedCell). y.value) q) (ap (λ (y : SignedCell). y.found) q) x e i p
+pub signed_ends : (s : List ℕ) (at : ℕ) {r : Cell ℤ} → r ≡ signed_cell_at at (drop at s) → at ≤ length s → (x : Ending) (e : ℕ) → r.found ≡ Ends x e → LastField s at x e signed r.value
+signed_ends s at {r} q i x e p = last_field s at (signed_count (drop at s)) (signed_within (drop at s)) (signed_word (drop at s)).text signed (ap (λ (y : Cell ℤ). y.value) q) (ap (λ (y : Cell ℤ). y.found) q) x e i p

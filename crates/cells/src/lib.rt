@@ -4,64 +4,66 @@
 ghost use Rattle.std.specs.Prelude.{◌≡◌, ◌-◌, ◌^◌, ◌≤◌, drop};
 ghost use Rattle.csv_text.specs.Grammar.{size, limited};
 ghost use Rattle.csv_text.specs.Place.{found_at};
-ghost use Rattle.digits.specs.Run.{as_value};
-ghost use Rattle.cells.specs.Cell.{unsigned, signed, cell_at, signed_cell_at};
+ghost use Rattle.cells.specs.Cell.{greatest, unsigned, signed, cell_at, signed_cell_at};
 
 use csv_text::{Ending, Found};
-use digits::{Value, WideValue};
+use digits::NotNumber;
 use limits::MOST_FIELD_BYTES;
-use numbers::SignedValue;
+
+// The widths of numbers that 32 bits hold.
+#[derive(Clone, Copy, PartialEq, Eq)]
+pub enum Width {
+    U16,
+    Successor,
+    U32,
+}
+
+impl Width {
+    // The greatest number of the width.
+    pub fn greatest(self) -> u32
+        ensures { result ≡ greatest self }
+    {
+        match self {
+            Width::U16 => 65535,
+            Width::Successor => 65534,
+            Width::U32 => u32::MAX,
+        }
+    }
+}
 
 // A field that is taken to be digits: what they say, and what follows them.
 #[derive(Clone, Copy)]
-pub struct Cell {
-    pub value: Value,
+pub struct Cell<N> {
+    pub value: Result<N, NotNumber>,
     pub found: Found,
 }
 
-// The same with a minus sign allowed.
-#[derive(Clone, Copy)]
-pub struct SignedCell {
-    pub value: SignedValue,
-    pub found: Found,
-}
-
-// What a field says, up to 65,535.
-pub fn u16_of(w: &[u8]) -> Value
-    ensures { result ≡ unsigned 65535 w.now }
+// What a field says at a width.
+#[tactic(auto, using(crate::proofs::Fields::unsigned_law))]
+pub fn number_of(w: &[u8], width: Width) -> Result<u32, NotNumber>
+    ensures { result ≡ unsigned (greatest width) w.now }
 {
-    numbers::natural_of(csv_text::inner_part(w), 65535)
-}
-
-// What a successor's field says, up to 65,534.
-pub fn successor_of(w: &[u8]) -> Value
-    ensures { result ≡ unsigned 65534 w.now }
-{
-    numbers::natural_of(csv_text::inner_part(w), 65534)
-}
-
-// What a field says, up to 2^32 - 1.
-pub fn u32_of(w: &[u8]) -> Value
-    ensures { result ≡ unsigned (2 ^ 32 - 1) w.now }
-{
-    numbers::natural_of(csv_text::inner_part(w), 4294967295)
+    numbers::natural_of(csv_text::inner_part(w), width.greatest())
 }
 
 // What a field says, up to 2^64 - 1.
-pub fn u64_of(w: &[u8]) -> WideValue
-    ensures { as_value result ≡ unsigned (2 ^ 64 - 1) w.now }
+#[tactic(auto, using(crate::proofs::Fields::unsigned_law))]
+pub fn u64_of(w: &[u8]) -> Result<u64, NotNumber>
+    ensures { result ≡ unsigned (2 ^ 64 - 1) w.now }
 {
-    numbers::wide_of(csv_text::inner_part(w))
+    numbers::natural_of(csv_text::inner_part(w), u64::MAX)
 }
 
 // What a field says, from -2^63 to 2^63 - 1.
-pub fn i64_of(w: &[u8]) -> SignedValue
+#[tactic(auto, using(crate::proofs::Fields::signed_law))]
+pub fn i64_of(w: &[u8]) -> Result<i64, NotNumber>
     ensures { result ≡ signed w.now }
 {
     numbers::integer_of(csv_text::inner_part(w))
 }
 
 // What follows a field that is taken to lie between `at` and `end`.
+#[tactic(auto, using(crate::proofs::Short::found_long, crate::proofs::Short::found_short))]
 fn found_after(text: &[u8], at: usize, end: usize) -> Found
     requires { at ≤ end }
     ensures { result ≡ found_at at (limited (drop at text.now) (size (end - at))) }
@@ -73,38 +75,38 @@ fn found_after(text: &[u8], at: usize, end: usize) -> Found
 }
 
 // The field at `at`, taken to be the digits that stand there, at a width that ends at `greatest`: one scan finds and reads it.
-pub fn number_cell(text: &[u8], at: usize, greatest: u32) -> Cell
+#[tactic(auto, using(crate::proofs::Short::run_from, crate::proofs::Short::run_inside, crate::proofs::Short::cell_over, crate::proofs::Short::cell_is))]
+pub fn number_cell(text: &[u8], at: usize, greatest: u32) -> Cell<u32>
     ensures { result ≡ cell_at greatest at (drop at text.now) }
 {
     if at >= text.len() {
+        let found = Found::Ends(Ending::EndOfText, at);
         return Cell {
-            value: Value::Missing,
-            found: Found::Ends(Ending::EndOfText, at),
+            value: Err(NotNumber::Missing),
+            found,
         };
     }
     let run = digits::digit_run(text, at);
-    let digits = run.value;
-    let end = run.end;
-    let value = numbers::natural_by(&text[at..end], digits, greatest);
-    let found = found_after(text, at, end);
+    let value = numbers::natural_by(&text[at..run.end], run.value, u64::from(greatest));
+    let found = found_after(text, at, run.end);
     Cell { value, found }
 }
 
 // The same with a minus sign allowed.
-pub fn integer_cell(text: &[u8], at: usize) -> SignedCell
+#[tactic(auto, using(crate::proofs::Short::signed_from, crate::proofs::Short::signed_inside, crate::proofs::Short::signed_over, crate::proofs::Short::signed_is))]
+pub fn integer_cell(text: &[u8], at: usize) -> Cell<i64>
     ensures { result ≡ signed_cell_at at (drop at text.now) }
 {
     if at >= text.len() {
-        return SignedCell {
-            value: SignedValue::Missing,
-            found: Found::Ends(Ending::EndOfText, at),
+        let found = Found::Ends(Ending::EndOfText, at);
+        return Cell {
+            value: Err(NotNumber::Missing),
+            found,
         };
     }
     let start = numbers::digits_start(text, at);
-    let run = digits::wide_run(text, start);
-    let digits = run.value;
-    let end = run.end;
-    let value = numbers::integer_by(&text[at..end], digits);
-    let found = found_after(text, at, end);
-    SignedCell { value, found }
+    let magnitude = digits::digit_run(text, start);
+    let value = numbers::integer_by(&text[at..magnitude.end], magnitude.value);
+    let found = found_after(text, at, magnitude.end);
+    Cell { value, found }
 }

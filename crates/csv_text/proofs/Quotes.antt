@@ -4,34 +4,24 @@ use mathlib.Core.Path.{◌≡◌, refl, sym, ap, ◌∙◌}
 use mathlib.Core.Bool.{Bool, true, false, cond, ◌||◌, or-true}
 use mathlib.Core.Logic.{◌⊎◌, inl, inr}
 use mathlib.Core.List.{List, [], ◌∷◌}
-use Prim.Native.Nat.{ℕ, suc, ◌-◌}
+use Prim.Native.Nat.{ℕ, suc, ◌-◌, ◌≤◌}
 use native.Mathlib.Omega.{arith}
-use borrow.Author.Tests.{eq-eqb, ne_eqb}
+use borrow.Author.Tests.{le-ltb}
+use lib.Dec.{ltb, eqb}
 use lib.ListN.{length, take, drop, get_or}
 use Rattle.csv_text.specs.Grammar.{is_quote, undoubled, content}
 use Rattle.csv_text.specs.Place.{inner}
 
--- Each way through `inner_part`.
-pub inner_none : (w : List ℕ) → length w ≡ 0 → w ≡ inner w
+-- what `inner_part` gives, by the length and the first byte
+pub inner_is : (w : List ℕ) → inner w ≡ cond (ltb (length w) 1) w (cond (eqb (get_or w 0 0) 34) (cond (ltb (length w) 2) [] (take (length w - 1 - 1) (drop 1 w))) w)
 unfolding inner
-inner_none [] e = refl
-inner_none (b ∷ s) e = absurd (omega arith)
-
-pub inner_plain : (w : List ℕ) → (length w ≡ 0 → ⊥) → (get_or w 0 0 ≡ 34 → ⊥) → w ≡ inner w
-unfolding inner
-inner_plain [] f e = absurd (f refl)
-inner_plain (b ∷ s) f e = rw (ne_eqb b 34 e)
-
-pub inner_mark : (w : List ℕ) → get_or w 0 0 ≡ 34 → length w ≡ 1 → [] ≡ inner w
-unfolding inner
-inner_mark [] e l = absurd (omega arith)
-inner_mark (b ∷ []) e l = rw (eq-eqb b 34 e)
-inner_mark (b ∷ c ∷ s) e l = absurd (omega arith)
-
-pub inner_between : (w : List ℕ) → (length w ≡ 0 → ⊥) → get_or w 0 0 ≡ 34 → take (length w - 1 - 1) (drop 1 w) ≡ inner w
-unfolding inner
-inner_between [] f e = absurd (f refl)
-inner_between (b ∷ s) f e = let l : suc (length s) - 1 - 1 ≡ length s - 1 = omega arith in rw (eq-eqb b 34 e, l)
+inner_is [] = refl
+inner_is (b ∷ []) = refl
+inner_is (b ∷ c ∷ s) =
+    let l : suc (suc (length s)) - 1 - 1 ≡ suc (length s) - 1 = omega arith in
+    let one : 1 ≤ suc (suc (length s)) = omega arith in
+    let two : 2 ≤ suc (suc (length s)) = omega arith in
+    rw (l, le-ltb _ 1 one, le-ltb _ 2 two)
 
 -- whether a text holds a quote mark: doubled or not, it does
 unfoldable pub has_mark : List ℕ → Bool

@@ -1,6 +1,6 @@
 -- A field lies within its text, and a record is its first field and the record after the comma, however much is counted.
 -- Assumes nothing.
-use mathlib.Core.Path.{◌≡◌, refl, ap}
+use mathlib.Core.Path.{◌≡◌, refl, sym, ap}
 use mathlib.Core.Bool.{Bool, true, false, cond, false≢true}
 use mathlib.Core.List.{List, [], ◌∷◌}
 use Prim.Native.Nat.{ℕ, zero, suc, ◌+◌, ◌<◌, ◌≤◌}
@@ -164,6 +164,21 @@ records_step (b ∷ s) h = ap (λ (l : List Record). record_of (b ∷ s) ∷ l) 
         at : (t : Bool) → r.sound ≡ t → cond t (records_in (length s) (drop r.bytes (b ∷ s))) [] ≡ cond t (records (drop r.bytes (b ∷ s))) []
         at true e = let m : 0 < r.bytes = (h e).some (omega arith) in records_enough (length s) (length (drop r.bytes (b ∷ s))) (drop r.bytes (b ∷ s)) (rw length-drop (omega arith)) (omega arith)
         at false e = refl
+
+-- a record with a broken field has no ending of its own
+unsound_in : (k : ℕ) (s : List ℕ) → (record_in k s).sound ≡ false → (record_in k s).ending ≡ EndOfText
+unfolding record_in
+unsound_in zero s e = refl
+unsound_in (suc k) s e = go (λ t. unsound_in k t) (field s) e
+  where
+    go : ((t : List ℕ) → (record_in k t).sound ≡ false → (record_in k t).ending ≡ EndOfText) → (f : Field) → (record_with (record_in k) s f).sound ≡ false → (record_with (record_in k) s f).ending ≡ EndOfText
+    go ih (comma n) e = ih (drop (n + 1) s) e
+    go ih (ends x n) e = absurd (false≢true (sym e))
+    go ih broken e = refl
+
+pub unsound_open : (s : List ℕ) → (record_of s).sound ≡ false → (record_of s).ending ≡ EndOfText
+unfolding record_of
+unsound_open s e = unsound_in (suc (length s)) s e
 
 -- how the first record ends; a text without a byte has none, and nothing is read there up to the end of the text
 pub first_ends : (s : List ℕ) → (record_of s).ending ≡ first_ending (records s)

@@ -7,10 +7,12 @@ use Prim.Native.Nat.{ℕ, zero, suc, ◌+◌, ◌-◌, ◌<◌, ◌≤◌, max}
 use native.Mathlib.Nat.{add-zero}
 use native.Mathlib.Numerals.{add-one}
 use native.Mathlib.Omega.{arith}
-use borrow.Author.Tests.{lt-ltb, le-ltb, le-leb, lt-leb}
+use borrow.Author.Tests.{lt-ltb, le-leb}
 use lib.ListN.{length, take, drop, get_or, set, length-drop, length-take, length-set, get_or-replicate}
 use lib.Seq.{drop-drop, get_or-set_same, get_or-set_other, length-take-le}
 use native.Mathlib.Decide.{dec_le}
+use Rattle.std.proofs.Common.{Some, None}
+use Rattle.std.specs.Option.{unwrap_or}
 use lib.Dec.{leb, ltb, leb-zero}
 use Rattle.csv_text.specs.Grammar.{Field, comma, ends, broken, width, field, Record, record_of, record_in, record_with, joined, only, unsound, records, first_ending}
 use Rattle.csv_text.specs.Place.{found_at, no_places, note, noted, starts_of, stops_of, split_of, part_of, field_at}
@@ -19,29 +21,7 @@ use Rattle.csv_text.specs.declared.Ending.TheVariants.{EndOfText}
 use Rattle.csv_text.specs.declared.Found.{Found}
 use Rattle.csv_text.specs.declared.Found.TheVariants.{Comma, Ends, Broken}
 use Rattle.csv_text.specs.declared.Split.{Split}
-use Rattle.csv_text.proofs.Records.{Within, field_within, record_step, first_ends}
-
--- Each way through `note_bounds`.
-pub put_in : (places : List ℕ) (i x : ℕ) → i < 8 → set places i x ≡ note places i x
-put_in places i x h = rw (lt-ltb i 8 h)
-
-pub put_out : (places : List ℕ) (i x : ℕ) → 8 ≤ i → places ≡ note places i x
-put_out places i x h = rw (le-ltb i 8 h)
-
--- Each way through `part`.
-module _ (s : List ℕ) (from to : ℕ) where
-  pub part_turned : to < from → [] ≡ part_of s from to
-  part_turned l = let z : to - from ≡ 0 = omega arith in rw z (go (leb to (length s)))
-    where
-      go : (b : Bool) → [] ≡ cond b (take 0 (drop from s)) []
-      go true = refl
-      go false = refl
-
-  pub part_beyond : length s < to → [] ≡ part_of s from to
-  part_beyond l = rw (lt-leb to (length s) l)
-
-  pub part_is : to ≤ length s → take (to - from) (drop from s) ≡ part_of s from to
-  part_is l = rw (le-leb to (length s) l)
+use Rattle.csv_text.proofs.Records.{Within, field_within, record_step, unsound_open, first_ends}
 
 -- n bytes of a text from p on, where there are as many
 pub part_at : (s : List ℕ) (p n : ℕ) → n ≤ length (drop p s) → part_of s p (p + n) ≡ take n (drop p s)
@@ -54,14 +34,6 @@ part_at s p n h = let e : p + n - p ≡ n = omega arith in rw e (at (dec_le (p +
         flat : (b : Bool) → cond b (take 0 (drop p s)) [] ≡ take 0 (drop p s)
         flat true = refl
         flat false = refl
-
--- Each way through `find_field`.
-module _ (s starts stops : List ℕ) (i : ℕ) where
-  pub field_none : 8 ≤ i → [] ≡ field_at s starts stops i
-  field_none h = rw (le-ltb i 8 h)
-
-  pub field_part : {w : List ℕ} → i < 8 → w ≡ part_of s (get_or starts i 0) (get_or stops i 0) → w ≡ field_at s starts stops i
-  field_part h q = rw (lt-ltb i 8 h) q
 
 -- What an answer of `field_end` says of the field.
 pub comma_of : (p e : ℕ) (f : Field) → Comma e ≡ found_at p f → (n : ℕ) × (f ≡ comma n) × (e ≡ p + n)
@@ -86,11 +58,11 @@ module _ (starts stops : List ℕ) (count p e : ℕ) (w : List ℕ) (d : p + len
   split_joined n t m =
       let a : count + suc (length t.fields) ≡ suc count + length t.fields = omega arith in
       let b : p + (n + t.bytes) ≡ e + 1 + t.bytes = omega arith in
-      λ i. record { starts = noted (note starts count p) (suc count) (starts_of (d i + 1) t.fields); ends = noted (note stops count (d i)) (suc count) (stops_of (d i + 1) t.fields); count = a i; next = b i; sound = t.sound; ending = t.ending }
+      λ i. record { starts = noted (note starts count p) (suc count) (starts_of (d i + 1) t.fields); ends = noted (note stops count (d i)) (suc count) (stops_of (d i + 1) t.fields); count = a i; next = b i; ending = cond t.sound (Some t.ending) None }
 
-  split_only : (n v : ℕ) (x : Ending) → p + (n + width x) ≡ e + v → split_of starts stops count p (only w n x) ≡ record { starts = note starts count p; ends = note stops count e; count = count + 1; next = e + v; sound = true; ending = x }
+  split_only : (n v : ℕ) (x : Ending) → p + (n + width x) ≡ e + v → split_of starts stops count p (only w n x) ≡ record { starts = note starts count p; ends = note stops count e; count = count + 1; next = e + v; ending = Some x }
   unfolding noted starts_of stops_of
-  split_only n v x m = λ i. record { starts = note starts count p; ends = note stops count (d i); count = count + 1; next = m i; sound = true; ending = x }
+  split_only n v x m = λ i. record { starts = note starts count p; ends = note stops count (d i); count = count + 1; next = m i; ending = Some x }
 
 -- Each way through a turn of `scan_record` at the field that starts at p; r is what `field_end` gave, and x is the split of the whole record.
 module _ (s : List ℕ) (p : ℕ) {r : Found} (q : r ≡ found_at p (field (drop p s))) where
@@ -123,7 +95,7 @@ module _ (s : List ℕ) (p : ℕ) {r : Found} (q : r ≡ found_at p (field (drop
     pub ends_range : (v : ℕ) → v ≡ width x → e + v ≤ max (length s) p
     ends_range v k = omega (arith, at_ends.2, within)
 
-    pub scan_ends : {y : Split} {starts' stops' : List ℕ} (starts stops : List ℕ) (count v : ℕ) → starts' ≡ note starts count p → stops' ≡ note stops count e → v ≡ width x → y ≡ split_of starts stops count p (record_of (drop p s)) → record { starts = starts'; ends = stops'; count = count + 1; next = e + v; sound = true; ending = x } ≡ y
+    pub scan_ends : {y : Split} {starts' stops' : List ℕ} (starts stops : List ℕ) (count v : ℕ) → starts' ≡ note starts count p → stops' ≡ note stops count e → v ≡ width x → y ≡ split_of starts stops count p (record_of (drop p s)) → record { starts = starts'; ends = stops'; count = count + 1; next = e + v; ending = Some x } ≡ y
     scan_ends starts stops count v i j k h =
         let n : at_ends.0 ≡ e - p = omega (arith, at_ends.2) in
         let l : p + length (take (e - p) (drop p s)) ≡ e = rw (length-take, length-drop) (omega (arith, at_ends.2, within)) in
@@ -131,7 +103,7 @@ module _ (s : List ℕ) (p : ℕ) {r : Found} (q : r ≡ found_at p (field (drop
         rw (i, j) (sym (h ∙ ap (split_of starts stops count p) f ∙ split_only starts stops count p e (take (e - p) (drop p s)) l (e - p) v x (omega (arith, at_ends.2))))
 
   module _ (w : r ≡ Broken) where
-    pub scan_broken : {x : Split} (starts stops : List ℕ) (count : ℕ) → x ≡ split_of starts stops count p (record_of (drop p s)) → record { starts = starts; ends = stops; count = count; next = p; sound = false; ending = EndOfText } ≡ x
+    pub scan_broken : {x : Split} (starts stops : List ℕ) (count : ℕ) → x ≡ split_of starts stops count p (record_of (drop p s)) → record { starts = starts; ends = stops; count = count; next = p; ending = None } ≡ x
     unfolding noted starts_of stops_of
     scan_broken starts stops count h =
         let f : record_of (drop p s) ≡ unsound = record_step (drop p s) ∙ rw (broken_of p (field (drop p s)) (sym w ∙ q)) in
@@ -199,7 +171,7 @@ laid_field s p [] h (suc j) = rw leb-zero
 laid_field s p (w ∷ ws) h zero = h.0
 laid_field s p (w ∷ ws) h (suc j) = laid_field s (p + length w + 1) ws h.1 j
 
--- what `find_field` gives of the bounds that `scan_record` noted is the field
+-- what `Split::field` gives of the bounds that `scan_record` noted is the field
 pub split_field : (s : List ℕ) (p i : ℕ) → i < 8 → field_at s (noted no_places 0 (starts_of p (record_of (drop p s)).fields)) (noted no_places 0 (stops_of p (record_of (drop p s)).fields)) i ≡ get_or (record_of (drop p s)).fields i []
 split_field s p i h =
     let ws : List (List ℕ) = (record_of (drop p s)).fields in
@@ -211,5 +183,12 @@ split_field s p i h =
         rw e at (noted_at no_places 0 xs i refl (omega arith) ∙ ap (get_or xs i) (get_or-replicate 8 (0 + i) 0 0 (omega arith)))
 
 -- how the first record of a text ends
-pub first_split : (s : List ℕ) {r : Split} → r ≡ split_of no_places no_places 0 0 (record_of (drop 0 s)) → r.ending ≡ first_ending (records s)
-first_split s q = ap (λ (x : Split). x.ending) q ∙ first_ends s
+pub first_split : (s : List ℕ) {r : Split} → r ≡ split_of no_places no_places 0 0 (record_of (drop 0 s)) → unwrap_or r.ending EndOfText ≡ first_ending (records s)
+first_split s q = ap (λ (x : Split). unwrap_or x.ending EndOfText) q ∙ open_end (record_of s) (unsound_open s) ∙ first_ends s
+  where
+    open_end : (r : Record) → (r.sound ≡ false → r.ending ≡ EndOfText) → unwrap_or (cond r.sound (Some r.ending) None) EndOfText ≡ r.ending
+    open_end r h = go r.sound refl
+      where
+        go : (b : Bool) → r.sound ≡ b → unwrap_or (cond b (Some r.ending) None) EndOfText ≡ r.ending
+        go true e = refl
+        go false e = sym (h e)

@@ -1,16 +1,14 @@
 -- What the functions answer at a position of the text, by the definitions of Grammar.
-use Rattle.std.specs.Prelude.{ℕ, suc, ◌+◌, ◌-◌, cond, List, [], ◌∷◌, leb, ltb, length, get_or, take, drop, set, replicate}
+use Rattle.std.specs.Prelude.{ℕ, suc, ◌+◌, ◌-◌, cond, List, [], ◌∷◌, leb, ltb, Option, Some, None, length, get_or, take, drop, set, replicate}
 use Rattle.csv_text.specs.Grammar.{is_quote, Extent, size, unclosed, Field, comma, ends, broken, Record}
-use Rattle.csv_text.specs.declared.Close.{Close}
-use Rattle.csv_text.specs.declared.Close.TheVariants.{At, Never}
 use Rattle.csv_text.specs.declared.Found.{Found}
 use Rattle.csv_text.specs.declared.Found.TheVariants.{Comma, Ends, Broken}
 use Rattle.csv_text.specs.declared.Split.{Split}
 
 -- the end of an extent that starts at `at`, if it has at most `room` bytes
-abbrev pub close_at : ℕ → ℕ → Extent → Close
-close_at at room (size n) = cond (leb n room) (At (at + n)) Never
-close_at at room unclosed = Never
+abbrev pub close_at : ℕ → ℕ → Extent → Option ℕ
+close_at at room (size n) = cond (leb n room) (Some (at + n)) None
+close_at at room unclosed = None
 
 -- the end of a field that starts at `at`
 abbrev pub found_at : ℕ → Field → Found
@@ -39,9 +37,9 @@ unfoldable pub stops_of : ℕ → List (List ℕ) → List ℕ
 stops_of p [] = []
 stops_of p (w ∷ ws) = (p + length w) ∷ stops_of (p + length w + 1) ws
 
--- the split of a record that starts at p, after `count` fields whose bounds are noted already
+-- the split of a record that starts at p, after `count` fields whose bounds are noted already; it has an ending if no field is broken
 abbrev pub split_of : List ℕ → List ℕ → ℕ → ℕ → Record → Split
-split_of starts stops count p r = record { starts = noted starts count (starts_of p r.fields); ends = noted stops count (stops_of p r.fields); count = count + length r.fields; next = p + r.bytes; sound = r.sound; ending = r.ending }
+split_of starts stops count p r = record { starts = noted starts count (starts_of p r.fields); ends = noted stops count (stops_of p r.fields); count = count + length r.fields; next = p + r.bytes; ending = cond r.sound (Some r.ending) None }
 
 -- the part of the text between two bounds, if it lies in the text
 abbrev pub part_of : List ℕ → ℕ → ℕ → List ℕ

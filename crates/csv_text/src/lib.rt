@@ -9,22 +9,15 @@ ghost use Rattle.csv_text.specs.Place.{close_at, found_at, split_of, no_places, 
 
 use limits::MOST_FIELD_BYTES;
 
-// Where a field ends, if it is closed in time.
-#[derive(Clone, Copy)]
-pub enum Close {
-    At(usize),
-    Never,
-}
-
 // How a record ends.
-#[derive(Clone, Copy)]
+#[derive(Clone, Copy, PartialEq, Eq)]
 pub enum Ending {
     CrLf,
     Lf,
     EndOfText,
 }
 
-// The end of a field, by what follows it.
+// The end of a field, by what follows it. Three cases, so neither an Option nor a Result.
 #[derive(Clone, Copy)]
 pub enum Found {
     Comma(usize),
@@ -32,40 +25,36 @@ pub enum Found {
     Broken,
 }
 
-// A record: the bounds of its first eight fields, the count of all its fields, where the next record starts,
-// and how it ends. A record with a broken field is not sound: only the fields before that one are noted, `next` is where it starts, and the
-// ending is the end of the text.
+// A record: the bounds of its first eight fields, the count of all its fields, where the next record starts, and how it ends. A record with a
+// broken field has no ending: only the fields before that one are noted, and `next` is where it starts. The bounds are two arrays, as `split_of`
+// of specs/ gives them.
 #[derive(Drop)]
 pub struct Split {
     pub starts: [usize; 8],
     pub ends: [usize; 8],
     pub count: usize,
     pub next: usize,
-    pub sound: bool,
-    pub ending: Ending,
+    pub ending: Option<Ending>,
 }
 
 // Whether b may stand in a plain field.
 fn is_text(b: u8) -> bool
     ensures { result ≡ is_text b }
 {
-    match b {
-        b'"' | b',' | 13 | 10 => false,
-        _ => true,
-    }
+    !matches!(b, b'"' | b',' | b'\r' | b'\n')
 }
 
 // Inside quotes: the end of the field, if it comes within `room` bytes. Each byte takes one of them, so the calls are at most
-// MOST_FIELD_BYTES deep.
+// MOST_FIELD_BYTES deep. Document 01 names this form for the two functions.
 #[cycle(after_quote_inside_quotes)]
-fn inside_quotes(text: &[u8], at: usize, room: usize) -> Close
+fn inside_quotes(text: &[u8], at: usize, room: usize) -> Option<usize>
     ensures { result ≡ close_at at room (inside_quotes (drop at text.now)) }
 {
     if at >= text.len() {
-        return Close::Never;
+        return None;
     }
     if room == 0 {
-        return Close::Never;
+        return None;
     }
     if text[at] == b'"' {
         after_quote(text, at + 1, room - 1)
@@ -76,128 +65,91 @@ fn inside_quotes(text: &[u8], at: usize, room: usize) -> Close
 
 // After a quote mark of a quoted field: a second mark hands back to `inside_quotes`, and otherwise the first one closed the field.
 #[cycle(after_quote_inside_quotes)]
-fn after_quote(text: &[u8], at: usize, room: usize) -> Close
+fn after_quote(text: &[u8], at: usize, room: usize) -> Option<usize>
     ensures { result ≡ close_at at room (after_quote (drop at text.now)) }
 {
     if at >= text.len() {
-        return Close::At(at);
+        return Some(at);
     }
     if text[at] == b'"' {
         if room == 0 {
-            return Close::Never;
+            return None;
         }
         inside_quotes(text, at + 1, room - 1)
     } else {
-        Close::At(at)
+        Some(at)
     }
 }
 
 // The end of the run of text bytes that starts at `at`.
+#[tactic(auto, using(crate::proofs::Fields::run_over, crate::proofs::Fields::run_stops, crate::proofs::Fields::run_on))]
 fn plain_end(text: &[u8], at: usize) -> usize
     ensures { result ≡ at + plain (drop at text.now) }
 {
-    let mut i = at;
-    while i < text.len() {
-        if is_text(text[i]) {
-            i += 1;
-        } else {
+    for i in at..text.len() {
+        if !is_text(text[i]) {
             return i;
         }
     }
-    i
+    at.max(text.len())
 }
 
 // The end of the field that starts at `at`, if it has at most MOST_FIELD_BYTES bytes as written.
-fn field_close(text: &[u8], at: usize) -> Close
+#[tactic(auto, using(crate::proofs::Fields::close_quoted, crate::proofs::Fields::close_plain))]
+fn field_close(text: &[u8], at: usize) -> Option<usize>
     ensures { result ≡ close_at at most_field_bytes (extent (drop at text.now)) }
 {
-    if at >= text.len() {
-        return Close::At(at);
-    }
-    if text[at] == b'"' {
+    if at < text.len() && text[at] == b'"' {
         return inside_quotes(text, at + 1, MOST_FIELD_BYTES - 1);
     }
     let end = plain_end(text, at);
-    if end - at <= MOST_FIELD_BYTES {
-        Close::At(end)
-    } else {
-        Close::Never
-    }
+    (end - at <= MOST_FIELD_BYTES).then_some(end)
 }
 
-// What follows a field that ends at `end`, where a CR stands: the record ends there only if an LF comes next.
-fn after_cr(text: &[u8], end: usize) -> Found
-    requires { end < length text.now }
-    ensures { result ≡ found_at end (line_feed 0 (drop (end + 1) text.now)) }
-{
-    if text.len() - end == 1 {
-        return Found::Broken;
-    }
-    if text[end + 1] == 10 {
-        Found::Ends(Ending::CrLf, end)
-    } else {
-        Found::Broken
-    }
-}
-
-// What follows a field that ends at `end`.
+// What follows a field that ends at `end`: a comma, or the end of its record. A CR ends the record only if an LF comes next.
+#[tactic(auto, using(crate::proofs::Fields::found_following))]
 pub fn follow(text: &[u8], end: usize) -> Found
     ensures { result ≡ found_at end (following 0 (drop end text.now)) }
 {
     if end >= text.len() {
         return Found::Ends(Ending::EndOfText, end);
     }
-    let b = text[end];
-    if b == b',' {
-        return Found::Comma(end);
-    }
-    if b == 13 {
-        return after_cr(text, end);
-    }
-    if b == 10 {
-        Found::Ends(Ending::Lf, end)
-    } else {
-        Found::Broken
+    match text[end] {
+        b',' => Found::Comma(end),
+        b'\r' if end + 1 < text.len() && text[end + 1] == b'\n' => Found::Ends(Ending::CrLf, end),
+        b'\n' => Found::Ends(Ending::Lf, end),
+        _ => Found::Broken,
     }
 }
 
 // The end of the field that starts at `at`, by what follows it.
+#[tactic(auto, using(crate::proofs::Fields::find_never, crate::proofs::Fields::find_at))]
 fn field_end(text: &[u8], at: usize) -> Found
     ensures { result ≡ found_at at (field (drop at text.now)) }
 {
-    let Close::At(end) = field_close(text, at) else {
-        return Found::Broken;
-    };
-    follow(text, end)
-}
-
-// The bytes that an ending takes.
-pub fn width_of(x: Ending) -> usize
-    ensures { result ≡ width x }
-{
-    match x {
-        Ending::CrLf => 2,
-        Ending::Lf => 1,
-        Ending::EndOfText => 0,
+    match field_close(text, at) {
+        Some(end) => follow(text, end),
+        None => Found::Broken,
     }
 }
 
-// Whether a record may end so in a text whose first record ends in the way `first`.
-pub fn ends_alike(first: Ending, own: Ending) -> bool
-    ensures { result ≡ alike first own }
-{
-    match own {
-        Ending::EndOfText => true,
-        Ending::CrLf => match first {
-            Ending::CrLf => true,
-            Ending::Lf => false,
-            Ending::EndOfText => false,
-        },
-        Ending::Lf => match first {
-            Ending::Lf => true,
-            Ending::CrLf => false,
-            Ending::EndOfText => false,
-        },
+impl Ending {
+    // The bytes that an ending takes.
+    pub fn width(self) -> usize
+        ensures { result ≡ width self }
+    {
+        match self {
+            Ending::CrLf => 2,
+            Ending::Lf => 1,
+            Ending::EndOfText => 0,
+        }
+    }
+
+    // Whether a record may end in the way `own` in a text whose first record ends in this way: only the last may end with the text.
+    pub fn allows(self, own: Ending) -> bool
+        ensures { result ≡ alike self own }
+    {
+        own == Ending::EndOfText || own == self
     }
 }
 
@@ -232,9 +184,8 @@ pub fn scan_record(text: &[u8], at: usize) -> Split
                     starts,
                     ends,
                     count: count + 1,
-                    next: e + width_of(x),
-                    sound: true,
-                    ending: x,
+                    next: e + x.width(),
+                    ending: Some(x),
                 };
             }
             Found::Broken => {
@@ -243,60 +194,49 @@ pub fn scan_record(text: &[u8], at: usize) -> Split
                     ends,
                     count,
                     next: p,
-                    sound: false,
-                    ending: Ending::EndOfText,
+                    ending: None,
                 };
             }
         }
     }
 }
 
-// How the first record of a text ends. That of an empty text, or of a first record that is not sound, is the end of the text.
+// How the first record of a text ends. That of an empty text, or of a first record with a broken field, is the end of the text.
+#[tactic(auto, using(crate::proofs::Splits::first_split))]
 pub fn first_ending(text: &[u8]) -> Ending
     ensures { result ≡ first_ending (records text.now) }
 {
     let split = scan_record(text, 0);
-    split.ending
+    split.ending.unwrap_or(Ending::EndOfText)
 }
 
 // The part of the text between two bounds, no copy. It is empty where they do not lie in the text, or not in order.
 pub fn part(text: &[u8], from: usize, to: usize) -> &[u8]
     ensures { result.now ≡ part_of text.now from to }
 {
-    if from > to {
-        return &text[..0];
-    }
-    if to > text.len() {
-        return &text[..0];
-    }
-    &text[from..to]
+    text.get(from..to).unwrap_or_default()
 }
 
-// The field finder: field i of a record as written, a part of the caller's text, by the bounds that `scan_record` noted.
-pub fn find_field<'a>(text: &'a [u8], starts: &[usize; 8], ends: &[usize; 8], i: usize) -> &'a [u8]
-    ensures { result.now ≡ field_at text.now starts.now ends.now i }
-{
-    if i >= 8 {
-        return &text[..0];
+impl Split {
+    // The field finder: field i of the record as written, a part of its text, by the bounds that `scan_record` noted.
+    pub fn field<'a>(&self, text: &'a [u8], i: usize) -> &'a [u8]
+        ensures { result.now ≡ field_at text.now self.now.starts self.now.ends i }
+    {
+        if i >= 8 {
+            return &[];
+        }
+        part(text, self.starts[i], self.ends[i])
     }
-    let from = starts[i];
-    let to = ends[i];
-    part(text, from, to)
 }
 
 // A field without its quote marks, a part of the text. Doubled marks stay as they are.
+#[tactic(auto, using(crate::proofs::Quotes::inner_is))]
 pub fn inner_part(w: &[u8]) -> &[u8]
     ensures { result.now ≡ inner w.now }
 {
-    if w.len() == 0 {
-        return w;
+    match w {
+        [b'"', inner @ .., _] => inner,
+        [b'"', ..] => &[],
+        _ => w,
     }
-    if w[0] != b'"' {
-        return w;
-    }
-    if w.len() == 1 {
-        return &w[..0];
-    }
-    let last = w.len() - 1;
-    &w[1..last]
 }

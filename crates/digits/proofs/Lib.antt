@@ -1,4 +1,3 @@
 -- What the proofs of several functions use.
 pub mod Runs
-pub mod Values
 pub mod Numerals

@@ -1,13 +1,6 @@
 -- The digits that write a number: they write that number, and they are its last digit after those of its tenth.
 -- Assumes nothing.
-use mathlib.Core.Path.{◌≡◌, refl, ◌∙◌, ap}
-use mathlib.Core.Bool.{Bool, true, false, cond}
-use mathlib.Core.List.{List, [], ◌∷◌, ◌++◌}
-use Prim.Native.Nat.{ℕ, zero, suc, ◌+◌, ◌-◌, ◌*◌, ◌/◌, ◌%◌, ◌^◌, ◌<◌, ◌≤◌}
-use native.Mathlib.Omega.{arith}
-use borrow.Author.Tests.{le-leb, ltb-true, ltb-false, lt-ltb, le-ltb}
-use lib.ListN.{length, length-append, get_or}
-use lib.Dec.{ltb}
+use Rattle.std.proofs.Common.{◌≡◌, refl, ◌∙◌, ap, Bool, true, false, cond, List, [], ◌∷◌, ◌++◌, ℕ, zero, suc, ◌+◌, ◌-◌, ◌*◌, ◌/◌, ◌%◌, ◌^◌, ◌<◌, ◌≤◌, arith, le-leb, ltb-true, ltb-false, lt-ltb, le-ltb, length, length-append, get_or, ltb}
 use Rattle.digits.specs.Decimal.{digits, decimal, numeral_in, numeral_of}
 
 -- what holds of the digits of n in front of s, by cases on n < 10

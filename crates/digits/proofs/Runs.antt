@@ -1,22 +1,15 @@
 -- The digits at a position of a text, one digit more at a time.
 -- Assumes nothing.
-use mathlib.Core.Path.{◌≡◌, refl, sym, ap, ◌∙◌}
-use mathlib.Core.Bool.{Bool, true, false, cond, and-false, and-eq-true_iff}
-use mathlib.Core.List.{List, [], ◌∷◌}
-use Prim.Native.Nat.{ℕ, suc, ◌+◌, ◌-◌, ◌*◌, ◌^◌, ◌<◌, ◌≤◌}
-use native.Mathlib.Nat.{add-zero}
-use native.Mathlib.Numerals.{add-one}
-use native.Mathlib.Omega.{arith}
-use borrow.Author.Tests.{ltb-true, ltb-false, lt-ltb, le-ltb, le-leb, lt-leb}
-use lib.ListN.{length, take, drop, get_or, drop_of_length-le}
-use lib.Seq.{drop-cons}
-use lib.Dec.{leb, ltb}
-use mir.Syntax.{Width}
-use mir.Val.{Fits, bits}
+use Rattle.std.proofs.Common.{◌≡◌, refl, sym, ap, ◌∙◌, Bool, true, false, cond, List, [], ◌∷◌, ℕ, suc, ◌+◌, ◌-◌, ◌*◌, ◌<◌, ◌≤◌, length, take, drop, max, get_or, leb, Option, Some, None, arith, add-zero, add-one, leb-true, leb-false, le-leb, length-drop, drop_of_length-le, drop-cons}
+use mathlib.Core.Bool.{and-eq-true_iff}
+use borrow.Author.Tests.{lt-leb}
+use Rattle.std.specs.Char.{is_ascii_digit}
 use Rattle.digits.specs.Decimal.{digit, digits, decimal}
-use Rattle.digits.specs.Run.{digit_count, number_up_to, run_at}
-use Rattle.digits.specs.declared.Value.TheVariants.{Number, Bad}
+use Rattle.digits.specs.Run.{digit_count, held, run_at}
 use Rattle.digits.specs.declared.DigitRun.{DigitRun}
+
+is_digit : (b : ℕ) → is_ascii_digit b ≡ digit b
+is_digit b = refl
 
 -- What stands at i: nothing, a byte that is no digit, a digit.
 module _ (s : List ℕ) (i : ℕ) where
@@ -24,95 +17,16 @@ module _ (s : List ℕ) (i : ℕ) where
   unfolding digit_count
   none_over h = rw (drop_of_length-le s h)
 
-  module _ (h : i < length s) where
-    pub none_low : get_or s i 0 < 48 → digit_count (drop i s) ≡ 0
+  module _ (h : i < length s) {r : Bool} (q : r ≡ is_ascii_digit (get_or s i 0)) where
+    pub none_here : r ≡ false → digit_count (drop i s) ≡ 0
     unfolding digit_count
-    none_low l = rw (drop-cons s i 0 h, lt-leb 48 (get_or s i 0) l)
+    none_here e = rw (drop-cons s i 0 h, sym (is_digit (get_or s i 0)) ∙ sym q ∙ e)
 
-    pub none_high : 57 < get_or s i 0 → digit_count (drop i s) ≡ 0
+    pub one_more : r ≡ true → digit_count (drop i s) ≡ suc (digit_count (drop (i + 1) s))
     unfolding digit_count
-    none_high l = rw (drop-cons s i 0 h, lt-leb (get_or s i 0) 57 l, and-false)
+    one_more e = rw (add-one i, drop-cons s i 0 h, sym (is_digit (get_or s i 0)) ∙ sym q ∙ e)
 
-    module _ (k : 48 ≤ get_or s i 0) (l : get_or s i 0 ≤ 57) where
-      one_more : digit_count (drop i s) ≡ suc (digit_count (drop (i + 1) s))
-      unfolding digit_count
-      one_more = rw (add-one i, drop-cons s i 0 h, le-leb 48 (get_or s i 0) k, le-leb (get_or s i 0) 57 l)
-
--- A turn of `digits_end` at i; t is where the digits end.
-module _ (s : List ℕ) (i t : ℕ) (q : t ≡ i + digit_count (drop i s)) where
-  pub end_here : digit_count (drop i s) ≡ 0 → i ≡ t
-  end_here e = sym (q ∙ rw (e, add-zero))
-
-  pub end_on : i < length s → 48 ≤ get_or s i 0 → get_or s i 0 ≤ 57 → t ≡ i + 1 + digit_count (drop (i + 1) s)
-  end_on h k l = omega (arith, one_more s i h k l)
-
--- LAW: each way through `overflows` and `overflows_wide`. The greatest number of either width is ten times some t and 5.
-module _ (g t n d : ℕ) (w : g ≡ t * 10 + 5) (l : d ≤ 9) where
-  pub far_below : n < t → false ≡ ltb g (n * 10 + d)
-  far_below h = sym (le-ltb g (n * 10 + d) (omega arith))
-
-  pub far_above : t < n → true ≡ ltb g (n * 10 + d)
-  far_above h = sym (lt-ltb g (n * 10 + d) (omega arith))
-
-  pub last_digit : t ≤ n → n ≤ t → ltb 5 d ≡ ltb g (n * 10 + d)
-  last_digit h k = go (ltb 5 d) refl
-    where
-      go : (b : Bool) → ltb 5 d ≡ b → b ≡ ltb g (n * 10 + d)
-      go true e = let m : 5 < d = ltb-true 5 d e in sym (lt-ltb g (n * 10 + d) (omega arith))
-      go false e = let m : d ≤ 5 = ltb-false 5 d e in sym (le-ltb g (n * 10 + d) (omega arith))
-
--- A digit that is taken: the numbers on the way fit the word w, whose greatest number is g.
-module _ {g : ℕ} (n d : ℕ) {r : Bool} (e : r ≡ ltb g (n * 10 + d)) (f : r ≡ false) where
-  pub within_width : n * 10 + d ≤ g
-  within_width = ltb-false g (n * 10 + d) (sym e ∙ f)
-
-  module _ (w : Width) (k : suc g ≡ 2 ^ bits w) where
-    pub product_fits : Fits w (n * 10)
-    product_fits = record { fits = rw (← k) (omega (arith, within_width)) }
-
-    pub sum_fits : Fits w (n * 10 + d)
-    sum_fits = record { fits = rw (← k) (omega (arith, within_width)) }
-
--- more digits make no smaller number
-grows : (n : ℕ) (s : List ℕ) → n ≤ decimal n s
-unfolding decimal
-grows n [] = omega arith
-grows n (b ∷ s) = let h : n * 10 + (b - 48) ≤ decimal (n * 10 + (b - 48)) s = grows (n * 10 + (b - 48)) s in omega arith
-
--- the run of digits that goes on at i, after digits that wrote n, at the width that ends at g
-abbrev pub run_after : ℕ → ℕ → ℕ → List ℕ → DigitRun
-run_after g n i s = record { value = number_up_to g (decimal n (take (digit_count s) s)); end = i + digit_count s }
-
--- what holds before each turn of `digit_run` and `wide_run`, which started at `at`, with n gathered up to i
-abbrev pub Gathered : ℕ → List ℕ → ℕ → ℕ → ℕ → Type 0
-Gathered g s at n i = (n ≤ g) × (run_at g at (drop at s) ≡ run_after g n i (drop i s))
-
--- LAW: a turn of `digit_run` or `wide_run` at i with n gathered; x is the run from its first digit on, and g ends the width.
-module _ (g : ℕ) (s : List ℕ) (n i : ℕ) {x : DigitRun} (q : x ≡ run_after g n i (drop i s)) where
-  pub run_here : n ≤ g → digit_count (drop i s) ≡ 0 → record { value = Number n; end = i } ≡ x
-  unfolding decimal
-  run_here l e = sym (q ∙ rw (e, add-zero, le-leb n g l))
-
-  module _ (h : i < length s) (k : 48 ≤ get_or s i 0) (l : get_or s i 0 ≤ 57) where
-    goes_on : run_after g n i (drop i s) ≡ run_after g (n * 10 + (get_or s i 0 - 48)) (i + 1) (drop (i + 1) s)
-    unfolding decimal
-    goes_on =
-        let e : i + suc (digit_count (drop (i + 1) s)) ≡ i + 1 + digit_count (drop (i + 1) s) = omega arith in
-        rw (one_more s i h k l, e) (rw (drop-cons s i 0 h, ← add-one i))
-
-    pub run_on : x ≡ run_after g (n * 10 + (get_or s i 0 - 48)) (i + 1) (drop (i + 1) s)
-    run_on = q ∙ goes_on
-
-    pub run_past : {r : Bool} {e : ℕ} → r ≡ ltb g (n * 10 + (get_or s i 0 - 48)) → r ≡ true → e ≡ i + digit_count (drop i s) → record { value = Bad; end = e } ≡ x
-    run_past {r} {e} f o w =
-        let m : ℕ = n * 10 + (get_or s i 0 - 48) in
-        let t : List ℕ = take (digit_count (drop (i + 1) s)) (drop (i + 1) s) in
-        let v : g < m = ltb-true g m (sym f ∙ o) in
-        let b : leb (decimal m t) g ≡ false = lt-leb (decimal m t) g (omega (arith, grows m t)) in
-        let z : i + 1 + digit_count (drop (i + 1) s) ≡ e = omega (arith, one_more s i h k l) in
-        sym (run_on ∙ rw (b, z))
-
--- the digits at the start of s are digits, and lie in it; where they are not all of s, s is not digits
+-- the digits at the start of s lie in it
 pub count_within : (s : List ℕ) → digit_count s ≤ length s
 unfolding digit_count
 count_within [] = omega arith
@@ -122,6 +36,85 @@ count_within (b ∷ s) = go (digit b) (count_within s)
     go true h = omega arith
     go false h = omega arith
 
+-- A turn of `digits_end` at i; t is where the digits end.
+module _ (s : List ℕ) (i t : ℕ) (q : t ≡ i + digit_count (drop i s)) where
+  pub end_here : digit_count (drop i s) ≡ 0 → i ≡ t
+  end_here e = sym (q ∙ rw (e, add-zero))
+
+  pub end_on : i < length s → {r : Bool} → r ≡ is_ascii_digit (get_or s i 0) → r ≡ true → t ≡ i + 1 + digit_count (drop (i + 1) s)
+  end_on h d e = omega (arith, one_more s i h d e)
+
+-- The scan came to the end of the text, or began there: i is the index after it.
+pub end_of_text : (s : List ℕ) (at i : ℕ) → at + digit_count (drop at s) ≡ i + digit_count (drop i s) → length s ≤ i → at ≤ i → {m : ℕ} → m ≡ max at (length s) → m ≡ at + digit_count (drop at s)
+end_of_text s at i q h l e = omega (arith, none_over s i h, count_within (drop at s), length-drop at s)
+
+-- more digits make no smaller number
+grows : (n : ℕ) (s : List ℕ) → n ≤ decimal n s
+unfolding decimal
+grows n [] = omega arith
+grows n (b ∷ s) = let h : n * 10 + (b - 48) ≤ decimal (n * 10 + (b - 48)) s = grows (n * 10 + (b - 48)) s in omega arith
+
+-- Digits that are gathered in a type, whose greatest number is g.
+module _ {A : Type 0} (of : ℕ → A) (g : ℕ) where
+  -- the run of digits that goes on at i, after digits that wrote n
+  abbrev pub run_after : ℕ → ℕ → List ℕ → DigitRun A
+  run_after n i s = record { value = held of g (decimal n (take (digit_count s) s)); end = i + digit_count s }
+
+  -- what holds before each turn of `digit_run`, which started at `at`, with n gathered up to i
+  abbrev pub Gathered : List ℕ → ℕ → ℕ → ℕ → Type 0
+  Gathered s at n i = (n ≤ g) × (run_at of g at (drop at s) ≡ run_after n i (drop i s))
+
+  -- a digit that the type holds, and one that it does not
+  held_within : (m : ℕ) {r : Option A} → r ≡ held of g m → (x : A) → r ≡ Some x → (m ≤ g) × (x ≡ of m)
+  held_within m {r} q x e = go (leb m g) refl (sym e ∙ q)
+    where
+      go : (b : Bool) → leb m g ≡ b → Some x ≡ cond b (Some (of m)) None → (m ≤ g) × (x ≡ of m)
+      go true f h = (leb-true m g f, cc)
+      go false f h = absurd cc
+
+  held_past : (m : ℕ) {r : Option A} → r ≡ held of g m → r ≡ None → g < m
+  held_past m {r} q e = go (leb m g) refl (sym e ∙ q)
+    where
+      go : (b : Bool) → leb m g ≡ b → None ≡ cond b (Some (of m)) None → g < m
+      go true f h = absurd cc
+      go false f h = leb-false m g f
+
+  -- LAW: a turn of `digit_run` at i with n gathered.
+  module _ (s : List ℕ) (at n i : ℕ) (q : Gathered s at n i) where
+    pub run_here : {y : A} → of n ≡ y → digit_count (drop i s) ≡ 0 → record { value = Some y; end = i } ≡ run_at of g at (drop at s)
+    unfolding decimal
+    run_here z e = sym (q.1 ∙ rw (e, add-zero, le-leb n g q.0, z))
+
+    pub run_over : {y : A} → of n ≡ y → length s ≤ i → at ≤ i → {m : ℕ} → m ≡ max at (length s) → record { value = Some y; end = m } ≡ run_at of g at (drop at s)
+    run_over {y} z h l {m} e =
+        let k : m ≡ at + digit_count (drop at s) = end_of_text s at i (ap (λ (x : DigitRun A). x.end) q.1) h l e in
+        let j : m ≡ i = k ∙ ap (λ (x : DigitRun A). x.end) q.1 ∙ omega (arith, none_over s i h) in
+        rw j (run_here z (none_over s i h))
+
+    module _ (h : i < length s) {r : Bool} (d : r ≡ is_ascii_digit (get_or s i 0)) (y : r ≡ true) where
+      goes_on : run_after n i (drop i s) ≡ run_after (n * 10 + (get_or s i 0 - 48)) (i + 1) (drop (i + 1) s)
+      unfolding decimal
+      goes_on =
+          let e : i + suc (digit_count (drop (i + 1) s)) ≡ i + 1 + digit_count (drop (i + 1) s) = omega arith in
+          rw (one_more s i h d y, e) (rw (drop-cons s i 0 h, ← add-one i))
+
+      module _ {u : Option A} (w : u ≡ held of g (n * 10 + (get_or s i 0 - 48))) where
+        pub run_on : (number : A → ℕ) → ((m : ℕ) → number (of m) ≡ m) → (x : A) → u ≡ Some x → Gathered s at (number x) (i + 1)
+        run_on number back x e =
+            let k = held_within (n * 10 + (get_or s i 0 - 48)) w x e in
+            let j : number x ≡ n * 10 + (get_or s i 0 - 48) = ap number k.1 ∙ back (n * 10 + (get_or s i 0 - 48)) in
+            rw j (k.0, q.1 ∙ goes_on)
+
+        pub run_past : u ≡ None → {e : ℕ} → e ≡ i + digit_count (drop i s) → record { value = None; end = e } ≡ run_at of g at (drop at s)
+        run_past f {e} z =
+            let m : ℕ = n * 10 + (get_or s i 0 - 48) in
+            let t : List ℕ = take (digit_count (drop (i + 1) s)) (drop (i + 1) s) in
+            let v : g < m = held_past m w f in
+            let b : leb (decimal m t) g ≡ false = lt-leb (decimal m t) g (omega (arith, grows m t)) in
+            let o : i + 1 + digit_count (drop (i + 1) s) ≡ e = omega (arith, one_more s i h d y) in
+            sym (q.1 ∙ goes_on ∙ rw (b, o))
+
+-- the digits at the start of s are digits; where they are not all of s, s is not digits
 pub count_digits : (s : List ℕ) → digits (take (digit_count s) s) ≡ true
 unfolding digit_count digits
 count_digits [] = refl

@@ -1,13 +1,10 @@
 -- What the steps of a reading answer: the sign at a position of a text, and what digits say once their number is known. A width is given by the greatest
 -- number that it holds.
 -- Assumes nothing: these are definitions.
-use Rattle.std.specs.Prelude.{ℕ, ◌-◌, ◌^◌, Bool, false, cond, List, [], ◌∷◌, eqb}
-use Rattle.digits.specs.Run.{number_up_to}
-use Rattle.digits.specs.declared.Value.{Value}
-use Rattle.digits.specs.declared.Value.TheVariants.{Number, Missing, Bad}
+use Rattle.std.specs.Prelude.{ℕ, ◌-◌, ◌^◌, Bool, false, cond, List, [], ◌∷◌, eqb, leb, ℤ, Option, Some, None, Result, Ok, Err}
+use Rattle.digits.specs.declared.NotNumber.{NotNumber}
+use Rattle.digits.specs.declared.NotNumber.TheVariants.{Missing, Bad}
 use Rattle.numbers.specs.Number.{plus, minus}
-use Rattle.numbers.specs.declared.SignedValue.{SignedValue}
-use Rattle.numbers.specs.declared.SignedValue.TheVariants.{Missing as NoSigned}
 
 -- whether a minus sign stands at the start of s, as a count of bytes
 unfoldable pub sign_count : List ℕ → ℕ
@@ -20,18 +17,22 @@ leading_zero [] = false
 leading_zero (b ∷ []) = false
 leading_zero (b ∷ c ∷ s) = eqb b 48
 
--- What was gathered, at a width that may be smaller. Digits always write a number, so that `Missing` does not occur.
-abbrev pub at_width : ℕ → Value → Value
-at_width greatest (Number n) = number_up_to greatest n
-at_width greatest Missing = Bad
-at_width greatest Bad = Bad
+-- an answer whose number is of a type, made by `of`
+abbrev pub in_type : {A : Type 0} → (ℕ → A) → Result ℕ NotNumber → Result A NotNumber
+in_type of (Ok n) = Ok (of n)
+in_type of (Err e) = Err e
+
+-- what was gathered in a type, whose numbers are told by `number`, at a width that may be smaller
+abbrev pub at_width : {A : Type 0} → (A → ℕ) → ℕ → Option A → Result A NotNumber
+at_width number greatest (Some n) = cond (leb (number n) greatest) (Ok n) (Err Bad)
+at_width number greatest None = Err Bad
 
 -- What digits alone say, where v is the number that they write. Nothing at all is missing.
-unfoldable pub natural_by : ℕ → List ℕ → Value → Value
-natural_by greatest [] v = Missing
-natural_by greatest (b ∷ s) v = cond (leading_zero (b ∷ s)) Bad (at_width greatest v)
+unfoldable pub natural_by : {A : Type 0} → (A → ℕ) → ℕ → List ℕ → Option A → Result A NotNumber
+natural_by number greatest [] v = Err Missing
+natural_by number greatest (b ∷ s) v = cond (leading_zero (b ∷ s)) (Err Bad) (at_width number greatest v)
 
 -- the same of digits that may follow a minus sign
-unfoldable pub integer_by : List ℕ → Value → SignedValue
-integer_by [] v = NoSigned
-integer_by (b ∷ s) v = cond (eqb b 45) (minus (natural_by (2 ^ 63) s v)) (plus (natural_by (2 ^ 63 - 1) (b ∷ s) v))
+unfoldable pub integer_by : List ℕ → Option ℕ → Result ℤ NotNumber
+integer_by [] v = Err Missing
+integer_by (b ∷ s) v = cond (eqb b 45) (minus (natural_by (λ n. n) (2 ^ 63) s v)) (plus (natural_by (λ n. n) (2 ^ 63 - 1) (b ∷ s) v))

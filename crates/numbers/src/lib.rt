@@ -2,138 +2,126 @@
 #![tactic(auto)]
 
 ghost use Rattle.std.specs.Prelude.{◌≡◌, ◌+◌, ◌-◌, ◌^◌, drop};
-ghost use Rattle.digits.specs.Run.{as_value};
-ghost use Rattle.numbers.specs.Number.{natural, integer};
-ghost use Rattle.numbers.specs.Steps.{sign_count, leading_zero, natural_by, integer_by};
+ghost use Rattle.numbers.specs.Number.{natural, plus, minus, integer};
+ghost use Rattle.numbers.specs.Steps.{sign_count, leading_zero, at_width, natural_by, integer_by, in_type};
 
-use digits::{Value, WideValue};
+use digits::{NotNumber, Unsigned};
 
-// What a text says where a minus sign is allowed.
-#[derive(Clone, Copy)]
-pub enum SignedValue {
-    Number(i64),
-    Missing,
-    Bad,
-}
+const MINUS: u8 = b'-';
 
 // ---- what the digits of a field say
 
 // Where the digits of a number at `at` start: after a minus sign, if one stands there.
+#[tactic(auto, using(crate::proofs::Numbers::start_over, crate::proofs::Numbers::start_minus, crate::proofs::Numbers::start_plain))]
 pub fn digits_start(text: &[u8], at: usize) -> usize
     ensures { result ≡ at + sign_count (drop at text.now) }
 {
-    if at >= text.len() {
-        return at;
+    if at < text.len() && text[at] == MINUS {
+        at + 1
+    } else {
+        at
     }
-    if text[at] == b'-' { at + 1 } else { at }
 }
 
 // Whether digits have a leading zero other than 0 alone.
+#[tactic(auto, using(crate::proofs::Numbers::short_no_zero, crate::proofs::Numbers::long_zero))]
 fn has_leading_zero(written: &[u8]) -> bool
     ensures { result ≡ leading_zero written.now }
 {
-    if written.len() < 2 {
-        return false;
+    written.len() > 1 && written[0] == b'0'
+}
+
+// What was gathered, at a width that ends at `greatest`.
+fn at_width<T: Unsigned>(value: Option<T>, greatest: u64) -> Result<T, NotNumber>
+    ensures { result ≡ at_width T.number greatest value }
+{
+    let Some(n) = value else {
+        return Err(NotNumber::Bad);
+    };
+    if n.to_u64() <= greatest {
+        Ok(n)
+    } else {
+        Err(NotNumber::Bad)
     }
-    written[0] == b'0'
 }
 
 // What the digits `written` say at a width that ends at `greatest`, where `value` is what `digit_run` gathered of them.
-pub fn natural_by(written: &[u8], value: Value, greatest: u32) -> Value
-    ensures { result ≡ natural_by greatest written.now value }
+#[tactic(auto, using(crate::proofs::Numbers::by_none, crate::proofs::Numbers::by_zero, crate::proofs::Numbers::by_width))]
+pub fn natural_by<T: Unsigned>(
+    written: &[u8],
+    value: Option<T>,
+    greatest: u64,
+) -> Result<T, NotNumber>
+    ensures { result ≡ natural_by T.number greatest written.now value }
 {
-    if written.len() == 0 {
-        return Value::Missing;
+    if written.is_empty() {
+        return Err(NotNumber::Missing);
     }
     if has_leading_zero(written) {
-        return Value::Bad;
+        return Err(NotNumber::Bad);
     }
-    let Value::Number(n) = value else {
-        return Value::Bad;
-    };
-    if n > greatest {
-        return Value::Bad;
-    }
-    Value::Number(n)
+    at_width(value, greatest)
 }
 
-// The same of a number that may need 64 bits.
-fn wide_by(written: &[u8], value: WideValue, greatest: u64) -> WideValue
-    ensures { as_value result ≡ natural_by greatest written.now (as_value value) }
+// What digits say after a minus sign.
+fn negative_by(digits: &[u8], value: Option<u64>) -> Result<i64, NotNumber>
+    ensures { result ≡ minus (natural_by (λ n. n) (2 ^ 63) digits.now value) }
 {
-    if written.len() == 0 {
-        return WideValue::Missing;
-    }
-    if has_leading_zero(written) {
-        return WideValue::Bad;
-    }
-    let WideValue::Number(total) = value else {
-        return WideValue::Bad;
+    let Ok(n) = natural_by(digits, value, 9223372036854775808) else {
+        return Err(NotNumber::Bad);
     };
-    if total > greatest {
-        return WideValue::Bad;
+    if n == 0 {
+        return Err(NotNumber::Bad);
     }
-    WideValue::Number(total)
+    let m = (n - 1) as i64;
+    Ok(-1 - m)
 }
 
-// What the digits `written` say, with a minus sign allowed, where `value` is what `wide_run` gathered of the digits.
-pub fn integer_by(written: &[u8], value: WideValue) -> SignedValue
-    ensures { result ≡ integer_by written.now (as_value value) }
+// What digits say with no sign.
+fn positive_by(digits: &[u8], value: Option<u64>) -> Result<i64, NotNumber>
+    ensures { result ≡ plus (natural_by (λ n. n) (2 ^ 63 - 1) digits.now value) }
 {
-    if written.len() == 0 {
-        return SignedValue::Missing;
+    let n = natural_by(digits, value, 9223372036854775807)?;
+    Ok(n as i64)
+}
+
+// What the digits `written` say, with a minus sign allowed, where `value` is what `digit_run` gathered of the digits.
+#[tactic(auto, using(crate::proofs::Numbers::integer_none, crate::proofs::Numbers::integer_minus, crate::proofs::Numbers::integer_plus))]
+pub fn integer_by(written: &[u8], value: Option<u64>) -> Result<i64, NotNumber>
+    ensures { result ≡ integer_by written.now value }
+{
+    if written.is_empty() {
+        Err(NotNumber::Missing)
+    } else if written[0] == MINUS {
+        negative_by(&written[1..], value)
+    } else {
+        positive_by(written, value)
     }
-    if written[0] == b'-' {
-        let WideValue::Number(n) = wide_by(&written[1..], value, 9223372036854775808) else {
-            return SignedValue::Bad;
-        };
-        if n == 0 {
-            return SignedValue::Bad;
-        }
-        let m = (n - 1) as i64;
-        return SignedValue::Number(-1 - m);
-    }
-    let WideValue::Number(n) = wide_by(written, value, 9223372036854775807) else {
-        return SignedValue::Bad;
-    };
-    SignedValue::Number(n as i64)
 }
 
 // ---- what a whole text says
 
 // What s says as a number of at most `greatest`.
-pub fn natural_of(s: &[u8], greatest: u32) -> Value
-    ensures { result ≡ natural greatest s.now }
+pub fn natural_of<T: Unsigned>(s: &[u8], greatest: T) -> Result<T, NotNumber>
+    ensures { result ≡ in_type T.of (natural (T.number greatest) s.now) }
 {
     let run = digits::digit_run(s, 0);
-    let value = run.value;
+    let greatest = greatest.to_u64();
     if run.end < s.len() {
-        return Value::Bad;
+        return Err(NotNumber::Bad);
     }
-    natural_by(s, value, greatest)
-}
-
-// What s says as a number of at most 2^64 - 1.
-pub fn wide_of(s: &[u8]) -> WideValue
-    ensures { as_value result ≡ natural (2 ^ 64 - 1) s.now }
-{
-    let run = digits::wide_run(s, 0);
-    let value = run.value;
-    if run.end < s.len() {
-        return WideValue::Bad;
-    }
-    wide_by(s, value, 18446744073709551615)
+    natural_by(s, run.value, greatest)
 }
 
 // What s says as a number from -2^63 to 2^63 - 1.
-pub fn integer_of(s: &[u8]) -> SignedValue
+#[tactic(auto, using(crate::proofs::Numbers::integer_other, crate::proofs::Numbers::integer_whole))]
+pub fn integer_of(s: &[u8]) -> Result<i64, NotNumber>
     ensures { result ≡ integer s.now }
 {
     let from = digits_start(s, 0);
-    let run = digits::wide_run(s, from);
-    let value = run.value;
+    let run = digits::digit_run(s, from);
     if run.end < s.len() {
-        return SignedValue::Bad;
+        return Err(NotNumber::Bad);
     }
-    integer_by(s, value)
+    integer_by(s, run.value)
 }

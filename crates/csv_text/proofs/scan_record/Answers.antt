@@ -29,11 +29,11 @@ loop-e-preserved c =
     )
 
 pub overflow_add-result-in-Ends : goal.overflow_add-result-in-Ends
-overflow_add-result-in-Ends c = let ranged = ends_range c.args.text.now c.loop-e.p c.field_end.ensures c.in-Ends.x c.in-Ends.e c.in-Ends.is c.width_of.result c.width_of.ensures in
+overflow_add-result-in-Ends c = let ranged = ends_range c.args.text.now c.loop-e.p c.field_end.ensures c.in-Ends.x c.in-Ends.e c.in-Ends.is c.width.result c.width.ensures in
     omega (arith, ranged)
 
 pub returns-in-Ends : goal.returns-in-Ends
-returns-in-Ends c = scan_ends c.args.text.now c.loop-e.p c.field_end.ensures c.in-Ends.x c.in-Ends.e c.in-Ends.is c.loop-e.starts c.loop-e.ends c.loop-e.count c.width_of.result c.note_bounds-in-Ends.ensures.0 c.note_bounds-in-Ends.ensures.1 c.width_of.ensures c.loop-e.invariant.3
+returns-in-Ends c = scan_ends c.args.text.now c.loop-e.p c.field_end.ensures c.in-Ends.x c.in-Ends.e c.in-Ends.is c.loop-e.starts c.loop-e.ends c.loop-e.count c.width.result c.note_bounds-in-Ends.ensures.0 c.note_bounds-in-Ends.ensures.1 c.width.ensures c.loop-e.invariant.3
 
 pub returns-in-Broken : goal.returns-in-Broken
 returns-in-Broken c = search scan_broken

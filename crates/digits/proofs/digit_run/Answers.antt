@@ -1,23 +1,14 @@
-use Rattle.digits.proofs.Runs.{none_over, none_low, none_high, run_here, run_on, run_past, within_width, product_fits, sum_fits}
+use Rattle.digits.proofs.Runs.{none_here, run_here, run_over, run_on, run_past}
 use Rattle.digits.proofs.digit_run.Goals as goal
 
-pub returns-then-b-lt48 : goal.returns-then-b-lt48
-returns-then-b-lt48 c = search (run_here, none_low)
+pub returns-then-not-is_ascii_digit : goal.returns-then-not-is_ascii_digit
+returns-then-not-is_ascii_digit g c = let z = g.met.T.Unsigned.of_number c.loop-i.n in search (run_here, none_here)
 
-pub returns-then-b-gt57 : goal.returns-then-b-gt57
-returns-then-b-gt57 c = search (run_here, none_high)
-
-pub returns-then-overflows : goal.returns-then-overflows
-returns-then-overflows c = search run_past
-
-pub overflow_mul-n : goal.overflow_mul-n
-overflow_mul-n c = search product_fits
-
-pub overflow_add-n : goal.overflow_add-n
-overflow_add-n c = search sum_fits
+pub returns-in_default : goal.returns-in_default
+returns-in_default g c = search run_past
 
 pub loop-i-preserved : goal.loop-i-preserved
-loop-i-preserved c = (search within_width, search run_on)
+loop-i-preserved g c = run_on g.T.Unsigned.of g.T.Unsigned.greatest c.args.text.now c.args.at _ c.loop-i.i c.loop-i.invariant c.loop-i-test.true c.is_ascii_digit.ensures.value c.if-not-is_ascii_digit.false c.with_digit.ensures g.T.Unsigned.number g.met.T.Unsigned.number_of c.in-Some.next c.in-Some.is
 
 pub returns : goal.returns
-returns c = search (run_here, none_over)
+returns g c = let z = g.met.T.Unsigned.of_number c.loop-i.n in search run_over

@@ -1,10 +1,5 @@
 use Rattle.digits.proofs.Runs.{Gathered}
-use Prim.Native.Nat.{◌-◌, ◌^◌}
-use lib.ListN.{length}
 use Rattle.digits.proofs.digit_run.Given as goal
 
 abbrev pub invariant-loop-i : goal.invariant-loop-i
-invariant-loop-i l = Gathered (2 ^ 32 - 1) l.text l.at l.n l.i
-
-abbrev pub decreases-loop-i : goal.decreases-loop-i
-decreases-loop-i l = length l.text - l.i
+invariant-loop-i g l = Gathered g.T.Unsigned.of g.T.Unsigned.greatest l.text l.at (g.T.Unsigned.number l.n) l.i
