@@ -1,3 +1,4 @@
+pub mod Fault
 pub mod Row
 pub mod Judge
 pub mod Place

@@ -1,14 +1,13 @@
 -- The rows of the two tables: what the fields of a record say of a block and of a loop. Document 01, "The routine as two tables" and
 -- "Reading the text".
 -- Assumes nothing: these are definitions.
-use Rattle.std.specs.Prelude.{ℕ, ◌-◌, ◌^◌, Bool, cond, List, eqb, ltb, ℤ}
+use Rattle.std.specs.Prelude.{ℕ, ◌-◌, ◌^◌, Bool, cond, List, eqb, ltb, ℤ, Result, Ok, Err}
 use Rattle.cells.specs.Cell.{unsigned, signed}
-use Rattle.digits.specs.declared.Value.{Value}
-use Rattle.digits.specs.declared.Value.TheVariants.{Number, Missing, Bad}
-use Rattle.numbers.specs.declared.SignedValue.{SignedValue}
-use Rattle.numbers.specs.declared.SignedValue.TheVariants.{Number as Signed, Missing as NoSigned, Bad as BadSigned}
-use Rattle.rows.specs.declared.Turn.{Turn}
-use Rattle.rows.specs.declared.Turn.TheVariants.{Due, Fault}
+use Rattle.digits.specs.declared.NotNumber.{NotNumber}
+use Rattle.digits.specs.declared.NotNumber.TheVariants.{Missing, Bad}
+use Rattle.rows.specs.Fault.{not_number}
+use Rattle.rows.specs.declared.Fault.{Fault}
+use Rattle.rows.specs.declared.Fault.TheVariants.{OutOfTurn, NoPlace, OtherEnding}
 use Rattle.rows.specs.declared.BlockCells.{BlockCells}
 use Rattle.rows.specs.declared.BlockRow.{BlockRow}
 use Rattle.rows.specs.declared.LoopCells.{LoopCells}
@@ -21,36 +20,25 @@ block_fields = 6
 abbrev pub loop_fields : ℕ
 loop_fields = 5
 
--- what a record says where a row is due: the row, or the number of its first fault
-pub data Verdict (A : Type 0) : Type 0 where
-  taken : A → Verdict A
-  fault : ℕ → Verdict A
+-- what a record says where a row is due: the row, or its first fault
+abbrev pub Verdict : Type 0 → Type 0
+Verdict A = Result A Fault
 
 -- 104: "a field is no number of its width, or is empty and not a successor"
-abbrev pub needed : {A : Type 0} → Value → (ℕ → Verdict A) → Verdict A
-needed (Number n) f = f n
-needed Missing f = fault 104
-needed Bad f = fault 104
-
-abbrev pub needed_signed : {A : Type 0} → SignedValue → (ℤ → Verdict A) → Verdict A
-needed_signed (Signed z) f = f z
-needed_signed NoSigned f = fault 104
-needed_signed BadSigned f = fault 104
+abbrev pub needed : {A B : Type 0} → Result A NotNumber → (A → Verdict B) → Verdict B
+needed (Ok n) f = f n
+needed (Err e) f = Err not_number
 
 -- "In the columns a missing successor is 65,535"
-abbrev pub or_missing : Value → Value
-or_missing (Number n) = Number n
-or_missing Missing = Number 65535
-or_missing Bad = Bad
+abbrev pub or_missing : Result ℕ NotNumber → Result ℕ NotNumber
+or_missing (Ok n) = Ok n
+or_missing (Err Missing) = Ok 65535
+or_missing (Err Bad) = Err Bad
 
--- 105: "row number out of turn", for row n where row k is due; then 106, where only `room` rows have a place; then 108, where `alike` is
--- false. Document 02, §1: "108, place the record, when its line end is neither the first record's nor the end of the text, after 106"
-unfoldable pub turn_of : ℕ → ℕ → Bool → ℕ → Turn
-turn_of room k alike n = cond (eqb n k) (cond (ltb k room) (cond alike Due (Fault 108)) (Fault 106)) (Fault 105)
-
-abbrev pub in_turn : {A : Type 0} → A → Turn → Verdict A
-in_turn w Due = taken w
-in_turn w (Fault n) = fault n
+-- 105: "row number out of turn", for row n, which is w, where row k is due; then 106, where only `room` rows have a place; then 108, where
+-- `alike` is false. Document 02, §1: "108, place the record, when its line end is neither the first record's nor the end of the text, after 106"
+unfoldable pub in_turn : {A : Type 0} → ℕ → ℕ → Bool → ℕ → A → Verdict A
+in_turn room k alike n w = cond (eqb n k) (cond (ltb k room) (cond alike (Ok w) (Err OtherEnding)) (Err NoPlace)) (Err OutOfTurn)
 
 -- "Widths: number, loop, parent and header up to 65,535; successor up to 65,534; cost and limit up to 2^32−1; multiplier up to
 -- 2^64−1; figure from −2^63 to 2^63−1." Field i of the record is w i.
@@ -65,8 +53,8 @@ block_row room k alike x =
     needed x.innermost λ l.
     needed (or_missing x.first) λ a.
     needed (or_missing x.second) λ b.
-    needed_signed x.figure λ z.
-    in_turn (record { number = n; cost = c; innermost = l; first = a; second = b; figure = z }) (turn_of room k alike n)
+    needed x.figure λ z.
+    in_turn room k alike n (record { number = n; cost = c; innermost = l; first = a; second = b; figure = z })
 
 -- "number, parent, header, limit, multiplier"
 abbrev pub loop_cells : (ℕ → List ℕ) → LoopCells
@@ -79,7 +67,7 @@ loop_row room k alike x =
     needed x.header λ h.
     needed x.limit λ l.
     needed x.multiplier λ m.
-    in_turn (record { number = n; parent = p; header = h; limit = l; multiplier = m }) (turn_of room k alike n)
+    in_turn room k alike n (record { number = n; parent = p; header = h; limit = l; multiplier = m })
 
 -- what a row puts into each column
 abbrev pub cost_of : BlockRow → ℕ

@@ -1,49 +1,25 @@
--- Values stored one by one, a column copied, and what the columns of a reading leave in the lent ones.
+-- Values stored one by one, a column filled, and what the columns of a reading leave in the lent ones.
 -- Assumes nothing.
-use mathlib.Core.Path.{◌≡◌, refl, sym, ap, ◌∙◌}
-use mathlib.Core.List.{List, [], ◌∷◌, ◌++◌, map}
-use Prim.Native.Nat.{ℕ, suc, ◌+◌, ◌<◌, ◌≤◌}
-use native.Mathlib.Nat.{zero-add}
-use native.Mathlib.Numerals.{add-one}
-use native.Mathlib.Omega.{arith}
-use lib.ListN.{length, take, drop, set, get_or, length-map, drop_of_length-le}
-use lib.Seq.{sets, sets-eq, length-sets, drop-cons, length-take-le, get_or-take, take-append_seam}
+use Rattle.std.proofs.Common.{◌≡◌, ℕ, suc, ◌+◌, ◌≤◌, List, [], ◌∷◌, ◌++◌, length, take, drop, map, Result, Ok, Err, refl, sym, ap, ◌∙◌, zero-add, arith, set}
+use lib.ListN.{length-map}
+use lib.Seq.{sets, sets-eq, length-sets, length-take-le, take-append_seam}
 use Rattle.tables.specs.Table.{End, all, refused, Reading}
 use Rattle.tables.specs.Columns.{reply_by, reply_of, accepted_by, accepted, over}
-use Rattle.tables.specs.Place.{stores, Gathered, gathered, leaving, row_count}
-use Rattle.tables.specs.declared.ReadReply.{ReadReply}
+use Rattle.tables.specs.Place.{stores, Gathered, gathered, leaving}
+use Rattle.tables.specs.declared.Rows.{Rows}
+use Rattle.tables.specs.declared.ReadFault.{ReadFault}
 
--- stores one by one, and values over the first places
-module _ {A : Type 0} where
-  sets_later : (c : A) (column : List A) (i : ℕ) (vs : List A) → sets (c ∷ column) (suc i) vs ≡ c ∷ sets column i vs
-  sets_later c column i [] = refl
-  sets_later c column i (v ∷ vs) = sets_later c (set column i v) (suc i) vs
+over_is : {A : Type 0} (vs column : List A) → length vs ≤ length column → over vs column ≡ vs ++ drop (length vs) column
+unfolding over
+over_is [] column h = refl
+over_is (v ∷ vs) [] h = absurd (omega arith)
+over_is {A} (v ∷ vs) (c ∷ column) h = ap (λ (l : List A). v ∷ l) (over_is vs column (omega arith))
 
-  sets_none : (i : ℕ) (vs : List A) → sets [] i vs ≡ []
-  sets_none i [] = refl
-  sets_none i (v ∷ vs) = sets_none (suc i) vs
-
-  sets_over : (column vs : List A) → sets column 0 vs ≡ over vs column
-  unfolding over
-  sets_over column [] = refl
-  sets_over [] (v ∷ vs) = sets_none 1 vs
-  sets_over (c ∷ column) (v ∷ vs) = sets_later v column 0 vs ∙ ap (λ (l : List A). v ∷ l) (sets_over column vs)
-
--- A copy of the first `count` values, at its turn i.
-module _ {A : Type 0} (from : List A) (count i : ℕ) (l : count ≤ length from) where
-  taken_length : length (take count from) ≡ count
-  taken_length = length-take-le count from l
-
-  pub copy_on : i < count → (d : A) {x : List A} (to : List A) → x ≡ sets to i (drop i (take count from)) → x ≡ sets (set to i (get_or from i d)) (i + 1) (drop (i + 1) (take count from))
-  copy_on h d to g =
-      let e : get_or (take count from) i d ≡ get_or from i d = get_or-take count from i d h in
-      let z : drop i (take count from) ≡ get_or from i d ∷ drop (i + 1) (take count from) = rw (add-one i) (drop-cons (take count from) i d (rw taken_length h) ∙ rw e) in
-      g ∙ rw (z, add-one i)
-
-  pub copy_done : count ≤ i → (old to : List A) → sets old 0 (take count from) ≡ sets to i (drop i (take count from)) → to ≡ over (take count from) old
-  copy_done h old to g =
-      let z : drop i (take count from) ≡ [] = drop_of_length-le (take count from) {i = i} (rw taken_length h) in
-      sym (sym (sets_over old (take count from)) ∙ g ∙ rw z)
+pub filled : {A : Type 0} (column values : List A) (count : ℕ) {w : List A} → count ≤ length values → count ≤ length column → w ≡ take count values → w ++ drop count column ≡ over (take count values) column
+filled column values count l h e =
+    let n : length (take count values) ≡ count = length-take-le count values l in
+    let m : length (take count values) ≤ length column = omega arith in
+    rw e (sym (over_is (take count values) column m ∙ rw n))
 
 -- the column f of columns into which rows were stored
 pub column_stored : {A B C : Type 0} (store : C → ℕ → A → C) (column : C → List B) (f : A → B) → ((c : C) (k : ℕ) (w : A) → column (store c k w) ≡ set (column c) k (f w)) → (c : C) (k : ℕ) (ws : List A) → column (stores store c k ws) ≡ sets (column c) k (map f ws)
@@ -52,7 +28,7 @@ column_stored store column f h c k [] = refl
 column_stored store column f h c k (w ∷ ws) = column_stored store column f h (store c k w) (suc k) ws ∙ ap (λ (l : _). sets l (suc k) (map f ws)) (h c k w)
 
 -- What a pass over a text leaves in its columns.
-module _ {A C : Type 0} (store : C → ℕ → A → C) (none : C) (x : Reading A) {r : ReadReply} {columns : C} (q : leaving r columns ≡ gathered store none 0 x) where
+module _ {A C : Type 0} (store : C → ℕ → A → C) (none : C) (x : Reading A) {r : Result Rows ReadFault} {columns : C} (q : leaving r columns ≡ gathered store none 0 x) where
   columns_are : columns ≡ stores store none 0 x.rows
   columns_are = ap (λ (g : Gathered C). g.columns) q
 
@@ -63,31 +39,44 @@ module _ {A C : Type 0} (store : C → ℕ → A → C) (none : C) (x : Reading 
     pub column_length : length (column columns) ≡ length (column none)
     column_length = ap length column_is ∙ length-sets (column none) 0 (map f x.rows)
 
--- What a reader leaves; `count` is the count of rows that it copies.
-module _ {A C : Type 0} (store : C → ℕ → A → C) (none : C) (x : Reading A) (room : ℕ) (fit : length x.rows ≤ room) {r : ReadReply} {columns : C} (q : leaving r columns ≡ gathered store none 0 x) {count : ℕ} (e : count ≡ row_count r) where
+-- What a reader leaves where the pass gave x, with a reply for which it fills the lent columns.
+module _ {A C : Type 0} (store : C → ℕ → A → C) (none : C) (x : Reading A) (room : ℕ) (fit : length x.rows ≤ room) {r : Result Rows ReadFault} {columns : C} (q : leaving r columns ≡ gathered store none 0 x) where
   pub reply_is : r ≡ reply_of x
   reply_is = ap (λ (g : Gathered C). g.reply) q ∙ rw (zero-add (length x.rows))
 
-  count_is : count ≡ row_count (reply_of x)
-  count_is = e ∙ ap row_count reply_is
+  module _ (rows : Rows) (e : r ≡ Ok rows) where
+    known : (rows.count ≡ length x.rows) × (accepted x ≡ x.rows)
+    known = go x.end (sym reply_is ∙ e)
+      where
+        go : (y : End) → reply_by (length x.rows) y ≡ Ok rows → (rows.count ≡ length x.rows) × (accepted_by x.rows y ≡ x.rows)
+        go (all ending) g = (ap (λ (w : Rows). w.count) (let z : rows ≡ record { count = length x.rows; ending = ending } = cc in z), refl)
+        go (refused fault) g = absurd (cc)
 
-  pub count_fits : count ≤ room
-  count_fits = go x.end count_is
-    where
-      go : (y : End) → count ≡ row_count (reply_by (length x.rows) y) → count ≤ room
-      go (all first) g = omega arith
-      go (refused n place) g = omega arith
+    pub count_fits : rows.count ≤ room
+    count_fits = omega (arith, known.0)
 
-  -- a column that has at least `room` places
-  pub column_left : {B : Type 0} (column : C → List B) (f : A → B) → ((c : C) (k : ℕ) (w : A) → column (store c k w) ≡ set (column c) k (f w)) → room ≤ length (column none) → (old : List B) {new : List B} → new ≡ over (take count (column columns)) old → new ≡ over (map f (accepted x)) old
-  column_left {B} column f h l old {new} g = g ∙ ap (λ (vs : List B). over vs old) (rw (column_is store none x q column f h, count_is) (go x.end))
-    where
-      n : length (map f x.rows) ≡ length x.rows
-      n = length-map x.rows f
+    -- a column that has at least `room` places
+    pub column_left : {B : Type 0} (column : C → List B) (f : A → B) → ((c : C) (k : ℕ) (w : A) → column (store c k w) ≡ set (column c) k (f w)) → room ≤ length (column none) → (old : List B) {new : List B} → new ≡ over (take rows.count (column columns)) old → new ≡ over (map f (accepted x)) old
+    column_left {B} column f h l old {new} g = g ∙ ap (λ (vs : List B). over vs old) (rw (column_is store none x q column f h, known.0, known.1) taken)
+      where
+        n : length (map f x.rows) ≡ length x.rows
+        n = length-map x.rows f
 
-      stored : sets (column none) 0 (map f x.rows) ≡ map f x.rows ++ drop (0 + length (map f x.rows)) (column none)
-      stored = sets-eq (map f x.rows) (column none) 0 (rw (n, zero-add) (omega arith))
+        stored : sets (column none) 0 (map f x.rows) ≡ map f x.rows ++ drop (0 + length (map f x.rows)) (column none)
+        stored = sets-eq (map f x.rows) (column none) 0 (rw (n, zero-add) (omega arith))
 
-      go : (y : End) → take (row_count (reply_by (length x.rows) y)) (sets (column none) 0 (map f x.rows)) ≡ map f (accepted_by x.rows y)
-      go (all first) = rw (stored, ← n) (take-append_seam (map f x.rows) (drop (0 + length (map f x.rows)) (column none)))
-      go (refused m place) = refl
+        taken : take (length x.rows) (sets (column none) 0 (map f x.rows)) ≡ map f x.rows
+        taken = rw (stored, ← n) (take-append_seam (map f x.rows) (drop (0 + length (map f x.rows)) (column none)))
+
+  module _ (fault : ReadFault) (e : r ≡ Err fault) where
+    -- a refusal leaves each column
+    pub column_kept : {B : Type 0} (f : A → B) (old : List B) → old ≡ over (map f (accepted x)) old
+    unfolding over
+    column_kept f old = rw none_accepted
+      where
+        none_accepted : accepted x ≡ []
+        none_accepted = go x.end (sym reply_is ∙ e)
+          where
+            go : (y : End) → reply_by (length x.rows) y ≡ Err fault → accepted_by x.rows y ≡ []
+            go (all ending) g = absurd (cc)
+            go (refused f) g = refl

@@ -1,7 +1,6 @@
--- What the proofs of several functions use.
 pub mod Starts
 pub mod Passes
-pub mod Sizes
 pub mod Copies
-pub mod Whole
+pub mod Sizes
 pub mod Texts
+pub mod Whole

@@ -4,7 +4,6 @@ use mathlib.Core.Path.{◌≡◌, refl}
 use mathlib.Core.Bool.{Bool, true, false, cond}
 use mathlib.Core.List.{List, [], ◌∷◌}
 use Prim.Native.Nat.{ℕ, suc, ◌+◌, ◌≤◌, min}
-use native.Mathlib.Omega.{arith}
 use borrow.Author.Tests.{le-leb}
 use lib.ListN.{length}
 use lib.Dec.{eqb, leb}
@@ -13,13 +12,17 @@ use Rattle.csv_text.specs.Grammar.{Record, records, first_ending, alike}
 use Rattle.csv_text.specs.declared.Ending.{Ending}
 use Rattle.csv_text.specs.Write.{Line, LineEnd, write, Allowed, records_as, SoundAlike, Written}
 use Rattle.csv_text.proofs.Inverse.{alike_same, read_back, write_again}
-use Rattle.rows.specs.Row.{block_fields, loop_fields, Verdict, taken, fault}
+use Rattle.std.proofs.Common.{Ok, Err}
+use Rattle.rows.specs.Row.{block_fields, loop_fields, Verdict}
+use Rattle.rows.specs.declared.Fault.TheVariants.{BrokenField, FieldCount}
+use Rattle.tables.specs.declared.ReadFault.{ReadFault}
+use Rattle.tables.specs.declared.ReadFault.TheVariants.{TextLength, Record as AtRecord}
 use Rattle.rows.specs.Judge.{judge_block, judge_loop}
 use Rattle.rows.proofs.Taken.{block_taken, loop_taken}
 use Rattle.tables.specs.Table.{all, refused, stopped, reading_after, reading, after_header_row, table_of, block_table, loop_table}
 
-refuse : {n place : ℕ} {first : Ending} {B : Type 0} → refused n place ≡ all first → B
-refuse q = absurd (let z : ◌≡◌ {A = ℕ} 0 1 = cc in omega arith)
+refuse : {f : ReadFault} {first : Ending} {B : Type 0} → refused f ≡ all first → B
+refuse q = absurd (cc)
 
 module _ {A : Type 0} (judge : Ending → ℕ → Record → Verdict A) where
   -- THEOREM: a table that is written by RFC 4180, whichever fields stand between quote marks, whichever line end it has and whether or not
@@ -30,21 +33,21 @@ module _ {A : Type 0} (judge : Ending → ℕ → Record → Verdict A) where
 
   -- of tables in which each row that is taken comes from a sound record that ends as it may, as `block_taken` and `loop_taken` of rows say of
   -- the two tables
-  module _ (good : (first : Ending) (k : ℕ) (r : Record) (w : A) → judge first k r ≡ taken w → (r.sound ≡ true) × (alike first r.ending ≡ true)) where
+  module _ (good : (first : Ending) (k : ℕ) (r : Record) (w : A) → judge first k r ≡ Ok w → (r.sound ≡ true) × (alike first r.ending ≡ true)) where
     reading_sound : (first : Ending) (start k : ℕ) (rs : List Record) {x : Ending} → (reading judge first start k rs).end ≡ all x → SoundAlike first rs
     unfolding reading
     reading_sound first start k [] e = tt
     reading_sound first start k (r ∷ rs) {x} e = go (judge first k r) refl e (λ f. reading_sound first start (suc k) rs f)
       where
         go : (v : Verdict A) → judge first k r ≡ v → (reading_after (reading judge first start (suc k) rs) (start + k) v).end ≡ all x → ((reading judge first start (suc k) rs).end ≡ all x → SoundAlike first rs) → SoundAlike first (r ∷ rs)
-        go (taken w) g e ih = let y = good first k r w g in (y.0, y.1, ih e)
-        go (fault n) g e ih = refuse e
+        go (Ok w) g e ih = let y = good first k r w g in (y.0, y.1, ih e)
+        go (Err f) g e ih = refuse e
 
     headed_sound : (count : ℕ) (rs : List Record) {x : Ending} → (after_header_row count judge rs).end ≡ all x → SoundAlike (first_ending rs) rs
     headed_sound count [] e = refuse e
     headed_sound count (r ∷ rs) {x} e = go r.sound (eqb (length r.fields) count) refl e
       where
-        go : (a b : Bool) → r.sound ≡ a → (cond a (cond b (reading judge r.ending 2 0 rs) (stopped 103 1)) (stopped 102 1)).end ≡ all x → SoundAlike r.ending (r ∷ rs)
+        go : (a b : Bool) → r.sound ≡ a → (cond a (cond b (reading judge r.ending 2 0 rs) (stopped (AtRecord FieldCount 1))) (stopped (AtRecord BrokenField 1))).end ≡ all x → SoundAlike r.ending (r ∷ rs)
         go true true g e = (g, alike_same r.ending, reading_sound r.ending 2 0 rs e)
         go true false g e = refuse e
         go false b g e = refuse e
@@ -58,7 +61,7 @@ module _ {A : Type 0} (judge : Ending → ℕ → Record → Verdict A) where
         told true e = headed_sound count (records s) e
         told false e = reading_sound (first_ending (records s)) 1 0 (records s) e
 
-        long : (b : Bool) → (cond b (cond headerRow (after_header_row count judge (records s)) (reading judge (first_ending (records s)) 1 0 (records s))) (stopped 101 0)).end ≡ all x → SoundAlike (first_ending (records s)) (records s)
+        long : (b : Bool) → (cond b (cond headerRow (after_header_row count judge (records s)) (reading judge (first_ending (records s)) 1 0 (records s))) (stopped TextLength)).end ≡ all x → SoundAlike (first_ending (records s)) (records s)
         long true e = told headerRow e
         long false e = refuse e
 

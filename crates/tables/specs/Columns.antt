@@ -1,26 +1,26 @@
 -- What a reader leaves: its reply, and the final contents of every lent column.
 -- Assumes nothing: these are definitions.
-use Rattle.std.specs.Prelude.{ℕ, min, ◌≡◌, Bool, List, [], ◌∷◌, map, length, ℤ}
+use Rattle.std.specs.Prelude.{ℕ, min, ◌≡◌, Bool, List, [], ◌∷◌, map, length, ℤ, Result, Ok, Err}
 use Rattle.rows.specs.Row.{cost_of, innermost_of, first_of, second_of, figure_of, parent_of, loop_header_of, limit_of, multiplier_of}
 use Rattle.rows.specs.declared.BlockRow.{BlockRow}
 use Rattle.rows.specs.declared.LoopRow.{LoopRow}
 use Rattle.tables.specs.Table.{End, all, refused, Reading, block_table, loop_table}
-use Rattle.tables.specs.declared.ReadReply.{ReadReply}
-use Rattle.tables.specs.declared.ReadReply.TheVariants.{Rows, Refused}
+use Rattle.tables.specs.declared.Rows.{Rows}
+use Rattle.tables.specs.declared.ReadFault.{ReadFault}
 
 -- "On acceptance the reader gives the row count", and by document 02, §1, "the first record's line end beside the row count"; "Each refusal
 -- is a number and a place"
-abbrev pub reply_by : ℕ → End → ReadReply
-reply_by k (all ending) = Rows k ending
-reply_by k (refused n place) = Refused n place
+abbrev pub reply_by : ℕ → End → Result Rows ReadFault
+reply_by k (all ending) = Ok (record { count = k; ending = ending })
+reply_by k (refused fault) = Err fault
 
-abbrev pub reply_of : {A : Type 0} → Reading A → ReadReply
+abbrev pub reply_of : {A : Type 0} → Reading A → Result Rows ReadFault
 reply_of x = reply_by (length x.rows) x.end
 
 -- the rows of an accepted text; a refusal "changes no lent column"
 abbrev pub accepted_by : {A : Type 0} → List A → End → List A
 accepted_by ws (all ending) = ws
-accepted_by ws (refused n place) = []
+accepted_by ws (refused fault) = []
 
 abbrev pub accepted : {A : Type 0} → Reading A → List A
 accepted x = accepted_by x.rows x.end
@@ -58,7 +58,7 @@ abbrev pub shortest_loop : LoopColumns → ℕ
 shortest_loop c = min (length c.parent) (min (length c.header) (min (length c.limit) (length c.multiplier)))
 
 -- the reply and the columns after the reading x
-pub record BlocksDone (x : Reading BlockRow) (old : BlockColumns) (r : ReadReply) (new : BlockColumns) : Type 0 where
+pub record BlocksDone (x : Reading BlockRow) (old : BlockColumns) (r : Result Rows ReadFault) (new : BlockColumns) : Type 0 where
   pub reply : r ≡ reply_of x
   pub cost : new.cost ≡ over (map cost_of (accepted x)) old.cost
   pub loops : new.loops ≡ over (map innermost_of (accepted x)) old.loops
@@ -66,7 +66,7 @@ pub record BlocksDone (x : Reading BlockRow) (old : BlockColumns) (r : ReadReply
   pub second : new.second ≡ over (map second_of (accepted x)) old.second
   pub figure : new.figure ≡ over (map figure_of (accepted x)) old.figure
 
-pub record LoopsDone (x : Reading LoopRow) (old : LoopColumns) (r : ReadReply) (new : LoopColumns) : Type 0 where
+pub record LoopsDone (x : Reading LoopRow) (old : LoopColumns) (r : Result Rows ReadFault) (new : LoopColumns) : Type 0 where
   pub reply : r ≡ reply_of x
   pub parent : new.parent ≡ over (map parent_of (accepted x)) old.parent
   pub header : new.header ≡ over (map loop_header_of (accepted x)) old.header
@@ -74,8 +74,8 @@ pub record LoopsDone (x : Reading LoopRow) (old : LoopColumns) (r : ReadReply) (
   pub multiplier : new.multiplier ≡ over (map multiplier_of (accepted x)) old.multiplier
 
 -- the promises of the two readers, of a text and the columns that were lent
-abbrev pub BlocksRead : List ℕ → Bool → BlockColumns → ReadReply → BlockColumns → Type 0
+abbrev pub BlocksRead : List ℕ → Bool → BlockColumns → Result Rows ReadFault → BlockColumns → Type 0
 BlocksRead s headerRow old r new = BlocksDone (block_table (shortest_block old) headerRow s) old r new
 
-abbrev pub LoopsRead : List ℕ → Bool → LoopColumns → ReadReply → LoopColumns → Type 0
+abbrev pub LoopsRead : List ℕ → Bool → LoopColumns → Result Rows ReadFault → LoopColumns → Type 0
 LoopsRead s headerRow old r new = LoopsDone (loop_table (shortest_loop old) headerRow s) old r new

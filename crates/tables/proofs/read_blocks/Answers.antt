@@ -1,69 +1,53 @@
+use Rattle.std.proofs.Common.{◌≡◌, length, arith}
+use Prim.Native.Nat.{min}
+use Rattle.std.proofs.lemmas.Result.{err_from_is_err_and}
 use Rattle.limits.specs.Limits.{most_blocks}
-use Rattle.tables.proofs.Whole.{BlockLengths, block_room, blocks_count, blocks_lengths, blocks_read}
-use lib.ListN.{length}
-use Rattle.tables.specs.Columns.{blocks}
-use Prim.Native.Nat.{◌≤◌}
-use mathlib.Core.Path.{refl}
-use native.Mathlib.Omega.{arith}
+use Rattle.tables.specs.Columns.{blocks, shortest_block}
+use Rattle.tables.proofs.Whole.{block_room, blocks_count, blocks_places, blocks_read, blocks_refused}
 use Rattle.tables.proofs.read_blocks.Goals as goal
 
-pub gather_block_table-reply-requires : goal.gather_block_table-reply-requires
-gather_block_table-reply-requires c = omega (arith, c.block_room-room.ensures)
+pub returns-in_err-rows : goal.returns-in_err-rows
+returns-in_err-rows c =
+    let room : c.min-4.result ≡ min (shortest_block (blocks c.args.cost.now c.args.loops.now c.args.first.now c.args.second.now c.args.figure.now)) most_blocks = block_room (length c.args.cost.now) (length c.args.loops.now) (length c.args.first.now) (length c.args.second.now) (length c.args.figure.now) most_blocks c.min.ensures c.min-2.ensures c.min-3.ensures c.min-places.ensures c.min-4.ensures in
+    let p = err_from_is_err_and c.from_residual.result c.from_residual.ensures.1 in
+    rw (p.1, p.2) (blocks_refused c.args.text.now c.args.header_row (blocks c.args.cost.now c.args.loops.now c.args.first.now c.args.second.now c.args.figure.now) _ room c.gather_table.ensures c.in_err-rows.field-0.0 c.in_err-rows.was)
 
-pub slice_bounds-copy_u32-end : goal.slice_bounds-copy_u32-end
-slice_bounds-copy_u32-end c =
-    let filled : BlockLengths most_blocks (blocks c.gather_block_table-reply.new.cost c.gather_block_table-reply.new.loops c.gather_block_table-reply.new.first c.gather_block_table-reply.new.second c.gather_block_table-reply.new.figure) = blocks_lengths most_blocks c.args.text.now c.args.header_row c.block_room-room.result c.gather_block_table-reply.ensures (record { cost = refl; loops = refl; first = refl; second = refl; figure = refl }) in
-    (filled).cost
+pub fill-requires : goal.fill-requires
+fill-requires c =
+    let room : c.min-4.result ≡ min (shortest_block (blocks c.args.cost.now c.args.loops.now c.args.first.now c.args.second.now c.args.figure.now)) most_blocks = block_room (length c.args.cost.now) (length c.args.loops.now) (length c.args.first.now) (length c.args.second.now) (length c.args.figure.now) most_blocks c.min.ensures c.min-2.ensures c.min-3.ensures c.min-places.ensures c.min-4.ensures in
+    let count = blocks_count c.args.text.now c.args.header_row (blocks c.args.cost.now c.args.loops.now c.args.first.now c.args.second.now c.args.figure.now) _ room c.gather_table.ensures c.in_ok-rows.rows c.in_ok-rows.was in
+    let places = blocks_places c.args.text.now c.args.header_row (blocks c.args.cost.now c.args.loops.now c.args.first.now c.args.second.now c.args.figure.now) _ room c.gather_table.ensures (record { cost = omega (arith, room); loops = omega (arith, room); first = omega (arith, room); second = omega (arith, room); figure = omega (arith, room) }) in
+    (omega (arith, count, places.cost), omega (arith, count, room))
 
-pub copy_u32-requires : goal.copy_u32-requires
-copy_u32-requires c =
-    let counted : c.row_count-count.result ≤ c.block_room-room.result = blocks_count c.args.text.now c.args.header_row (blocks c.args.cost.now c.args.loops.now c.args.first.now c.args.second.now c.args.figure.now) _ (block_room (length c.args.cost.now) (length c.args.loops.now) (length c.args.first.now) (length c.args.second.now) (length c.args.figure.now) c.least-successors.ensures c.block_room-room.ensures) c.gather_block_table-reply.ensures c.row_count-count.ensures in
-    let filled : BlockLengths most_blocks (blocks c.gather_block_table-reply.new.cost c.gather_block_table-reply.new.loops c.gather_block_table-reply.new.first c.gather_block_table-reply.new.second c.gather_block_table-reply.new.figure) = blocks_lengths most_blocks c.args.text.now c.args.header_row c.block_room-room.result c.gather_block_table-reply.ensures (record { cost = refl; loops = refl; first = refl; second = refl; figure = refl }) in
-    let l = (filled).cost in let h = counted in (omega (arith, c.block_room-room.ensures, c.least-successors.ensures), omega (arith, c.block_room-room.ensures, c.least-successors.ensures))
+pub fill-requires-2 : goal.fill-requires-2
+fill-requires-2 c =
+    let room : c.min-4.result ≡ min (shortest_block (blocks c.args.cost.now c.args.loops.now c.args.first.now c.args.second.now c.args.figure.now)) most_blocks = block_room (length c.args.cost.now) (length c.args.loops.now) (length c.args.first.now) (length c.args.second.now) (length c.args.figure.now) most_blocks c.min.ensures c.min-2.ensures c.min-3.ensures c.min-places.ensures c.min-4.ensures in
+    let count = blocks_count c.args.text.now c.args.header_row (blocks c.args.cost.now c.args.loops.now c.args.first.now c.args.second.now c.args.figure.now) _ room c.gather_table.ensures c.in_ok-rows.rows c.in_ok-rows.was in
+    let places = blocks_places c.args.text.now c.args.header_row (blocks c.args.cost.now c.args.loops.now c.args.first.now c.args.second.now c.args.figure.now) _ room c.gather_table.ensures (record { cost = omega (arith, room); loops = omega (arith, room); first = omega (arith, room); second = omega (arith, room); figure = omega (arith, room) }) in
+    (omega (arith, count, places.loops), omega (arith, count, room))
 
-pub slice_bounds-copy_u16-end : goal.slice_bounds-copy_u16-end
-slice_bounds-copy_u16-end c =
-    let filled : BlockLengths most_blocks (blocks c.gather_block_table-reply.new.cost c.gather_block_table-reply.new.loops c.gather_block_table-reply.new.first c.gather_block_table-reply.new.second c.gather_block_table-reply.new.figure) = blocks_lengths most_blocks c.args.text.now c.args.header_row c.block_room-room.result c.gather_block_table-reply.ensures (record { cost = refl; loops = refl; first = refl; second = refl; figure = refl }) in
-    (filled).loops
+pub fill-requires-3 : goal.fill-requires-3
+fill-requires-3 c =
+    let room : c.min-4.result ≡ min (shortest_block (blocks c.args.cost.now c.args.loops.now c.args.first.now c.args.second.now c.args.figure.now)) most_blocks = block_room (length c.args.cost.now) (length c.args.loops.now) (length c.args.first.now) (length c.args.second.now) (length c.args.figure.now) most_blocks c.min.ensures c.min-2.ensures c.min-3.ensures c.min-places.ensures c.min-4.ensures in
+    let count = blocks_count c.args.text.now c.args.header_row (blocks c.args.cost.now c.args.loops.now c.args.first.now c.args.second.now c.args.figure.now) _ room c.gather_table.ensures c.in_ok-rows.rows c.in_ok-rows.was in
+    let places = blocks_places c.args.text.now c.args.header_row (blocks c.args.cost.now c.args.loops.now c.args.first.now c.args.second.now c.args.figure.now) _ room c.gather_table.ensures (record { cost = omega (arith, room); loops = omega (arith, room); first = omega (arith, room); second = omega (arith, room); figure = omega (arith, room) }) in
+    (omega (arith, count, places.first), omega (arith, count, room))
 
-pub copy_u16-requires : goal.copy_u16-requires
-copy_u16-requires c =
-    let counted : c.row_count-count.result ≤ c.block_room-room.result = blocks_count c.args.text.now c.args.header_row (blocks c.args.cost.now c.args.loops.now c.args.first.now c.args.second.now c.args.figure.now) _ (block_room (length c.args.cost.now) (length c.args.loops.now) (length c.args.first.now) (length c.args.second.now) (length c.args.figure.now) c.least-successors.ensures c.block_room-room.ensures) c.gather_block_table-reply.ensures c.row_count-count.ensures in
-    let filled : BlockLengths most_blocks (blocks c.gather_block_table-reply.new.cost c.gather_block_table-reply.new.loops c.gather_block_table-reply.new.first c.gather_block_table-reply.new.second c.gather_block_table-reply.new.figure) = blocks_lengths most_blocks c.args.text.now c.args.header_row c.block_room-room.result c.gather_block_table-reply.ensures (record { cost = refl; loops = refl; first = refl; second = refl; figure = refl }) in
-    let l = (filled).loops in let h = counted in (omega (arith, c.block_room-room.ensures, c.least-successors.ensures), omega (arith, c.block_room-room.ensures, c.least-successors.ensures))
+pub fill-requires-4 : goal.fill-requires-4
+fill-requires-4 c =
+    let room : c.min-4.result ≡ min (shortest_block (blocks c.args.cost.now c.args.loops.now c.args.first.now c.args.second.now c.args.figure.now)) most_blocks = block_room (length c.args.cost.now) (length c.args.loops.now) (length c.args.first.now) (length c.args.second.now) (length c.args.figure.now) most_blocks c.min.ensures c.min-2.ensures c.min-3.ensures c.min-places.ensures c.min-4.ensures in
+    let count = blocks_count c.args.text.now c.args.header_row (blocks c.args.cost.now c.args.loops.now c.args.first.now c.args.second.now c.args.figure.now) _ room c.gather_table.ensures c.in_ok-rows.rows c.in_ok-rows.was in
+    let places = blocks_places c.args.text.now c.args.header_row (blocks c.args.cost.now c.args.loops.now c.args.first.now c.args.second.now c.args.figure.now) _ room c.gather_table.ensures (record { cost = omega (arith, room); loops = omega (arith, room); first = omega (arith, room); second = omega (arith, room); figure = omega (arith, room) }) in
+    (omega (arith, count, places.second), omega (arith, count, room))
 
-pub slice_bounds-copy_u16-end-2 : goal.slice_bounds-copy_u16-end-2
-slice_bounds-copy_u16-end-2 c =
-    let filled : BlockLengths most_blocks (blocks c.gather_block_table-reply.new.cost c.gather_block_table-reply.new.loops c.gather_block_table-reply.new.first c.gather_block_table-reply.new.second c.gather_block_table-reply.new.figure) = blocks_lengths most_blocks c.args.text.now c.args.header_row c.block_room-room.result c.gather_block_table-reply.ensures (record { cost = refl; loops = refl; first = refl; second = refl; figure = refl }) in
-    (filled).first
-
-pub copy_u16-requires-2 : goal.copy_u16-requires-2
-copy_u16-requires-2 c =
-    let counted : c.row_count-count.result ≤ c.block_room-room.result = blocks_count c.args.text.now c.args.header_row (blocks c.args.cost.now c.args.loops.now c.args.first.now c.args.second.now c.args.figure.now) _ (block_room (length c.args.cost.now) (length c.args.loops.now) (length c.args.first.now) (length c.args.second.now) (length c.args.figure.now) c.least-successors.ensures c.block_room-room.ensures) c.gather_block_table-reply.ensures c.row_count-count.ensures in
-    let filled : BlockLengths most_blocks (blocks c.gather_block_table-reply.new.cost c.gather_block_table-reply.new.loops c.gather_block_table-reply.new.first c.gather_block_table-reply.new.second c.gather_block_table-reply.new.figure) = blocks_lengths most_blocks c.args.text.now c.args.header_row c.block_room-room.result c.gather_block_table-reply.ensures (record { cost = refl; loops = refl; first = refl; second = refl; figure = refl }) in
-    let l = (filled).first in let h = counted in (omega (arith, c.block_room-room.ensures, c.least-successors.ensures), omega (arith, c.block_room-room.ensures, c.least-successors.ensures))
-
-pub slice_bounds-copy_u16-end-3 : goal.slice_bounds-copy_u16-end-3
-slice_bounds-copy_u16-end-3 c =
-    let filled : BlockLengths most_blocks (blocks c.gather_block_table-reply.new.cost c.gather_block_table-reply.new.loops c.gather_block_table-reply.new.first c.gather_block_table-reply.new.second c.gather_block_table-reply.new.figure) = blocks_lengths most_blocks c.args.text.now c.args.header_row c.block_room-room.result c.gather_block_table-reply.ensures (record { cost = refl; loops = refl; first = refl; second = refl; figure = refl }) in
-    (filled).second
-
-pub copy_u16-requires-3 : goal.copy_u16-requires-3
-copy_u16-requires-3 c =
-    let counted : c.row_count-count.result ≤ c.block_room-room.result = blocks_count c.args.text.now c.args.header_row (blocks c.args.cost.now c.args.loops.now c.args.first.now c.args.second.now c.args.figure.now) _ (block_room (length c.args.cost.now) (length c.args.loops.now) (length c.args.first.now) (length c.args.second.now) (length c.args.figure.now) c.least-successors.ensures c.block_room-room.ensures) c.gather_block_table-reply.ensures c.row_count-count.ensures in
-    let filled : BlockLengths most_blocks (blocks c.gather_block_table-reply.new.cost c.gather_block_table-reply.new.loops c.gather_block_table-reply.new.first c.gather_block_table-reply.new.second c.gather_block_table-reply.new.figure) = blocks_lengths most_blocks c.args.text.now c.args.header_row c.block_room-room.result c.gather_block_table-reply.ensures (record { cost = refl; loops = refl; first = refl; second = refl; figure = refl }) in
-    let l = (filled).second in let h = counted in (omega (arith, c.block_room-room.ensures, c.least-successors.ensures), omega (arith, c.block_room-room.ensures, c.least-successors.ensures))
-
-pub slice_bounds-copy_i64-end : goal.slice_bounds-copy_i64-end
-slice_bounds-copy_i64-end c =
-    let filled : BlockLengths most_blocks (blocks c.gather_block_table-reply.new.cost c.gather_block_table-reply.new.loops c.gather_block_table-reply.new.first c.gather_block_table-reply.new.second c.gather_block_table-reply.new.figure) = blocks_lengths most_blocks c.args.text.now c.args.header_row c.block_room-room.result c.gather_block_table-reply.ensures (record { cost = refl; loops = refl; first = refl; second = refl; figure = refl }) in
-    (filled).figure
-
-pub copy_i64-requires : goal.copy_i64-requires
-copy_i64-requires c =
-    let counted : c.row_count-count.result ≤ c.block_room-room.result = blocks_count c.args.text.now c.args.header_row (blocks c.args.cost.now c.args.loops.now c.args.first.now c.args.second.now c.args.figure.now) _ (block_room (length c.args.cost.now) (length c.args.loops.now) (length c.args.first.now) (length c.args.second.now) (length c.args.figure.now) c.least-successors.ensures c.block_room-room.ensures) c.gather_block_table-reply.ensures c.row_count-count.ensures in
-    let filled : BlockLengths most_blocks (blocks c.gather_block_table-reply.new.cost c.gather_block_table-reply.new.loops c.gather_block_table-reply.new.first c.gather_block_table-reply.new.second c.gather_block_table-reply.new.figure) = blocks_lengths most_blocks c.args.text.now c.args.header_row c.block_room-room.result c.gather_block_table-reply.ensures (record { cost = refl; loops = refl; first = refl; second = refl; figure = refl }) in
-    let l = (filled).figure in let h = counted in (omega (arith, c.block_room-room.ensures, c.least-successors.ensures), omega (arith, c.block_room-room.ensures, c.least-successors.ensures))
+pub fill-requires-5 : goal.fill-requires-5
+fill-requires-5 c =
+    let room : c.min-4.result ≡ min (shortest_block (blocks c.args.cost.now c.args.loops.now c.args.first.now c.args.second.now c.args.figure.now)) most_blocks = block_room (length c.args.cost.now) (length c.args.loops.now) (length c.args.first.now) (length c.args.second.now) (length c.args.figure.now) most_blocks c.min.ensures c.min-2.ensures c.min-3.ensures c.min-places.ensures c.min-4.ensures in
+    let count = blocks_count c.args.text.now c.args.header_row (blocks c.args.cost.now c.args.loops.now c.args.first.now c.args.second.now c.args.figure.now) _ room c.gather_table.ensures c.in_ok-rows.rows c.in_ok-rows.was in
+    let places = blocks_places c.args.text.now c.args.header_row (blocks c.args.cost.now c.args.loops.now c.args.first.now c.args.second.now c.args.figure.now) _ room c.gather_table.ensures (record { cost = omega (arith, room); loops = omega (arith, room); first = omega (arith, room); second = omega (arith, room); figure = omega (arith, room) }) in
+    (omega (arith, count, places.figure), omega (arith, count, room))
 
 pub returns : goal.returns
-returns c = blocks_read c.args.text.now c.args.header_row (blocks c.args.cost.now c.args.loops.now c.args.first.now c.args.second.now c.args.figure.now) _ (block_room (length c.args.cost.now) (length c.args.loops.now) (length c.args.first.now) (length c.args.second.now) (length c.args.figure.now) c.least-successors.ensures c.block_room-room.ensures) c.gather_block_table-reply.ensures c.row_count-count.ensures (record { cost = omega (arith, c.block_room-room.ensures); loops = omega (arith, c.block_room-room.ensures); first = omega (arith, c.block_room-room.ensures); second = omega (arith, c.block_room-room.ensures); figure = omega (arith, c.block_room-room.ensures) }) (record { cost = c.copy_u32.ensures; loops = c.copy_u16.ensures; first = c.copy_u16-2.ensures; second = c.copy_u16-3.ensures; figure = c.copy_i64.ensures })
+returns c =
+    let room : c.min-4.result ≡ min (shortest_block (blocks c.args.cost.now c.args.loops.now c.args.first.now c.args.second.now c.args.figure.now)) most_blocks = block_room (length c.args.cost.now) (length c.args.loops.now) (length c.args.first.now) (length c.args.second.now) (length c.args.figure.now) most_blocks c.min.ensures c.min-2.ensures c.min-3.ensures c.min-places.ensures c.min-4.ensures in
+    blocks_read c.args.text.now c.args.header_row (blocks c.args.cost.now c.args.loops.now c.args.first.now c.args.second.now c.args.figure.now) _ room c.gather_table.ensures c.in_ok-rows.rows c.in_ok-rows.was (record { cost = omega (arith, room); loops = omega (arith, room); first = omega (arith, room); second = omega (arith, room); figure = omega (arith, room) }) (record { cost = c.fill.ensures; loops = c.fill-2.ensures; first = c.fill-3.ensures; second = c.fill-4.ensures; figure = c.fill-5.ensures })

@@ -1,57 +1,46 @@
+use Rattle.std.proofs.Common.{◌≡◌, arith}
+use Prim.Native.Nat.{min}
+use Rattle.std.proofs.lemmas.Result.{err_from_is_err_and}
 use Rattle.limits.specs.Limits.{most_loops}
-use Rattle.tables.proofs.Whole.{LoopLengths, loops_count, loops_lengths, loops_read}
-use mathlib.Core.Path.{refl}
-use Rattle.tables.specs.Columns.{loops}
-use Prim.Native.Nat.{◌≤◌}
-use native.Mathlib.Omega.{arith}
+use Rattle.tables.specs.Columns.{loops, shortest_loop}
+use Rattle.tables.proofs.Whole.{loops_count, loops_places, loops_read, loops_refused}
 use Rattle.tables.proofs.read_loops.Goals as goal
 
-pub gather_loop_table-reply-requires : goal.gather_loop_table-reply-requires
-gather_loop_table-reply-requires c = omega (arith, c.loop_room-room.ensures)
+pub returns-in_err-rows : goal.returns-in_err-rows
+returns-in_err-rows c =
+    let room : c.min-3.result ≡ min (shortest_loop (loops c.args.parent.now c.args.header.now c.args.limit.now c.args.multiplier.now)) most_loops = omega (arith, c.min.ensures, c.min-2.ensures, c.min-places.ensures, c.min-3.ensures) in
+    let p = err_from_is_err_and c.from_residual.result c.from_residual.ensures.1 in
+    rw (p.1, p.2) (loops_refused c.args.text.now c.args.header_row (loops c.args.parent.now c.args.header.now c.args.limit.now c.args.multiplier.now) _ room c.gather_table.ensures c.in_err-rows.field-0.0 c.in_err-rows.was)
 
-pub slice_bounds-copy_u16-end : goal.slice_bounds-copy_u16-end
-slice_bounds-copy_u16-end c =
-    let filled : LoopLengths most_loops (loops c.gather_loop_table-reply.new.parent c.gather_loop_table-reply.new.header c.gather_loop_table-reply.new.limit c.gather_loop_table-reply.new.multiplier) = loops_lengths most_loops c.args.text.now c.args.header_row c.loop_room-room.result c.gather_loop_table-reply.ensures (record { parent = refl; header = refl; limit = refl; multiplier = refl }) in
-    (filled).parent
+pub fill-requires : goal.fill-requires
+fill-requires c =
+    let room : c.min-3.result ≡ min (shortest_loop (loops c.args.parent.now c.args.header.now c.args.limit.now c.args.multiplier.now)) most_loops = omega (arith, c.min.ensures, c.min-2.ensures, c.min-places.ensures, c.min-3.ensures) in
+    let count = loops_count c.args.text.now c.args.header_row (loops c.args.parent.now c.args.header.now c.args.limit.now c.args.multiplier.now) _ room c.gather_table.ensures c.in_ok-rows.rows c.in_ok-rows.was in
+    let places = loops_places c.args.text.now c.args.header_row (loops c.args.parent.now c.args.header.now c.args.limit.now c.args.multiplier.now) _ room c.gather_table.ensures (record { parent = omega (arith, room); header = omega (arith, room); limit = omega (arith, room); multiplier = omega (arith, room) }) in
+    (omega (arith, count, places.parent), omega (arith, count, room))
 
-pub copy_u16-requires : goal.copy_u16-requires
-copy_u16-requires c =
-    let counted : c.row_count-count.result ≤ c.loop_room-room.result = loops_count c.args.text.now c.args.header_row (loops c.args.parent.now c.args.header.now c.args.limit.now c.args.multiplier.now) _ c.loop_room-room.ensures c.gather_loop_table-reply.ensures c.row_count-count.ensures in
-    let filled : LoopLengths most_loops (loops c.gather_loop_table-reply.new.parent c.gather_loop_table-reply.new.header c.gather_loop_table-reply.new.limit c.gather_loop_table-reply.new.multiplier) = loops_lengths most_loops c.args.text.now c.args.header_row c.loop_room-room.result c.gather_loop_table-reply.ensures (record { parent = refl; header = refl; limit = refl; multiplier = refl }) in
-    let l = (filled).parent in let h = counted in (omega (arith, c.loop_room-room.ensures), omega (arith, c.loop_room-room.ensures))
+pub fill-requires-2 : goal.fill-requires-2
+fill-requires-2 c =
+    let room : c.min-3.result ≡ min (shortest_loop (loops c.args.parent.now c.args.header.now c.args.limit.now c.args.multiplier.now)) most_loops = omega (arith, c.min.ensures, c.min-2.ensures, c.min-places.ensures, c.min-3.ensures) in
+    let count = loops_count c.args.text.now c.args.header_row (loops c.args.parent.now c.args.header.now c.args.limit.now c.args.multiplier.now) _ room c.gather_table.ensures c.in_ok-rows.rows c.in_ok-rows.was in
+    let places = loops_places c.args.text.now c.args.header_row (loops c.args.parent.now c.args.header.now c.args.limit.now c.args.multiplier.now) _ room c.gather_table.ensures (record { parent = omega (arith, room); header = omega (arith, room); limit = omega (arith, room); multiplier = omega (arith, room) }) in
+    (omega (arith, count, places.header), omega (arith, count, room))
 
-pub slice_bounds-copy_u16-end-2 : goal.slice_bounds-copy_u16-end-2
-slice_bounds-copy_u16-end-2 c =
-    let filled : LoopLengths most_loops (loops c.gather_loop_table-reply.new.parent c.gather_loop_table-reply.new.header c.gather_loop_table-reply.new.limit c.gather_loop_table-reply.new.multiplier) = loops_lengths most_loops c.args.text.now c.args.header_row c.loop_room-room.result c.gather_loop_table-reply.ensures (record { parent = refl; header = refl; limit = refl; multiplier = refl }) in
-    (filled).header
+pub fill-requires-3 : goal.fill-requires-3
+fill-requires-3 c =
+    let room : c.min-3.result ≡ min (shortest_loop (loops c.args.parent.now c.args.header.now c.args.limit.now c.args.multiplier.now)) most_loops = omega (arith, c.min.ensures, c.min-2.ensures, c.min-places.ensures, c.min-3.ensures) in
+    let count = loops_count c.args.text.now c.args.header_row (loops c.args.parent.now c.args.header.now c.args.limit.now c.args.multiplier.now) _ room c.gather_table.ensures c.in_ok-rows.rows c.in_ok-rows.was in
+    let places = loops_places c.args.text.now c.args.header_row (loops c.args.parent.now c.args.header.now c.args.limit.now c.args.multiplier.now) _ room c.gather_table.ensures (record { parent = omega (arith, room); header = omega (arith, room); limit = omega (arith, room); multiplier = omega (arith, room) }) in
+    (omega (arith, count, places.limit), omega (arith, count, room))
 
-pub copy_u16-requires-2 : goal.copy_u16-requires-2
-copy_u16-requires-2 c =
-    let counted : c.row_count-count.result ≤ c.loop_room-room.result = loops_count c.args.text.now c.args.header_row (loops c.args.parent.now c.args.header.now c.args.limit.now c.args.multiplier.now) _ c.loop_room-room.ensures c.gather_loop_table-reply.ensures c.row_count-count.ensures in
-    let filled : LoopLengths most_loops (loops c.gather_loop_table-reply.new.parent c.gather_loop_table-reply.new.header c.gather_loop_table-reply.new.limit c.gather_loop_table-reply.new.multiplier) = loops_lengths most_loops c.args.text.now c.args.header_row c.loop_room-room.result c.gather_loop_table-reply.ensures (record { parent = refl; header = refl; limit = refl; multiplier = refl }) in
-    let l = (filled).header in let h = counted in (omega (arith, c.loop_room-room.ensures), omega (arith, c.loop_room-room.ensures))
-
-pub slice_bounds-copy_u32-end : goal.slice_bounds-copy_u32-end
-slice_bounds-copy_u32-end c =
-    let filled : LoopLengths most_loops (loops c.gather_loop_table-reply.new.parent c.gather_loop_table-reply.new.header c.gather_loop_table-reply.new.limit c.gather_loop_table-reply.new.multiplier) = loops_lengths most_loops c.args.text.now c.args.header_row c.loop_room-room.result c.gather_loop_table-reply.ensures (record { parent = refl; header = refl; limit = refl; multiplier = refl }) in
-    (filled).limit
-
-pub copy_u32-requires : goal.copy_u32-requires
-copy_u32-requires c =
-    let counted : c.row_count-count.result ≤ c.loop_room-room.result = loops_count c.args.text.now c.args.header_row (loops c.args.parent.now c.args.header.now c.args.limit.now c.args.multiplier.now) _ c.loop_room-room.ensures c.gather_loop_table-reply.ensures c.row_count-count.ensures in
-    let filled : LoopLengths most_loops (loops c.gather_loop_table-reply.new.parent c.gather_loop_table-reply.new.header c.gather_loop_table-reply.new.limit c.gather_loop_table-reply.new.multiplier) = loops_lengths most_loops c.args.text.now c.args.header_row c.loop_room-room.result c.gather_loop_table-reply.ensures (record { parent = refl; header = refl; limit = refl; multiplier = refl }) in
-    let l = (filled).limit in let h = counted in (omega (arith, c.loop_room-room.ensures), omega (arith, c.loop_room-room.ensures))
-
-pub slice_bounds-copy_u64-end : goal.slice_bounds-copy_u64-end
-slice_bounds-copy_u64-end c =
-    let filled : LoopLengths most_loops (loops c.gather_loop_table-reply.new.parent c.gather_loop_table-reply.new.header c.gather_loop_table-reply.new.limit c.gather_loop_table-reply.new.multiplier) = loops_lengths most_loops c.args.text.now c.args.header_row c.loop_room-room.result c.gather_loop_table-reply.ensures (record { parent = refl; header = refl; limit = refl; multiplier = refl }) in
-    (filled).multiplier
-
-pub copy_u64-requires : goal.copy_u64-requires
-copy_u64-requires c =
-    let counted : c.row_count-count.result ≤ c.loop_room-room.result = loops_count c.args.text.now c.args.header_row (loops c.args.parent.now c.args.header.now c.args.limit.now c.args.multiplier.now) _ c.loop_room-room.ensures c.gather_loop_table-reply.ensures c.row_count-count.ensures in
-    let filled : LoopLengths most_loops (loops c.gather_loop_table-reply.new.parent c.gather_loop_table-reply.new.header c.gather_loop_table-reply.new.limit c.gather_loop_table-reply.new.multiplier) = loops_lengths most_loops c.args.text.now c.args.header_row c.loop_room-room.result c.gather_loop_table-reply.ensures (record { parent = refl; header = refl; limit = refl; multiplier = refl }) in
-    let l = (filled).multiplier in let h = counted in (omega (arith, c.loop_room-room.ensures), omega (arith, c.loop_room-room.ensures))
+pub fill-requires-4 : goal.fill-requires-4
+fill-requires-4 c =
+    let room : c.min-3.result ≡ min (shortest_loop (loops c.args.parent.now c.args.header.now c.args.limit.now c.args.multiplier.now)) most_loops = omega (arith, c.min.ensures, c.min-2.ensures, c.min-places.ensures, c.min-3.ensures) in
+    let count = loops_count c.args.text.now c.args.header_row (loops c.args.parent.now c.args.header.now c.args.limit.now c.args.multiplier.now) _ room c.gather_table.ensures c.in_ok-rows.rows c.in_ok-rows.was in
+    let places = loops_places c.args.text.now c.args.header_row (loops c.args.parent.now c.args.header.now c.args.limit.now c.args.multiplier.now) _ room c.gather_table.ensures (record { parent = omega (arith, room); header = omega (arith, room); limit = omega (arith, room); multiplier = omega (arith, room) }) in
+    (omega (arith, count, places.multiplier), omega (arith, count, room))
 
 pub returns : goal.returns
-returns c = loops_read c.args.text.now c.args.header_row (loops c.args.parent.now c.args.header.now c.args.limit.now c.args.multiplier.now) _ c.loop_room-room.ensures c.gather_loop_table-reply.ensures c.row_count-count.ensures (record { parent = omega (arith, c.loop_room-room.ensures); header = omega (arith, c.loop_room-room.ensures); limit = omega (arith, c.loop_room-room.ensures); multiplier = omega (arith, c.loop_room-room.ensures) }) (record { parent = c.copy_u16.ensures; header = c.copy_u16-2.ensures; limit = c.copy_u32.ensures; multiplier = c.copy_u64.ensures })
+returns c =
+    let room : c.min-3.result ≡ min (shortest_loop (loops c.args.parent.now c.args.header.now c.args.limit.now c.args.multiplier.now)) most_loops = omega (arith, c.min.ensures, c.min-2.ensures, c.min-places.ensures, c.min-3.ensures) in
+    loops_read c.args.text.now c.args.header_row (loops c.args.parent.now c.args.header.now c.args.limit.now c.args.multiplier.now) _ room c.gather_table.ensures c.in_ok-rows.rows c.in_ok-rows.was (record { parent = omega (arith, room); header = omega (arith, room); limit = omega (arith, room); multiplier = omega (arith, room) }) (record { parent = c.fill.ensures; header = c.fill-2.ensures; limit = c.fill-3.ensures; multiplier = c.fill-4.ensures })
