@@ -1,12 +1,8 @@
 -- The passes mark exactly the blocks with a path to the exit. Assumes nothing.
-use mathlib.Core.Path.{◌≡◌, refl, sym, ◌∙◌, ap}
-use mathlib.Core.Bool.{Bool, true, false, not, ◌&&◌, true≢false, and-false, and-true as and-unit}
-use mathlib.Core.List.{List, [], ◌∷◌}
-use Prim.Native.Nat.{ℕ, suc, ◌+◌, ◌-◌, ◌≤◌, ◌<◌}
+use Rattle.std.proofs.Common.{◌≡◌, refl, sym, ◌∙◌, ap, Bool, true, false, not, ◌&&◌, true≢false, List, [], ◌∷◌, ℕ, suc, ◌+◌, ◌-◌, ◌≤◌, ◌<◌, arith, eqb, length, get_or, set, length-set, replicate}
+use mathlib.Core.Bool.{and-false, and-true as and-unit}
 use native.Mathlib.Decide.{ℕ_discrete}
-use native.Mathlib.Omega.{arith}
-use lib.Dec.{eqb}
-use lib.ListN.{length, get_or, set, length-set, replicate, get_or-replicate}
+use lib.ListN.{get_or-replicate}
 use lib.Seq.{get_or-set_same, get_or-set_other}
 use borrow.Author.Tests.{eq-eqb, ne_eqb, not-true}
 use Rattle.limits.specs.Limits.{most_blocks}
@@ -55,15 +51,6 @@ pub record PassedFrom (t : Routine) (order : List ℕ) (old marks : List Bool) (
   pub fewer : unmarked (block_count t) marks + (when more then 1 else 0) ≤ unmarked (block_count t) old
 
 module _ (t : Routine) (order : List ℕ) (old : List Bool) where
-  pub pass_start : length old ≡ most_blocks → PassedFrom t order old old false (block_count t)
-  pass_start size = record {
-    size = size;
-    kept = λ u e. e;
-    sound = λ s. s;
-    closed = λ q j h b. absurd (omega arith);
-    fewer = omega arith;
-  }
-
   -- the turn of the block at place i − 1
   module _ (L : Linked (block_count t) t.firsts t.seconds) (marks : List Bool) (more : Bool) (i : ℕ) (low : get_or order (i - 1) 0 < block_count t) (P : PassedFrom t order old marks more i) where
     abbrev here : ℕ
@@ -91,19 +78,6 @@ module _ (t : Routine) (order : List ℕ) (old : List Bool) where
             let w = edge_to t here (marked marks) q.1 in
             rw same (path_on t here w.0 w.1 (S w.0 (target t here (block_count t) w.0 L low w.1) w.2))
         sound S v b k (no ne) = S v b (sym (get_or-set_other marks here v true false ne) ∙ k)
-
-    pub pass_skips : can_mark t marks here ≡ false → PassedFrom t order old marks more (i - 1)
-    pass_skips e = record {
-      size = P.size;
-      kept = P.kept;
-      sound = P.sound;
-      closed = λ q j h b. closed q j h b (ℕ_discrete j (i - 1));
-      fewer = P.fewer;
-    }
-      where
-        closed : more ≡ false → (j : ℕ) → i - 1 ≤ j → j < block_count t → Dec (j ≡ i - 1) → can_mark t marks (get_or order j 0) ≡ false
-        closed q j h b (yes same) = rw same e
-        closed q j h b (no ne) = P.closed q j (omega (arith, ne)) b
 
   pub passed : Listed (block_count t) order → (marks : List Bool) (more : Bool) → PassedFrom t order old marks more 0 → Passed t old marks more
   passed L marks more P = record {

@@ -1,10 +1,5 @@
 -- Edges, one successor at a time; and that paths to the exit depend only on the successors and the number of blocks. Assumes nothing.
-use mathlib.Core.Path.{◌≡◌, refl, sym, ◌∙◌, ap}
-use mathlib.Core.Logic.{⊎_elim}
-use mathlib.Core.Bool.{Bool, true, false, not, true≢false}
-use mathlib.Core.List.{List, [], ◌∷◌}
-use Prim.Native.Nat.{ℕ, ◌-◌, ◌<◌}
-use lib.Dec.{eqb}
+use Rattle.std.proofs.Common.{◌≡◌, refl, sym, ◌∙◌, ap, ⊎_elim, Bool, true, false, not, true≢false, List, [], ◌∷◌, ℕ, ◌-◌, ◌<◌, eqb}
 use borrow.Author.Tests.{eqb-true, eqb-false, eq-eqb, not-true}
 use Rattle.lists.proofs.Tests.{and-true, both, either}
 use Rattle.wcet.specs.Table.{Routine, block_count, missing, first, second, some_edge, edge}

@@ -1,12 +1,5 @@
 -- The place of 401 by a test of each block, as that it is not marked; and what callers of `first_lost` need. Assumes nothing.
-use mathlib.Core.Path.{◌≡◌, refl, sym, ◌∙◌, ap}
-use mathlib.Core.Logic.{◌↔◌}
-use mathlib.Core.Bool.{Bool, true, false, not, true≢false}
-use mathlib.Core.List.{List}
-use mathlib.Core.Option.{none, some}
-use Prim.Native.Nat.{ℕ, ◌<◌}
-use native.Mathlib.Omega.{arith}
-use lib.ListN.{length}
+use Rattle.std.proofs.Common.{◌≡◌, refl, sym, ◌∙◌, ap, ◌↔◌, Bool, true, false, not, true≢false, List, Option, ℕ, ◌<◌, arith, length}
 use borrow.Author.Tests.{not-false}
 use Rattle.lists.specs.Search.{first_below}
 use Rattle.lists.proofs.Search.{Lowest, found, found_lowest, not_found, none_found}
@@ -14,22 +7,11 @@ use Rattle.wcet.specs.Table.{Routine, block_count}
 use Rattle.wcet.specs.Rules.{structure_rules}
 use Rattle.wcet.specs.Claim.{AllHold}
 use Rattle.nesting.specs.Columns.{Linked}
-use Rattle.nesting.specs.Answers.{place_of}
-use Rattle.nesting.specs.declared.Place.{Place}
-use Rattle.nesting.specs.declared.Place.TheVariants.{At, Nowhere}
 use Rattle.nesting.proofs.Stages.{linked, headed}
 use Rattle.optimum.specs.Remade.{PathToExit}
 use Rattle.exits.specs.Lost.{Listed, LowestLost, LostAt, Lost}
 use Rattle.exits.specs.Marks.{link_columns, marked, MarksPaths}
 use Rattle.exits.proofs.Paths.{same_path}
-
-place_at : (r : Place) (u : ℕ) → place_of r ≡ some u → r ≡ At u
-place_at (At v) u e = cc
-place_at Nowhere u e = absurd (let z : ◌≡◌ {A = ℕ} 0 1 = cc in omega arith)
-
-place_nowhere : (r : Place) → place_of r ≡ none → r ≡ Nowhere
-place_nowhere (At v) e = absurd (let z : ◌≡◌ {A = ℕ} 0 1 = cc in omega arith)
-place_nowhere Nowhere e = refl
 
 -- by a test that holds exactly where a block has no path
 module _ (t : Routine) (lacks : ℕ → Bool) (exact : (u : ℕ) → u < block_count t → (lacks u ≡ false) ↔ PathToExit t u) where
@@ -46,21 +28,21 @@ module _ (t : Routine) (lacks : ℕ → Bool) (exact : (u : ℕ) → u < block_c
     λ l. record { below = l.block; passes = (lacking u l.block).1 l.lost; lower = λ v h. (exact v (omega (arith, l.block))).1 (l.lower v h) },
   )
 
-  lost_by : (r : Place) → place_of r ≡ first_below (block_count t) lacks → LostAt t r
+  lost_by : (r : Option ℕ) → r ≡ first_below (block_count t) lacks → LostAt t r
   lost_by r e = record {
     lowest = λ u. (
-      λ q. (lowest_lost u).0 (found_lowest (block_count t) lacks u (sym e ∙ ap place_of q)),
-      λ l. place_at r u (e ∙ found (block_count t) lacks u ((lowest_lost u).1 l)),
+      λ q. (lowest_lost u).0 (found_lowest (block_count t) lacks u (sym e ∙ q)),
+      λ l. e ∙ found (block_count t) lacks u ((lowest_lost u).1 l),
     );
     nowhere = (
-      λ q u b. (exact u b).0 (not_found (block_count t) lacks (sym e ∙ ap place_of q) u b),
-      λ all. place_nowhere r (e ∙ none_found (block_count t) lacks (λ u b. (exact u b).1 (all u b))),
+      λ q u b. (exact u b).0 (not_found (block_count t) lacks (sym e ∙ q) u b),
+      λ all. e ∙ none_found (block_count t) lacks (λ u b. (exact u b).1 (all u b)),
     );
   }
 
 -- by marks, which are right in every routine with the same two columns
-pub lost : (firsts seconds : List ℕ) (marks : List Bool) → MarksPaths (link_columns firsts seconds) marks → (r : Place)
-    → place_of r ≡ first_below (length firsts) (λ u. not (marked marks u)) → Lost firsts seconds r
+pub lost : (firsts seconds : List ℕ) (marks : List Bool) → MarksPaths (link_columns firsts seconds) marks → (r : Option ℕ)
+    → r ≡ first_below (length firsts) (λ u. not (marked marks u)) → Lost firsts seconds r
 lost firsts seconds marks M r e t f s n = lost_by t (λ u. not (marked marks u)) exact r (rw n at e)
   where
     L : Routine

@@ -6,12 +6,10 @@ ghost use Rattle.std.specs.Prelude.{◌≡◌, not, ◌≤◌, ◌<◌, length};
 ghost use Rattle.limits.specs.Limits.{most_blocks};
 ghost use Rattle.lists.specs.Search.{first_below};
 ghost use Rattle.nesting.specs.Columns.{Names, of_edge, Linked};
-ghost use Rattle.nesting.specs.Answers.{place_of};
 ghost use Rattle.exits.specs.Lost.{Listed, Lost};
 ghost use Rattle.exits.specs.Marks.{link_columns, marked, can_mark, Passed, MarksPaths};
 
 use limits::MOST_BLOCKS;
-use nesting::Place;
 
 // The blocks that are known to have a path to the exit.
 type Marks = [bool; MOST_BLOCKS];
@@ -21,24 +19,16 @@ fn is_marked(marks: &Marks, v: u16) -> bool
     requires { Names most_blocks v }
     ensures { result ≡ of_edge v (marked marks.now) }
 {
-    if v == 65535 {
-        return false;
-    }
-    marks[v as usize]
+    v != 65535 && marks[v as usize]
 }
 
 // Whether block u is not marked and has an edge to a marked block.
+#[tactic(auto, unfolding(crate::specs::Marks::can_mark, wcet::specs::Table::some_edge))]
 fn can_mark(marks: &Marks, first: &[u16], second: &[u16], u: usize) -> bool
     requires { Linked (length first.now) first.now second.now × (u < length first.now) }
     ensures { result ≡ can_mark (link_columns first.now second.now) marks.now u }
 {
-    if marks[u] {
-        return false;
-    }
-    if is_marked(marks, first[u]) {
-        return true;
-    }
-    is_marked(marks, second[u])
+    !marks[u] && (is_marked(marks, first[u]) || is_marked(marks, second[u]))
 }
 
 // Marks the blocks with an edge to a marked block, from the last place of the order to the first. So a pass marks all of a path whose edges lead
@@ -48,9 +38,7 @@ fn mark_pass(marks: &mut Marks, first: &[u16], second: &[u16], order: &[u16; MOS
     ensures { Passed (link_columns first.now second.now) marks.old marks.new result }
 {
     let mut more = false;
-    let mut i = first.len();
-    while 0 < i {
-        i -= 1;
+    for i in (0..first.len()).rev() {
         let u = order[i] as usize;
         if can_mark(marks, first, second, u) {
             marks[u] = true;
@@ -72,23 +60,16 @@ fn mark_paths(first: &[u16], second: &[u16], order: &[u16; MOST_BLOCKS]) -> Mark
 }
 
 // The lowest of n blocks that is not marked, if there is one.
-fn first_unmarked(marks: &Marks, n: usize) -> Place
+fn first_unmarked(marks: &Marks, n: usize) -> Option<usize>
     requires { n ≤ most_blocks }
-    ensures { place_of result ≡ first_below n (λ u. not (marked marks.now u)) }
+    ensures { result ≡ first_below n (λ u. not (marked marks.now u)) }
 {
-    let mut u = 0;
-    while u < n {
-        if !marks[u] {
-            return Place::At(u);
-        }
-        u += 1;
-    }
-    Place::Nowhere
+    (0..n).find(|u| !marks[*u])
 }
 
 // The lowest block without a path to the exit, if there is one. Every order of the blocks gives the same reply. A topological order of the
 // forward edges makes it fast: the first pass marks every block with a path of forward edges, and each back edge of a path takes one more pass.
-pub fn first_lost(first: &[u16], second: &[u16], order: &[u16; MOST_BLOCKS]) -> Place
+pub fn first_lost(first: &[u16], second: &[u16], order: &[u16; MOST_BLOCKS]) -> Option<usize>
     requires { (0 < length first.now) × Linked (length first.now) first.now second.now × Listed (length first.now) order.now }
     ensures { Lost first.now second.now result }
 {

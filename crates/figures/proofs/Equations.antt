@@ -1,17 +1,9 @@
 -- The remade figures are figures by the slots: with the gates of the remade columns, the greater of the values in a block's slots is its remade
 -- figure (`remade_equations`). Assumes nothing.
-use mathlib.Core.Path.{◌≡◌, refl, sym, ◌∙◌, ap}
-use mathlib.Core.Bool.{Bool, true, false, not, ◌&&◌, true≢false}
-use mathlib.Core.List.{List}
-use mathlib.Core.Logic.{◌⊎◌, inl, inr}
-use Prim.Native.Nat.{ℕ, ◌+◌, ◌*◌, ◌^◌, ◌≤◌, ◌<◌}
+use Rattle.std.proofs.Common.{◌≡◌, refl, sym, ◌∙◌, ap, Bool, true, false, not, ◌&&◌, true≢false, List, ◌⊎◌, inl, inr, ℕ, ◌+◌, ◌*◌, ◌^◌, ◌≤◌, ◌<◌, arith, eqb, ltb, ℤ, pos, ◌+ℤ◌, get_or, ◌≤ℤ◌}
 use native.Mathlib.Decide.{ℕ_discrete}
-use native.Mathlib.Omega.{arith}
-use lib.Dec.{eqb, ltb}
 use borrow.Author.Tests.{eqb-true, not-true, lt-ltb, ltb-false, le-ltb}
-use lib.IntN.{ℤ, pos, ◌+ℤ◌}
-use lib.ListN.{get_or}
-use lib.Signed.{lt_z, ◌≤ℤ◌}
+use lib.Signed.{lt_z}
 use Rattle.integers.proofs.Laws.{ints, sum}
 use Rattle.limits.specs.Limits.{most_blocks, most_loops}
 use Rattle.lists.proofs.Tests.{either, and-true}

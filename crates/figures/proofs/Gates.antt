@@ -1,13 +1,7 @@
 -- The gates by the figures of the headers: where each block has a path to the exit, each header has its remade figure, so that a gate is what a
 -- back edge to the header asks for (`gates_of`), and a header's figure over the limit is a remade figure over it (`head_high`). Assumes nothing.
-use mathlib.Core.Path.{◌≡◌, refl, sym, ◌∙◌}
-use mathlib.Core.Bool.{true, false}
-use mathlib.Core.List.{List}
+use Rattle.std.proofs.Common.{◌≡◌, refl, sym, ◌∙◌, true, false, List, ℕ, ◌<◌, arith, ℤ, pos, get_or}
 use mathlib.Core.Option.{some}
-use Prim.Native.Nat.{ℕ, ◌<◌}
-use native.Mathlib.Omega.{arith}
-use lib.IntN.{ℤ, pos}
-use lib.ListN.{get_or}
 use Rattle.wcet.specs.Table.{Routine, block_count, loop_count, header}
 use Rattle.wcet.specs.Cycles.{undeclared_loop}
 use Rattle.wcet.specs.Rules.{structure_rules}

@@ -1,17 +1,11 @@
 -- The gates, one loop after the other, and the pass over the blocks, from the last in an order to the first: it makes any figures that the slots
 -- fix by equations, as long as none is over the limit. Assumes nothing.
-use mathlib.Core.Path.{◌≡◌, refl, sym, ◌∙◌, ap}
-use mathlib.Core.Bool.{Bool, true, false, true≢false}
-use mathlib.Core.List.{List}
-use Prim.Native.Nat.{ℕ, zero, suc, ◌+◌, ◌-◌, ◌^◌, ◌≤◌, ◌<◌}
+use Rattle.std.proofs.Common.{◌≡◌, refl, sym, ◌∙◌, ap, Bool, true, false, true≢false, List, ℕ, zero, suc, ◌+◌, ◌-◌, ◌^◌, ◌≤◌, ◌<◌, arith, ltb, ℤ, pos, neg_ℤ, ◌+ℤ◌, ◌-ℤ◌, length, get_or, set, length-set, replicate, ◌≤ℤ◌}
 use native.Mathlib.Decide.{ℕ_discrete}
-use native.Mathlib.Omega.{arith}
-use lib.Dec.{ltb}
 use borrow.Author.Tests.{ltb-true, ltb-false}
-use lib.IntN.{ℤ, pos, neg_ℤ, ◌+ℤ◌, ◌-ℤ◌}
-use lib.ListN.{length, get_or, set, length-set, replicate, length-replicate, get_or-replicate, get_or-eq_default}
+use lib.ListN.{length-replicate, get_or-replicate, get_or-eq_default}
 use lib.Seq.{get_or-set_same, get_or-set_other}
-use lib.Signed.{lt_z, ◌≤ℤ◌}
+use lib.Signed.{lt_z}
 use mir.Syntax.{w64}
 use mir.Val.{SFits}
 use Rattle.integers.proofs.Laws.{ints, sum, diff, size}
@@ -53,16 +47,6 @@ gate_range c k z h l H =
     (omega (ints, diff (pos c) (pos k), sum (pos c -ℤ pos k) z), omega (ints, diff (pos c) (pos k), sum (pos c -ℤ pos k) z))
 
 module _ (costs headers made : List ℕ) (heads old : List ℤ) where
-  -- with 0 at the gate of loop 0
-  pub gating_first : most_blocks < length old → Gating costs headers made heads (set old most_blocks (pos 0)) (set old most_blocks (pos 0)) 1
-  gating_first few = record {
-    size = refl;
-    exit_gate = get_or-set_same old most_blocks (pos 0) (pos 0) few;
-    gate = λ k z b. absurd (omega arith);
-    rest = λ i b. refl;
-    after = λ i b c. refl;
-  }
-
   module _ (new : List ℤ) (l : ℕ) (G : Gating costs headers made heads old new l) where
     pub gating_next : 0 < l → most_blocks + l < length old → Gating costs headers made heads old (set new (most_blocks + l) (gate_by costs headers made heads l)) (l + 1)
     gating_next z b = record {
@@ -79,16 +63,6 @@ module _ (costs headers made : List ℕ) (heads old : List ℤ) where
         gate : (k : ℕ) → 0 < k → k < l + 1 → Dec (k ≡ l) → get_or (set new (most_blocks + l) value) (most_blocks + k) (pos 0) ≡ gate_by costs headers made heads k
         gate k p q (yes e) = rw e (get_or-set_same new (most_blocks + l) value (pos 0) (omega (arith, G.size)))
         gate k p q (no ne) = get_or-set_other new (most_blocks + l) (most_blocks + k) value (pos 0) (λ e. ne (omega arith)) ∙ G.gate k p (omega arith)
-
-  pub gating_all : (new : List ℤ) (l : ℕ) → Gating costs headers made heads (set old most_blocks (pos 0)) new l → length headers ≤ l → l - 1 ≤ length headers - 1 → 0 < l
-      → GatesSet costs headers made heads old new
-  gating_all new l G h p z = record {
-    size = G.size ∙ length-set old most_blocks (pos 0);
-    exit_gate = G.exit_gate;
-    gate = λ k q b. G.gate k q (omega arith);
-    rest = λ i b. G.rest i b ∙ get_or-set_other old most_blocks i (pos 0) (pos 0) (λ e. omega arith);
-    after = λ i b c. G.after i (omega arith) c ∙ get_or-set_other old most_blocks i (pos 0) (pos 0) (λ e. omega arith);
-  }
 
 -- a pass can start with no figure anywhere
 pub none_fit : (k : ℕ) → ValuesFit (replicate k no_figure)

@@ -1,17 +1,9 @@
 -- What a pass over the gates makes: where every figure is within the limits, each block has a path to the exit, for a value that is not far below 0
 -- has come along one (`all_paths`); and then the figures are the remade ones (`figured`). Assumes nothing.
-use mathlib.Core.Path.{◌≡◌, refl, sym, ◌∙◌}
-use mathlib.Core.Bool.{Bool, true, false}
-use mathlib.Core.List.{List}
-use mathlib.Core.Logic.{inl, inr}
-use Prim.Native.Nat.{ℕ, zero, suc, ◌+◌, ◌^◌, ◌≤◌, ◌<◌}
+use Rattle.std.proofs.Common.{◌≡◌, refl, sym, ◌∙◌, Bool, true, false, List, inl, inr, ℕ, zero, suc, ◌+◌, ◌^◌, ◌≤◌, ◌<◌, arith, eqb, ℤ, pos, neg_ℤ, ◌+ℤ◌, ◌-ℤ◌, get_or, ◌≤ℤ◌}
 use native.Mathlib.Decide.{ℕ_discrete}
-use native.Mathlib.Omega.{arith}
-use lib.Dec.{eqb}
 use borrow.Author.Tests.{le-ltb}
-use lib.IntN.{ℤ, pos, neg_ℤ, ◌+ℤ◌, ◌-ℤ◌}
-use lib.ListN.{get_or}
-use lib.Signed.{lt_z, ◌≤ℤ◌}
+use lib.Signed.{lt_z}
 use Rattle.integers.proofs.Laws.{ints, sum, diff}
 use Rattle.limits.specs.Limits.{most_blocks}
 use Rattle.lists.specs.Search.{when◌then◌else◌}

@@ -1,10 +1,7 @@
 -- Numbers that are figures or tails, and numbers that are none. Assumes nothing.
-use mathlib.Core.Path.{◌≡◌, refl, ◌∙◌}
-use mathlib.Core.Bool.{Bool, true, false}
+use Rattle.std.proofs.Common.{◌≡◌, refl, ◌∙◌, Bool, true, false, ℕ, zero, suc, ◌^◌, ◌≤◌, ℤ, pos, negsuc, neg_ℤ, ◌+ℤ◌, ◌-ℤ◌, ◌≤ℤ◌, ◌<ℤ◌}
 use mathlib.Core.Option.{Option, none, some}
-use Prim.Native.Nat.{ℕ, zero, suc, ◌^◌, ◌≤◌}
-use lib.IntN.{ℤ, pos, negsuc, neg_ℤ, ◌+ℤ◌, ◌-ℤ◌}
-use lib.Signed.{lt_z, ◌≤ℤ◌, ◌<ℤ◌}
+use lib.Signed.{lt_z}
 use mir.Syntax.{w64}
 use mir.Val.{SFits}
 use Rattle.integers.specs.Parts.{up, dn}
@@ -14,7 +11,10 @@ use Rattle.optimum.specs.Tails.{best}
 use Rattle.optimum.proofs.Tails.{none_some}
 use Rattle.optimum.specs.Columns.{from_exit, from_header}
 use Rattle.tails.specs.Words.{word_of, Word}
-use Rattle.tails.proofs.Words.{no_word}
+use Rattle.std.specs.Int.{int_max}
+use Rattle.std.proofs.lemmas.Int.{clamps}
+use Rattle.tails.specs.Words.{greater_of}
+use Rattle.tails.proofs.Words.{no_word, greater_max}
 use Rattle.figures.specs.Figures.{no_figure, figure_of, Known}
 
 -- the negative of a number
@@ -119,14 +119,13 @@ module _ (k : ℕ) (w : ℤ) where
 
 -- ---- the greater of two figures
 
-pub higher_second : (a b : ℤ) → lt_z a b ≡ true → figure_of b ≡ best lt_z (figure_of a) (figure_of b)
-higher_second a b e = rw e at (higher_is a b)
+pub higher_max : (a b r : ℤ) → r ≡ int_max a b → (figure_of r ≡ best lt_z (figure_of a) (figure_of b)) × (a ≤ℤ r)
+higher_max a b r e = (rw q (go (lt_z a b) refl (higher_is a b)), omega (ints, clamps, e))
+  where
+    q : r ≡ (when lt_z a b then b else a)
+    q = unfold greater_of in greater_max a b r e
 
-pub higher_first : (a b : ℤ) → lt_z a b ≡ false → figure_of a ≡ best lt_z (figure_of a) (figure_of b)
-higher_first a b e = rw e at (higher_is a b)
-
-pub higher_over : (a b : ℤ) → lt_z a b ≡ true → a ≤ℤ b
-higher_over a b e = omega ints
-
-pub higher_same : (a : ℤ) → a ≤ℤ a
-higher_same a = omega ints
+    go : (l : Bool) → lt_z a b ≡ l → (when l then figure_of b else figure_of a) ≡ best lt_z (figure_of a) (figure_of b)
+        → figure_of (when l then b else a) ≡ best lt_z (figure_of a) (figure_of b)
+    go true l h = h
+    go false l h = h

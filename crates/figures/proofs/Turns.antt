@@ -1,19 +1,11 @@
 -- The turn of a level's loops, header by header, with the figures changed in place. Other headers read the figure of a chosen loop's header in this
 -- turn: it is known throughout (`header_known`), and what they read is the same before and after its own place (`header_same`). Assumes nothing.
-use mathlib.Core.Path.{◌≡◌, refl, sym, ◌∙◌, ap}
-use mathlib.Core.Bool.{Bool, true, false, true≢false}
-use mathlib.Core.List.{List}
-use mathlib.Core.Logic.{◌⊎◌, inl, inr}
+use Rattle.std.proofs.Common.{◌≡◌, refl, sym, ◌∙◌, ap, Bool, true, false, true≢false, List, ◌⊎◌, inl, inr, ℕ, ◌+◌, ◌*◌, ◌-◌, ◌^◌, ◌≤◌, ◌<◌, arith, eqb, ltb, ℤ, pos, neg_ℤ, ◌+ℤ◌, ◌-ℤ◌, length, get_or, set, length-set, ◌≤ℤ◌, ◌<ℤ◌}
 use mathlib.Core.Option.{Option, none, some}
-use Prim.Native.Nat.{ℕ, ◌+◌, ◌*◌, ◌-◌, ◌^◌, ◌≤◌, ◌<◌}
 use native.Mathlib.Decide.{ℕ_discrete}
-use native.Mathlib.Omega.{arith}
-use lib.Dec.{eqb, ltb}
 use borrow.Author.Tests.{eq-eqb, ne_eqb, ltb-true, ltb-false}
-use lib.IntN.{ℤ, pos, neg_ℤ, ◌+ℤ◌, ◌-ℤ◌}
-use lib.ListN.{length, get_or, set, length-set}
 use lib.Seq.{get_or-set_same, get_or-set_other}
-use lib.Signed.{lt_z, ◌≤ℤ◌, ◌<ℤ◌}
+use lib.Signed.{lt_z}
 use Rattle.integers.proofs.Laws.{ints, sum, diff}
 use Rattle.limits.specs.Limits.{most_loops}
 use Rattle.lists.specs.Search.{when◌then◌else◌}
@@ -62,9 +54,6 @@ pub record Turning (kept : List ℤ) (made level : List ℕ) (d : ℕ) (old new 
   pub rest : (y : ℕ) → l ≤ y → get_or new y (pos 0) ≡ get_or old y (pos 0)
 
 module _ (kept : List ℤ) (made level : List ℕ) (d m : ℕ) (old : List ℤ) (A : Turnable made level d m old) where
-  pub turning_first : Turning kept made level d old old m 0
-  turning_first = record { size = A.size; done = λ y b. absurd (omega arith); bounded = λ y b. absurd (omega arith); rest = λ y b. refl }
-
   was : (y : ℕ) → y < m → Bounded (2 ^ 40 * d) (get_or old y (pos 0))
   was y b = bounded_more (2 ^ 40 * (d - 1)) (2 ^ 40 * d) (get_or old y (pos 0)) (omega (arith, A.deep.0)) (A.bounded y b)
 
@@ -144,9 +133,6 @@ module _ (kept : List ℤ) (made level : List ℕ) (d m : ℕ) (old : List ℤ) 
           bounded y b h (no ne) = T.bounded y (omega arith) h
 
       module _ (there : j ≡ no_loop → ⊥) where
-        pub chosen_known : Known (get_or new j (pos 0))
-        chosen_known = header_known j (A.chosen l c there)
-
         module _ (given f : ℤ)
             (g : figure_of given ≡ turn_of (eqb j 0) (eqb l j) (get_or made j 0) (word_of (get_or kept (kept_at l d) (pos 0))) (figure_of (get_or new j (pos 0))))
             (e : figure_of f ≡ best lt_z (figure_of (get_or new l (pos 0))) (figure_of given)) where
@@ -189,6 +175,3 @@ module _ (kept : List ℤ) (made level : List ℕ) (d m : ℕ) (old : List ℤ) 
             bounded = λ q. absurd (true≢false q);
             high = λ q. (l, c, (f, sym filled ∙ is_figure f (omega ints), high));
           }
-
-  pub turning_all : (new : List ℤ) → Turning kept made level d old new m m → Turned kept made level d m old false new
-  turning_all new T = record { size = T.size; same = λ q l b. T.done l b b; bounded = λ q l b. T.bounded l b b; high = λ q. absurd (true≢false (sym q)) }

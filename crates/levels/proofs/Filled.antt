@@ -1,20 +1,16 @@
 -- How the depths of the loops and the loops of one depth around each loop are filled, from loop 0 up: the value of a loop follows from its
 -- parent's. Assumes nothing.
-use mathlib.Core.Path.{◌≡◌, refl, sym, ◌∙◌, ap}
-use mathlib.Core.Bool.{Bool, true, false, or-true}
-use mathlib.Core.List.{List}
-use Prim.Native.Nat.{ℕ, zero, suc, ◌+◌, ◌≤◌, ◌<◌}
+use Rattle.std.proofs.Common.{◌≡◌, refl, sym, ◌∙◌, ap, Bool, true, false, List, ℕ, zero, suc, ◌+◌, ◌≤◌, ◌<◌, max, arith, length, get_or, set, replicate, eqb, ltb, length-set}
 use native.Mathlib.Decide.{ℕ_discrete}
-use native.Mathlib.Omega.{arith}
-use lib.Dec.{eqb, ltb}
+use mathlib.Core.Bool.{or-true}
 use borrow.Author.Tests.{ltb-true, ltb-false}
-use lib.ListN.{length, get_or, set, replicate, length-set, get_or-replicate}
+use lib.ListN.{get_or-replicate}
 use lib.Seq.{get_or-set_same, get_or-set_other}
 use Rattle.limits.specs.Limits.{most_loops}
 use Rattle.wcet.specs.Table.{around}
 use Rattle.wcet.proofs.Around.{around_parent}
 use Rattle.loopsets.specs.Sets.{Parents}
-use Rattle.levels.specs.Levels.{depth, no_loop, Level}
+use Rattle.levels.specs.Levels.{depth, no_loop, Level, DepthsOf}
 use Rattle.levels.proofs.Laws.{depth_root, depth_parent, depth_least, depth_most, depth_inner, around_own, around_cases}
 
 -- the depths of the loops below i are filled, and most is the greatest of them
@@ -58,13 +54,12 @@ module _ (parents : List ℕ) (P : Parents parents) where
 
   -- one loop more: next is the greatest depth after it
   pub filled_next : (each : List ℕ) (most l next : ℕ) → 0 < l → l < length parents → length parents ≤ most_loops → Filled parents each most l
-      → (most < get_or each (get_or parents l 0) 0 + 1 → next ≡ get_or each (get_or parents l 0) 0 + 1) → (get_or each (get_or parents l 0) 0 + 1 ≤ most → next ≡ most)
-      → Filled parents (set each l (get_or each (get_or parents l 0) 0 + 1)) next (l + 1)
-  filled_next each most l next z h few F more less =
+      → next ≡ max most (get_or each (get_or parents l 0) 0 + 1) → Filled parents (set each l (get_or each (get_or parents l 0) 0 + 1)) next (l + 1)
+  filled_next each most l next z h few F e =
       record {
         size = length-set each l x ∙ F.size;
         same = λ k b. at k b (ℕ_discrete k l);
-        below = λ k b. under k b (ℕ_discrete k l) (ltb most x) refl;
+        below = λ k b. under k b (ℕ_discrete k l);
         attained = reached (ltb most x) refl F.attained;
       }
     where
@@ -78,15 +73,16 @@ module _ (parents : List ℕ) (P : Parents parents) where
       at k b (yes q) = rw (q, get_or-set_same each l x 0 (omega (arith, F.size))) own
       at k b (no ne) = get_or-set_other each l k x 0 ne ∙ F.same k (omega arith)
 
-      under : (k : ℕ) → k < l + 1 → Dec (k ≡ l) → (t : Bool) → ltb most x ≡ t → depth parents k ≤ next
-      under k b (yes q) true t = omega (arith, own, ap (λ (y : ℕ). depth parents y) q, more (ltb-true most x t))
-      under k b (yes q) false t = omega (arith, own, ap (λ (y : ℕ). depth parents y) q, less (ltb-false most x t), ltb-false most x t)
-      under k b (no ne) true t = omega (arith, F.below k (omega arith), more (ltb-true most x t), ltb-true most x t)
-      under k b (no ne) false t = omega (arith, F.below k (omega arith), less (ltb-false most x t))
+      under : (k : ℕ) → k < l + 1 → Dec (k ≡ l) → depth parents k ≤ next
+      under k b (yes q) = omega (arith, e, own, ap (λ (y : ℕ). depth parents y) q)
+      under k b (no ne) = omega (arith, e, F.below k (omega arith))
 
       reached : (t : Bool) → ltb most x ≡ t → (k : ℕ) × (k < l) × (depth parents k ≡ most) → (k : ℕ) × (k < l + 1) × (depth parents k ≡ next)
-      reached true t a = (l, omega arith, sym own ∙ sym (more (ltb-true most x t)))
-      reached false t (k, b, e) = (k, omega arith, e ∙ sym (less (ltb-false most x t)))
+      reached true t a = (l, omega arith, omega (arith, e, own, ltb-true most x t))
+      reached false t (k, b, q) = (k, omega arith, omega (arith, e, q, ltb-false most x t))
+
+  pub filled_all : (each : List ℕ) (most : ℕ) → Filled parents each most (length parents) → DepthsOf parents (record { each = each; most = most })
+  filled_all each most F = record { size = F.size; same = F.same; most = F.below; attained = F.attained }
 
   pub levelled_first : (d : ℕ) → Levelled parents d (replicate most_loops no_loop) 0
   levelled_first d = record { size = refl; each = λ k b. absurd (omega arith); rest = λ k b h. get_or-replicate most_loops k no_loop 0 b }
@@ -136,29 +132,24 @@ module _ (parents : List ℕ) (P : Parents parents) where
       at k b (yes q) = rw (q, get_or-set_same level l x 0 (omega (arith, F.size))) C
       at k b (no ne) = rw (get_or-set_other level l k x 0 ne) (F.each k (omega arith))
 
-  levelled_keep : (d : ℕ) (level : List ℕ) (l : ℕ) → l < most_loops → Levelled parents d level l → Chosen parents d l no_loop → Levelled parents d level (l + 1)
-  levelled_keep d level l h F C = record { size = F.size; each = λ k b. at k b (ℕ_discrete k l); rest = λ k b up. F.rest k b (omega arith) }
+  -- one loop more, of that depth, deeper or less deep
+  pub levelled_own : (d : ℕ) (level : List ℕ) (l : ℕ) → l < length parents → length parents ≤ most_loops → Levelled parents d level l → depth parents l ≡ d
+      → Levelled parents d (set level l l) (l + 1)
+  levelled_own d level l h few F e = levelled_set d level l l (omega arith) F (chosen_own d l h e)
+
+  pub levelled_up : (d : ℕ) (level : List ℕ) (l : ℕ) → l < length parents → length parents ≤ most_loops → Levelled parents d level l → d < depth parents l
+      → Levelled parents d (set level l (get_or level (get_or parents l 0) 0)) (l + 1)
+  levelled_up d level l h few F lt =
+      levelled_set d level l (get_or level (get_or parents l 0) 0) (omega arith) F
+      (chosen_up d l (get_or level (get_or parents l 0) 0) h lt (λ z. rw (z, P.root) (F.rest 0 (omega arith) (omega arith))) (λ z. F.each (get_or parents l 0) (P.below l z)))
+
+  pub levelled_keep : (d : ℕ) (level : List ℕ) (l : ℕ) → l < length parents → length parents ≤ most_loops → Levelled parents d level l → depth parents l < d
+      → Levelled parents d level (l + 1)
+  levelled_keep d level l h few F lt = record { size = F.size; each = λ k b. at k b (ℕ_discrete k l); rest = λ k b up. F.rest k b (omega arith) }
     where
       at : (k : ℕ) → k < l + 1 → Dec (k ≡ l) → Chosen parents d k (get_or level k 0)
-      at k b (yes q) = rw (q, F.rest l h (omega arith)) C
+      at k b (yes q) = rw (q, F.rest l (omega arith) (omega arith)) (chosen_none d l h lt)
       at k b (no ne) = F.each k (omega arith)
-
-  -- one loop more, in the two steps of the code: x is its depth, own the column after the first step, next the column after both
-  pub levelled_next : (d : ℕ) (level own next : List ℕ) (l x : ℕ) → l < length parents → length parents ≤ most_loops → Levelled parents d level l
-      → x ≡ depth parents l → (x ≡ d → own ≡ set level l l) → ((x ≡ d → ⊥) → own ≡ level)
-      → (d < x → next ≡ set own l (get_or own (get_or parents l 0) 0)) → (x ≤ d → next ≡ own) → Levelled parents d next (l + 1)
-  levelled_next d level own next l x h few F e same other up keep = go (ltb d x) refl (ℕ_discrete x d)
-    where
-      go : (t : Bool) → ltb d x ≡ t → Dec (x ≡ d) → Levelled parents d next (l + 1)
-      go true t q =
-          let lt : d < x = ltb-true d x t in
-          rw (up lt, other (λ y. omega arith)) (levelled_set d level l (get_or level (get_or parents l 0) 0) (omega arith) F (chosen_up d l (get_or level (get_or parents l 0) 0) h (omega arith)
-          (λ z. rw (z, P.root) (F.rest 0 (omega arith) (omega arith)))
-          (λ z. F.each (get_or parents l 0) (P.below l z))))
-      go false t (yes q) = rw (keep (omega arith), same q) (levelled_set d level l l (omega arith) F (chosen_own d l h (sym e ∙ q)))
-      go false t (no ne) =
-          let le : x ≤ d = ltb-false d x t in
-          rw (keep le, other ne) (levelled_keep d level l (omega arith) F (chosen_none d l h (omega arith)))
 
   pub levelled_all : (d : ℕ) (level : List ℕ) → Levelled parents d level (length parents) → Level parents d level
   levelled_all d level F = record { size = F.size; chosen = λ k b. (F.each k b).there; each = λ k l b h a e. (F.each k b).only l h a e }

@@ -1,15 +1,11 @@
 -- The depth of a loop is one more than its parent's (`depth_parent`), and an enclosing loop is less deep (`depth_inner`). The loops around a
 -- loop are a chain (`around_both`), so among them the deeper is the greater; there are as many as its depth (`depth_count`), one of each
 -- depth up to its own (`at_depth`), and by 205 at most 16 (`depth_most16`). Assumes nothing.
-use mathlib.Core.Path.{◌≡◌, refl, sym, ◌∙◌, ap}
-use mathlib.Core.Bool.{Bool, true, false, not, ◌&&◌, ◌||◌, and-true, or-true, true≢false}
-use mathlib.Core.List.{List}
-use Prim.Native.Nat.{ℕ, zero, suc, ◌≤◌, ◌<◌}
+use Rattle.std.proofs.Common.{◌≡◌, refl, sym, ◌∙◌, ap, Bool, true, false, not, ◌&&◌, ◌||◌, true≢false, List, ℕ, zero, suc, ◌≤◌, ◌<◌, arith, eqb, ltb, length, get_or}
+use mathlib.Core.Bool.{and-true, or-true}
 use native.Mathlib.Decide.{ℕ_discrete, dec_le}
-use native.Mathlib.Omega.{arith}
-use lib.Dec.{eqb, ltb}
 use borrow.Author.Tests.{ltb-true, ltb-false, eqb-true, eq-eqb, ne_eqb}
-use lib.ListN.{length, get_or, get_or-eq_default}
+use lib.ListN.{get_or-eq_default}
 use Rattle.limits.specs.Limits.{most_loops, most_depth}
 use Rattle.lists.specs.Search.{when◌then◌else◌, count_below}
 use Rattle.lists.proofs.Search.{count_ext, count_none, count_remove}

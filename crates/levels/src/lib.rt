@@ -9,6 +9,9 @@ ghost use Rattle.levels.specs.Levels.{depth, DepthsOf, Level};
 
 use limits::MOST_LOOPS;
 
+// There is no such loop. (An Option for each loop would double the column, which the turns of the figures read.)
+pub const NO_LOOP: u16 = 65535;
+
 // The depth of each loop, and the greatest of them.
 #[derive(Drop)]
 pub struct Depths {
@@ -21,37 +24,29 @@ pub fn depths_of(parent: &[u16]) -> Depths
     ensures { DepthsOf parent.now result }
 {
     let mut each = [1u16; MOST_LOOPS];
-    let mut most = 1;
-    let mut l = 1;
-    while l < parent.len() {
+    let mut most = 1u16;
+    for l in 1..parent.len() {
         let p = parent[l] as usize;
         let depth = each[p] + 1;
         each[l] = depth;
-        if most < depth {
-            most = depth;
-        }
-        l += 1;
+        most = most.max(depth);
     }
     Depths { each, most }
 }
 
-// For each loop the loop of depth d around it; 65535 where the loop itself is less deep.
-pub fn level_of(parent: &[u16], depths: &[u16; MOST_LOOPS], d: u16) -> [u16; MOST_LOOPS]
-    requires { (length parent.now ≤ most_loops) × Parents parent.now × ((l : ℕ) → l < length parent.now → get_or depths.now l 0 ≡ depth parent.now l) }
+// For each loop the loop of depth d around it; `NO_LOOP` where the loop itself is less deep.
+pub fn level_of(parent: &[u16], depths: &Depths, d: u16) -> [u16; MOST_LOOPS]
+    requires { (length parent.now ≤ most_loops) × Parents parent.now × ((l : ℕ) → l < length parent.now → get_or depths.now.each l 0 ≡ depth parent.now l) }
     ensures { Level parent.now d result }
 {
-    let mut level = [65535u16; MOST_LOOPS];
-    let mut l = 0;
-    while l < parent.len() {
-        let depth = depths[l];
-        if depth == d {
+    let mut level = [NO_LOOP; MOST_LOOPS];
+    for l in 0..parent.len() {
+        let depth = depths.each[l];
+        if d < depth {
+            level[l] = level[parent[l] as usize];
+        } else if depth == d {
             level[l] = l as u16;
         }
-        if d < depth {
-            let p = parent[l] as usize;
-            level[l] = level[p];
-        }
-        l += 1;
     }
     level
 }

@@ -1,16 +1,9 @@
 -- The multipliers and the tails at the headers, depth by depth from the deepest loops out: below the cap the words are exact, and at the cap
 -- they are over the limit, as the tails are. Assumes nothing.
-use mathlib.Core.Path.{◌≡◌, refl, sym, ◌∙◌, ap}
-use mathlib.Core.Bool.{Bool, true, false, true≢false}
-use mathlib.Core.List.{List, []}
+use Rattle.std.proofs.Common.{◌≡◌, refl, sym, ◌∙◌, ap, Bool, true, false, true≢false, List, [], ℕ, ◌+◌, ◌-◌, ◌^◌, ◌≤◌, ◌<◌, arith, eqb, ltb, ℤ, pos, length, get_or}
 use mathlib.Core.Option.{Option, none, some}
-use Prim.Native.Nat.{ℕ, ◌+◌, ◌-◌, ◌^◌, ◌≤◌, ◌<◌}
 use native.Mathlib.Decide.{ℕ_discrete}
-use native.Mathlib.Omega.{arith}
-use lib.Dec.{eqb, ltb}
 use borrow.Author.Tests.{lt-ltb, le-ltb}
-use lib.IntN.{ℤ, pos}
-use lib.ListN.{length, get_or}
 use Rattle.limits.specs.Limits.{most_blocks, most_depth}
 use Rattle.lists.specs.Search.{when◌then◌else◌}
 use Rattle.lists.proofs.Search.{any_none, any_at}

@@ -1,18 +1,12 @@
 -- The tails at the headers of the loops, and the multipliers and weights of the loops of one depth, taken loop by loop. Assumes nothing.
-use mathlib.Core.Path.{◌≡◌, refl, sym, ◌∙◌}
-use mathlib.Core.Bool.{true, false, true≢false}
-use mathlib.Core.List.{List}
-use Prim.Native.Nat.{ℕ, ◌+◌, ◌*◌, ◌-◌, ◌^◌, ◌≤◌, ◌<◌}
+use Rattle.std.proofs.Common.{◌≡◌, sym, ◌∙◌, List, ℕ, ◌+◌, ◌*◌, ◌-◌, ◌^◌, ◌≤◌, ◌<◌, arith, ℤ, pos, length, get_or, set, length-set}
 use native.Mathlib.Decide.{ℕ_discrete}
-use native.Mathlib.Omega.{arith}
-use lib.IntN.{ℤ, pos}
-use lib.ListN.{length, get_or, set, length-set}
 use lib.Seq.{get_or-set_same, get_or-set_other}
 use Rattle.limits.specs.Limits.{most_blocks, most_loops, most_depth}
 use Rattle.tails.specs.Words.{Word, Low}
 use Rattle.tails.specs.Passes.{tail_in}
 use Rattle.tails.proofs.Words.{greater_word, low_set}
-use Rattle.multipliers.specs.Columns.{kept_at, TailsKept, round_by, RoundsTaken}
+use Rattle.multipliers.specs.Columns.{kept_at, round_by}
 
 -- ---- tails
 
@@ -24,9 +18,6 @@ pub record Keeping (values : List ℤ) (firstSlots secondSlots headers depths : 
   pub rest : (k : ℕ) → ((l : ℕ) → l < i → k ≡ kept_at l d → ⊥) → get_or new k (pos 0) ≡ get_or old k (pos 0)
 
 module _ (values : List ℤ) (firstSlots secondSlots headers depths : List ℕ) (d : ℕ) (old : List ℤ) where
-  pub keeping_first : length old ≡ most_blocks → Keeping values firstSlots secondSlots headers depths d old old 0
-  keeping_first s = record { size = s; low = λ a b. a; kept = λ l b. absurd (omega arith); rest = λ k no. refl }
-
   module _ (new : List ℤ) (i : ℕ) (K : Keeping values firstSlots secondSlots headers depths d old new i) where
     pub keeping_set : i < most_loops → 1 ≤ d → d ≤ most_depth → (w : ℤ) → w ≡ tail_in firstSlots secondSlots values (get_or headers i 0)
         → Keeping values firstSlots secondSlots headers depths d old (set new (kept_at i d) w) (i + 1)
@@ -53,9 +44,6 @@ module _ (values : List ℤ) (firstSlots secondSlots headers depths : List ℕ) 
         kept l a c (yes q) = absurd (let c' : d ≤ get_or depths i 0 = rw q at c in omega arith)
         kept l a c (no ne) = K.kept l (omega arith) c
 
-  pub keeping_all : (new : List ℤ) → Keeping values firstSlots secondSlots headers depths d old new (length headers) → TailsKept values firstSlots secondSlots headers depths d old new
-  keeping_all new K = record { size = K.size; low = K.low; kept = K.kept; rest = K.rest }
-
 -- ---- rounds
 
 -- no two of these loops have one header
@@ -74,17 +62,6 @@ pub record Taking (kept : List ℤ) (costs headers limits depths : List ℕ) (d 
   pub other_weights : (x : ℕ) → ((l : ℕ) → l < i → get_or depths l 0 ≡ d → get_or headers l 0 ≡ x → ⊥) → get_or weights' x (pos 0) ≡ get_or weights x (pos 0)
 
 module _ (kept : List ℤ) (costs headers limits depths : List ℕ) (d : ℕ) (made : List ℕ) (weights : List ℤ) where
-  pub taking_first : length made ≡ most_loops → length weights ≡ most_blocks → Taking kept costs headers limits depths d made weights made weights 0
-  taking_first s z = record {
-    made_size = s;
-    weights_size = z;
-    low = λ a. a;
-    taken = λ l b. absurd (omega arith);
-    others = λ l ne. refl;
-    weighed = λ a l b. absurd (omega arith);
-    other_weights = λ x no. refl;
-  }
-
   module _ (made' : List ℕ) (weights' : List ℤ) (i : ℕ) (T : Taking kept costs headers limits depths d made weights made' weights' i) (b : i < length headers) where
     abbrev h : ℕ
     h = get_or headers i 0
@@ -132,27 +109,3 @@ module _ (kept : List ℤ) (costs headers limits depths : List ℕ) (d : ℕ) (m
         below : (l : ℕ) → l < i + 1 → get_or depths l 0 ≡ d → Dec (l ≡ i) → l < i
         below l a o (yes q) = absurd (other (rw q at o))
         below l a o (no ne) = omega arith
-
-    pub taking_over : get_or depths i 0 ≡ d → (k : ℕ) → k ≡ round_by kept d i → 2 ^ 40 < k → RoundsTaken kept costs headers limits depths d made weights true made' weights'
-    taking_over own k e high = record {
-      made_size = T.made_size;
-      weights_size = T.weights_size;
-      low = T.low;
-      taken = λ q. absurd (true≢false q);
-      others = λ q. absurd (true≢false q);
-      weighed = λ q. absurd (true≢false q);
-      other_weights = λ q. absurd (true≢false q);
-      high = λ q. (i, b, own, rw e at high);
-    }
-
-  pub taking_all : (made' : List ℕ) (weights' : List ℤ) → Taking kept costs headers limits depths d made weights made' weights' (length headers) → RoundsTaken kept costs headers limits depths d made weights false made' weights'
-  taking_all made' weights' T = record {
-    made_size = T.made_size;
-    weights_size = T.weights_size;
-    low = T.low;
-    taken = λ q. T.taken;
-    others = λ q. T.others;
-    weighed = λ q. T.weighed;
-    other_weights = λ q. T.other_weights;
-    high = λ q. absurd (true≢false (sym q));
-  }

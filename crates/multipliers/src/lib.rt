@@ -2,30 +2,27 @@
 // them the weights of the blocks, and for each loop the tails at its header, which the figures are made from.
 #![tactic(auto)]
 
-ghost use Rattle.std.specs.Prelude.{◌≡◌, ℕ, ◌+◌, ◌*◌, ◌-◌, ◌^◌, ◌≤◌, ◌<◌, pos, length, get_or};
+ghost use Rattle.std.specs.Prelude.{◌≡◌, ℕ, ◌+◌, ◌*◌, ◌-◌, ◌^◌, ◌≤◌, ◌<◌, pos, length, get_or, is_err};
 ghost use Rattle.limits.specs.Limits.{most_blocks, most_loops, most_depth};
 ghost use Rattle.optimum.specs.Columns.{or_default};
 ghost use Rattle.tails.specs.Words.{word_of, Word, Low};
 ghost use Rattle.tails.specs.Slots.{places};
-ghost use Rattle.multipliers.specs.Columns.{CostWeights, HeadersClosed, TailsKept, RoundsTaken, Readied, Multiplied};
+ghost use Rattle.multipliers.specs.Columns.{kept_at, CostWeights, HeadersClosed, TailsKept, RoundsTaken, Readied, Multiplied};
 
+use levels::Depths;
 use limits::{MOST_BLOCKS, MOST_LOOPS};
-use tails::{NO_TAIL, PLACES};
-
-// For each block a weight or a tail, or none.
-type Words = [i64; MOST_BLOCKS];
-
-type Slots = [u16; MOST_BLOCKS];
-
-type Values = [i64; PLACES];
+use nesting::Tables;
+use tails::{Edges, NO_TAIL, PLACES, Values, Words};
 
 // For each loop its multiplier.
-type Multipliers = [u64; MOST_LOOPS];
-
-type Depths = [u16; MOST_LOOPS];
+pub type Multipliers = [u64; MOST_LOOPS];
 
 // The greatest multiplier, 2^40.
 const MOST_MULTIPLIER: u64 = 1099511627776;
+
+// A multiplier is over 2^40.
+#[derive(Clone, Copy, PartialEq, Eq)]
+pub struct MultiplierOver;
 
 // ---- weights
 
@@ -35,10 +32,8 @@ fn cost_weights(cost: &[u32]) -> Words
     ensures { CostWeights cost.now result }
 {
     let mut weights = [NO_TAIL; MOST_BLOCKS];
-    let mut x = 0;
-    while x < cost.len() {
-        weights[x] = cost[x] as i64;
-        x += 1;
+    for x in 0..cost.len() {
+        weights[x] = i64::from(cost[x]);
     }
     weights
 }
@@ -49,11 +44,9 @@ pub fn first_weights(cost: &[u32], header: &[u16]) -> Words
     ensures { HeadersClosed cost.now header.now result }
 {
     let mut weights = cost_weights(cost);
-    let mut l = 1;
-    while l < header.len() {
+    for l in 1..header.len() {
         let h = header[l] as usize;
         weights[h] = NO_TAIL;
-        l += 1;
     }
     weights
 }
@@ -63,7 +56,7 @@ fn entry_weight(cost: u32, multiplier: u64, limit: u32) -> i64
     requires { (cost ≤ 1000000) × (multiplier ≤ 2 ^ 40) × (1 ≤ limit) × (limit ≤ 65535) }
     ensures { (result ≡ pos (cost + multiplier * (limit - 1))) × Word result }
 {
-    (cost as u64 + multiplier * (limit as u64 - 1)) as i64
+    (u64::from(cost) + multiplier * (u64::from(limit) - 1)) as i64
 }
 
 // ---- rounds
@@ -72,97 +65,84 @@ fn entry_weight(cost: u32, multiplier: u64, limit: u32) -> i64
 fn round_of(w: i64) -> u64
     ensures { result ≡ or_default 0 (word_of w) }
 {
-    if w < 0 {
-        return 0;
-    }
-    w as u64
+    u64::try_from(w).unwrap_or(0)
 }
 
-// Keeps the tails of the loops of depth d at the headers of the loops inside them, and of their own: 16 places for each loop, one for each depth.
+// Where the tail of a loop of depth d at the header of loop l is kept: 16 places for each loop, one for each depth.
+pub fn kept_at(l: usize, d: u16) -> usize
+    requires { (l < most_loops) × (1 ≤ d) × (d ≤ most_depth) }
+    ensures { (result ≡ kept_at l d) × (result < most_blocks) }
+{
+    l * 16 + d as usize - 1
+}
+
+// Keeps the tails of the loops of depth d at the headers of the loops inside them, and of their own.
 fn keep_tails(
     kept: &mut Words,
     values: &Values,
-    firsts: &Slots,
-    seconds: &Slots,
+    edges: &Edges,
     header: &[u16],
     depths: &Depths,
     d: u16,
 )
-    requires { (length kept.old ≡ most_blocks) × (1 ≤ d) × (d ≤ most_depth) × (length header.now ≤ most_loops) × ((l : ℕ) → l < length header.now → (get_or header.now l 0 < most_blocks) × (get_or firsts.now (get_or header.now l 0) 0 < places) × (get_or seconds.now (get_or header.now l 0) 0 < places)) }
-    ensures { TailsKept values.now firsts.now seconds.now header.now depths.now d kept.old kept.new }
+    requires { (length kept.old ≡ most_blocks) × (1 ≤ d) × (d ≤ most_depth) × (length header.now ≤ most_loops) × ((l : ℕ) → l < length header.now → (get_or header.now l 0 < most_blocks) × (get_or edges.now.firsts (get_or header.now l 0) 0 < places) × (get_or edges.now.seconds (get_or header.now l 0) 0 < places)) }
+    ensures { TailsKept values.now edges.now.firsts edges.now.seconds header.now depths.now.each d kept.old kept.new }
 {
-    let mut l = 0;
-    while l < header.len() {
-        if d <= depths[l] {
-            let h = header[l] as usize;
-            let at = l * 16 + d as usize - 1;
-            kept[at] = tails::tail_of(values, firsts, seconds, h);
+    for l in 0..header.len() {
+        if d <= depths.each[l] {
+            kept[kept_at(l, d)] = edges.tail_of(values, header[l] as usize);
         }
-        l += 1;
     }
 }
 
-// The multipliers of the loops of depth d, from the tails at their headers, and the weights of these headers. Returns whether a multiplier is over
-// 2^40.
+// The multipliers of the loops of depth d, from the tails at their headers, and the weights of these headers. `made`, `weights` and `kept` are no
+// struct: each function would have to promise that it leaves the other two as they were.
 fn take_rounds(
     made: &mut Multipliers,
     weights: &mut Words,
     kept: &Words,
-    cost: &[u32],
-    header: &[u16],
-    limit: &[u32],
+    tables: &Tables<'_>,
     depths: &Depths,
     d: u16,
-) -> bool
-    requires { (length made.old ≡ most_loops) × (length weights.old ≡ most_blocks) × (1 ≤ d) × (d ≤ most_depth) × (length header.now ≤ most_loops) × (length limit.now ≡ length header.now) × (length cost.now ≤ most_blocks) × ((l : ℕ) → l < length header.now → (get_or header.now l 0 < length cost.now) × (1 ≤ get_or limit.now l 0) × (get_or limit.now l 0 ≤ 65535)) × ((x : ℕ) → x < length cost.now → get_or cost.now x 0 ≤ 1000000) }
-    ensures { RoundsTaken kept.now cost.now header.now limit.now depths.now d made.old weights.old result made.new weights.new }
+) -> Result<(), MultiplierOver>
+    requires { (length made.old ≡ most_loops) × (length weights.old ≡ most_blocks) × (1 ≤ d) × (d ≤ most_depth) × (length tables.now.header.now ≤ most_loops) × (length tables.now.limit.now ≡ length tables.now.header.now) × (length tables.now.cost.now ≤ most_blocks) × ((l : ℕ) → l < length tables.now.header.now → (get_or tables.now.header.now l 0 < length tables.now.cost.now) × (1 ≤ get_or tables.now.limit.now l 0) × (get_or tables.now.limit.now l 0 ≤ 65535)) × ((x : ℕ) → x < length tables.now.cost.now → get_or tables.now.cost.now x 0 ≤ 1000000) }
+    ensures { RoundsTaken kept.now tables.now.cost.now tables.now.header.now tables.now.limit.now depths.now.each d made.old weights.old (is_err result) made.new weights.new }
 {
-    let mut l = 0;
-    while l < header.len() {
-        if depths[l] == d {
-            let k = round_of(kept[l * 16 + d as usize - 1]);
+    for l in 0..tables.header.len() {
+        if depths.each[l] == d {
+            let k = round_of(kept[kept_at(l, d)]);
             if MOST_MULTIPLIER < k {
-                return true;
+                return Err(MultiplierOver);
             }
             made[l] = k;
-            let h = header[l] as usize;
-            weights[h] = entry_weight(cost[h], k, limit[l]);
+            let h = tables.header[l] as usize;
+            weights[h] = entry_weight(tables.cost[h], k, tables.limit[l]);
         }
-        l += 1;
     }
-    false
+    Ok(())
 }
 
 // The multipliers of all loops but loop 0, which has none: depth by depth, the deepest first, since a round of a loop passes through the loops
-// inside it. Returns whether one is over 2^40; then the others are not made.
+// inside it. Where one is over 2^40, the others are not made.
 pub fn remake_multipliers(
     made: &mut Multipliers,
     weights: &mut Words,
     kept: &mut Words,
-    cost: &[u32],
-    header: &[u16],
-    limit: &[u32],
+    tables: &Tables<'_>,
     depths: &Depths,
-    deepest: u16,
-    firsts: &Slots,
-    seconds: &Slots,
-    order: &[u16; MOST_BLOCKS],
-) -> bool
-    requires { Readied cost.now header.now limit.now deepest firsts.now seconds.now order.now × (length made.old ≡ most_loops) × ((l : ℕ) → get_or made.old l 0 ≡ 0) × (length kept.old ≡ most_blocks) × Low kept.old × HeadersClosed cost.now header.now weights.old }
-    ensures { Multiplied cost.now header.now limit.now depths.now deepest firsts.now seconds.now order.now result made.new weights.new kept.new }
+    edges: &Edges,
+) -> Result<(), MultiplierOver>
+    requires { Readied tables.now.cost.now tables.now.header.now tables.now.limit.now depths.now.most edges.now.firsts edges.now.seconds edges.now.order × (length made.old ≡ most_loops) × ((l : ℕ) → get_or made.old l 0 ≡ 0) × (length kept.old ≡ most_blocks) × Low kept.old × HeadersClosed tables.now.cost.now tables.now.header.now weights.old }
+    ensures { Multiplied tables.now.cost.now tables.now.header.now tables.now.limit.now depths.now.each depths.now.most edges.now.firsts edges.now.seconds edges.now.order (is_err result) made.new weights.new kept.new }
 {
     let mut values = [NO_TAIL; PLACES];
-    let mut d = deepest;
-    while 0 < d {
-        tails::set_gates(&mut values, cost, header, depths, d);
-        tails::fill_values(&mut values, weights, firsts, seconds, order, cost.len());
-        keep_tails(kept, &values, firsts, seconds, header, depths, d);
+    for d in (1..=depths.most).rev() {
+        tails::set_gates(&mut values, tables.cost, tables.header, depths, d);
+        tails::fill_values(&mut values, weights, edges, tables.cost.len());
+        keep_tails(kept, &values, edges, tables.header, depths, d);
         if 1 < d {
-            if take_rounds(made, weights, kept, cost, header, limit, depths, d) {
-                return true;
-            }
+            take_rounds(made, weights, kept, tables, depths, d)?;
         }
-        d -= 1;
     }
-    false
+    Ok(())
 }

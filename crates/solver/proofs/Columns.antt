@@ -1,14 +1,7 @@
 -- The arrays that are made hold the remade columns: the two tests for a value over its limit are those of 402 and 403, and the columns that are
 -- written are the remade ones. Assumes nothing.
-use mathlib.Core.Path.{◌≡◌, refl, sym, ◌∙◌, ap}
-use mathlib.Core.Bool.{Bool, true, false}
-use mathlib.Core.List.{List}
-use Prim.Native.Nat.{ℕ, zero, suc, ◌-◌, ◌^◌, ◌≤◌, ◌<◌}
-use native.Mathlib.Omega.{arith}
-use lib.Dec.{ltb}
+use Rattle.std.proofs.Common.{◌≡◌, refl, sym, ◌∙◌, ap, Bool, true, false, List, ℕ, zero, suc, ◌-◌, ◌^◌, ◌≤◌, ◌<◌, arith, ltb, ℤ, pos, neg_ℤ, length, get_or, replicate}
 use borrow.Author.Tests.{ltb-false}
-use lib.IntN.{ℤ, pos, neg_ℤ}
-use lib.ListN.{length, get_or, replicate}
 use lib.Seq.{ext_get_or}
 use lib.Signed.{lt_z}
 use Rattle.integers.proofs.Laws.{ints}

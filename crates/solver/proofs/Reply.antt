@@ -1,11 +1,5 @@
 -- How the solver comes to its reply, rule by rule, and the columns beside it. Assumes nothing.
-use mathlib.Core.Path.{◌≡◌, refl, sym, ◌∙◌}
-use mathlib.Core.Bool.{true, false}
-use mathlib.Core.List.{[], ◌∷◌, append_assoc}
-use mathlib.Core.Logic.{◌⊎◌, inl, inr}
-use Prim.Native.Nat.{ℕ, ◌<◌}
-use native.Mathlib.Omega.{arith}
-use lib.IntN.{ℤ}
+use Rattle.std.proofs.Common.{◌≡◌, refl, sym, ◌∙◌, true, false, [], ◌∷◌, append_assoc, ◌⊎◌, inl, inr, ℕ, ◌<◌, arith, ℤ, Err}
 use Rattle.wcet.specs.Table.{Routine, block_count}
 use Rattle.wcet.specs.Cycles.{undeclared_loop}
 use Rattle.wcet.specs.Rules.{Reply, accepted, refused, Rule, check, structure_rules, undeclared_rule, bound}
@@ -14,9 +8,7 @@ use Rattle.wcet.proofs.Nesting.{Nested, nested}
 use Rattle.wcet.proofs.Replies.{decides, hands_on, append_all, past_all}
 use Rattle.nesting.specs.Answers.{refusal, StructureChecked}
 use Rattle.nesting.specs.declared.StructureFault.{StructureFault}
-use Rattle.nesting.specs.declared.Structure.TheVariants.{Broken}
-use Rattle.nesting.specs.declared.Structured.{Structured}
-use Rattle.nesting.proofs.Chain.{none_left, refused_by, refusal_stands}
+use Rattle.nesting.proofs.Chain.{none_left, refusal_stands}
 use Rattle.order.specs.Ordering.{Ordering}
 use Rattle.order.specs.declared.Order.{Order}
 use Rattle.order.proofs.Orders.{undeclared_decides}
@@ -27,9 +19,10 @@ use Rattle.optimum.specs.Columns.{remade}
 use Rattle.optimum.specs.Replies.{no_path, multiplier_over, figure_over, given_rules, solve_rules, solve_reply, Solved}
 use Rattle.optimum.proofs.Paths.{path_exactly}
 use Rattle.optimum.proofs.Replies.{solved}
-use Rattle.solver.specs.declared.SolveReply.{SolveReply}
-use Rattle.solver.specs.declared.SolveReply.TheVariants.{NoPath}
+use Rattle.solver.specs.declared.SolveFault.{SolveFault}
+use Rattle.solver.specs.declared.SolveFault.TheVariants.{Structure, UndeclaredLoop, NoPath, Multiplier, Figure}
 use Rattle.solver.specs.Answers.{solve_meaning}
+use Rattle.solver.specs.Columns.{OverAs}
 
 module _ (t : Routine) where
   -- the rules after 201 to 207
@@ -46,17 +39,21 @@ module _ (t : Routine) where
   result = accepted (bound (remade t))
 
   -- a refusal leaves both columns untouched
-  pub refused_solved : (n p : ℕ) → refused n p ≡ solve_reply t → Solved t (refused n p) t.figures t.multipliers
+  refused_solved : (n p : ℕ) → refused n p ≡ solve_reply t → Solved t (refused n p) t.figures t.multipliers
   refused_solved n p e = solved t (refused n p) t.figures t.multipliers e refl refl
+
+  pub fault_solved : (f : SolveFault) → solve_meaning (Err f) ≡ solve_reply t → Solved t (solve_meaning (Err f)) t.figures t.multipliers
+  fault_solved (Structure f) e = refused_solved _ _ e
+  fault_solved UndeclaredLoop e = refused_solved 209 0 e
+  fault_solved (NoPath u) e = refused_solved 401 u e
+  fault_solved Multiplier e = refused_solved 402 0 e
+  fault_solved Figure e = refused_solved 403 0 e
 
   -- ---- after the structure check
 
-  structure_refused : (s : Structured) → StructureChecked t s → (f : StructureFault) → s.answer ≡ Broken f → refusal f ≡ solve_reply t
+  pub structure_refused : (f : StructureFault) → StructureChecked t (Err f) → refusal f ≡ solve_reply t
   unfolding solve_reply solve_rules
-  structure_refused s C f q = rw append_assoc (refusal_stands t s C f q (undeclared_rule t ∷ path_rule ∷ multiplier_rule ∷ figure_rule ∷ []) result)
-
-  pub structure_solved : (s : Structured) → StructureChecked t s → (f : StructureFault) → s.answer ≡ Broken f → Solved t (refusal f) t.figures t.multipliers
-  structure_solved s C f q = let k = refused_by f in rw (k.2 ℤ) (refused_solved k.0 k.1 (sym (k.2 ℤ) ∙ structure_refused s C f q))
+  structure_refused f C = rw append_assoc (refusal_stands t f C (undeclared_rule t ∷ path_rule ∷ multiplier_rule ∷ figure_rule ∷ []) result)
 
   -- ---- where 201 to 207 hold
 
@@ -95,7 +92,16 @@ module _ (t : Routine) where
           bound_accepted o = none_left result ∙ sym (hands_on figure_rule [] result (λ p z. o)) ∙ after_402
 
       -- where something is refused: 401 if a block has no path, or else the later rule
-      pub refused_later : (n : ℕ) (later : SolveReply) → solve_meaning later ≡ refused n 0 → (AllPaths t → refused n 0 ≡ solve_reply t) → (r : SolveReply)
-          → ((u : ℕ) × LowestLost t u × (r ≡ NoPath u)) ⊎ (AllPaths t × (r ≡ later)) → Solved t (solve_meaning r) t.figures t.multipliers
-      refused_later n later m own r (inl p) = rw p.2 (refused_solved 401 p.0 (path_refused p.0 p.1))
-      refused_later n later m own r (inr p) = rw (p.1, m) (refused_solved n 0 (own p.0))
+      pub refused_later : (later : SolveFault) → (AllPaths t → solve_meaning (Err later) ≡ solve_reply t) → (r : SolveFault)
+          → ((u : ℕ) × LowestLost t u × (r ≡ NoPath u)) ⊎ (AllPaths t × (r ≡ later)) → solve_meaning (Err r) ≡ solve_reply t
+      refused_later later own r (inl p) = rw p.2 (path_refused p.0 p.1)
+      refused_later later own r (inr p) = rw p.1 (own p.0)
+
+      -- where the making gives up
+      pub making_refused : (later : SolveFault) → OverAs later t → (r : SolveFault)
+          → ((u : ℕ) × LowestLost t u × (r ≡ NoPath u)) ⊎ (AllPaths t × (r ≡ later)) → solve_meaning (Err r) ≡ solve_reply t
+      making_refused (Structure f) o r w = absurd o
+      making_refused UndeclaredLoop o r w = absurd o
+      making_refused (NoPath u) o r w = absurd o
+      making_refused Multiplier o r w = refused_later Multiplier (λ paths. multiplier_refused paths o) r w
+      making_refused Figure o r w = refused_later Figure (λ paths. figure_refused paths o.0 (o.1 paths)) r w

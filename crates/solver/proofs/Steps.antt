@@ -1,15 +1,8 @@
 -- What the steps of the solver require holds of tables that pass 201 to 207 and 209. Assumes nothing.
-use mathlib.Core.Path.{◌≡◌, refl, sym, ◌∙◌}
-use mathlib.Core.Bool.{Bool, true, false}
-use mathlib.Core.List.{List}
-use Prim.Native.Nat.{ℕ, ◌+◌, ◌*◌, ◌-◌, ◌^◌, ◌≤◌, ◌<◌}
+use Rattle.std.proofs.Common.{◌≡◌, refl, sym, ◌∙◌, Bool, true, false, List, ℕ, ◌+◌, ◌*◌, ◌-◌, ◌^◌, ◌≤◌, ◌<◌, arith, eqb, ℤ, pos, length, get_or}
 use native.Mathlib.Decide.{ℕ_discrete}
 use native.Mathlib.Nat.{mul-le-mul}
-use native.Mathlib.Omega.{arith}
-use lib.Dec.{eqb}
 use borrow.Author.Tests.{eqb-false}
-use lib.IntN.{ℤ, pos}
-use lib.ListN.{length, get_or}
 use Rattle.integers.proofs.Laws.{ints}
 use Rattle.limits.specs.Limits.{most_blocks, most_depth}
 use Rattle.lists.specs.Search.{when◌then◌else◌}

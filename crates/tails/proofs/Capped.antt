@@ -1,10 +1,6 @@
 -- A cap on each number keeps the sums and the greater of two (`more_capped_lem`, `best_capped`). Assumes nothing.
-use mathlib.Core.Path.{◌≡◌, refl, ap}
-use mathlib.Core.Bool.{Bool, true, false}
+use Rattle.std.proofs.Common.{◌≡◌, refl, ap, Bool, true, false, ℕ, min, arith, ltb}
 use mathlib.Core.Option.{Option, none, some}
-use Prim.Native.Nat.{ℕ, min}
-use native.Mathlib.Omega.{arith}
-use lib.Dec.{ltb}
 use borrow.Author.Tests.{ltb-true, ltb-false}
 use Rattle.lists.specs.Search.{when◌then◌else◌}
 use Rattle.optimum.specs.Tails.{best, more}

@@ -1,10 +1,5 @@
 -- What 201 to 207 ensure of a routine that passes them with some figures and multipliers. Assumes nothing.
-use mathlib.Core.Path.{◌≡◌, ap}
-use mathlib.Core.Bool.{Bool, ◌&&◌}
-use mathlib.Core.List.{List}
-use Prim.Native.Nat.{ℕ, ◌≤◌, ◌<◌}
-use native.Mathlib.Omega.{arith}
-use lib.ListN.{length}
+use Rattle.std.proofs.Common.{◌≡◌, ap, Bool, ◌&&◌, List, ℕ, ◌≤◌, ◌<◌, arith, length}
 use Rattle.limits.specs.Limits.{most_blocks, most_loops}
 use Rattle.wcet.specs.Table.{Routine, block_count, loop_count, cost, loop_of, inside, is_header}
 use Rattle.wcet.specs.Cycles.{back_edge}

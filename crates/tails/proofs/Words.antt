@@ -1,24 +1,31 @@
 -- Words that are tails, and words that are none; the greater of two words is the better tail (`word_greater`). Assumes nothing.
-use mathlib.Core.Path.{◌≡◌, refl, ap}
-use mathlib.Core.Bool.{Bool, true, false}
-use mathlib.Core.List.{List}
+use Rattle.std.proofs.Common.{◌≡◌, refl, sym, ◌∙◌, Bool, true, false, cond, List, ℕ, ◌+◌, ◌<◌, min, ltb, ℤ, pos, negsuc, ◌+ℤ◌, length, get_or, set, ◌≤ℤ◌, ◌<ℤ◌}
 use mathlib.Core.Option.{none, some}
-use Prim.Native.Nat.{ℕ, ◌+◌, ◌≤◌, ◌<◌}
 use native.Mathlib.Decide.{ℕ_discrete}
-use native.Mathlib.Omega.{arith}
-use lib.Dec.{ltb}
-use lib.IntN.{ℤ, pos, negsuc, ◌+ℤ◌}
-use lib.ListN.{length, get_or, set}
 use lib.Seq.{get_or-set_same, get_or-set_other}
-use lib.Signed.{lt_z, ◌≤ℤ◌, ◌<ℤ◌}
+use lib.Signed.{lt_z}
 use mir.Syntax.{w64}
 use mir.Val.{SFits}
 use Rattle.integers.proofs.Laws.{ints, sum, size}
 use Rattle.lists.specs.Search.{when◌then◌else◌}
 use Rattle.optimum.specs.Tails.{best}
+use Rattle.std.specs.Int.{int_max, int_min}
+use Rattle.std.proofs.lemmas.Int.{clamps}
+use Rattle.tails.proofs.Capped.{more_none}
 use Rattle.tails.specs.Words.{most_tail, no_tail, word_of, greater_of, more_capped, Word, Low}
 
 -- ---- the greater of two
+
+-- it is the maximum
+pub greater_max : (a b r : ℤ) → r ≡ int_max a b → r ≡ greater_of a b
+unfolding greater_of
+greater_max a b r e = go (lt_z b a) (lt_z a b) refl refl e
+  where
+    go : (p q : Bool) → lt_z b a ≡ p → lt_z a b ≡ q → r ≡ cond p a b → r ≡ cond q b a
+    go true true p q e = absurd (omega ints)
+    go true false p q e = e
+    go false true p q e = e
+    go false false p q e = e ∙ omega ints
 
 pub greater_second : (a b : ℤ) → a <ℤ b → b ≡ greater_of a b
 unfolding greater_of
@@ -76,23 +83,23 @@ module _ (c w : ℤ) (p : pos 0 ≤ℤ c) (q : pos 0 ≤ℤ w) (C : Word c) (W :
   pub word_fits : SFits w64 (c +ℤ w)
   word_fits = let h = C.most in let k = W.most in omega (ints, size (c +ℤ w), sum c w, size c, size w)
 
-  pub word_sum : (c +ℤ w) ≤ℤ pos most_tail → word_of (c +ℤ w) ≡ more_capped most_tail (word_of c) (word_of w)
+  -- up to the cap
+  pub word_sum : (r : ℤ) → r ≡ int_min (c +ℤ w) (pos most_tail) → (word_of r ≡ more_capped most_tail (word_of c) (word_of w)) × Word r
   unfolding more_capped word_of
-  word_sum h = go c w p q C.most h
+  word_sum r e = (go c w p q C.most e, record { least = omega (ints, clamps, sum c w, e); most = omega (ints, clamps, e) })
     where
-      go : (c w : ℤ) → pos 0 ≤ℤ c → pos 0 ≤ℤ w → c ≤ℤ pos most_tail → (c +ℤ w) ≤ℤ pos most_tail → word_of (c +ℤ w) ≡ more_capped most_tail (word_of c) (word_of w)
-      go (pos a) (pos b) p q m h = let k : a + b ≤ most_tail = omega ints in ap some (omega arith)
-      go (pos a) (negsuc b) p q m h = absurd (omega ints)
-      go (negsuc a) w p q m h = absurd (omega ints)
+      go : (c w : ℤ) → pos 0 ≤ℤ c → pos 0 ≤ℤ w → c ≤ℤ pos most_tail → r ≡ int_min (c +ℤ w) (pos most_tail) → word_of r ≡ more_capped most_tail (word_of c) (word_of w)
+      go (pos a) (pos b) p q m e = let k : r ≡ pos (min most_tail (min most_tail a + b)) = omega (ints, clamps) in rw k
+      go (pos a) (negsuc b) p q m e = absurd (omega ints)
+      go (negsuc a) w p q m e = absurd (omega ints)
 
-  pub word_sum_over : pos most_tail <ℤ (c +ℤ w) → some most_tail ≡ more_capped most_tail (word_of c) (word_of w)
-  unfolding more_capped word_of
-  word_sum_over h = go c w p q C.most h
-    where
-      go : (c w : ℤ) → pos 0 ≤ℤ c → pos 0 ≤ℤ w → c ≤ℤ pos most_tail → pos most_tail <ℤ (c +ℤ w) → some most_tail ≡ more_capped most_tail (word_of c) (word_of w)
-      go (pos a) (pos b) p q m h = let k : most_tail < a + b = omega ints in ap some (omega arith)
-      go (pos a) (negsuc b) p q m h = absurd (omega ints)
-      go (negsuc a) w p q m h = absurd (omega ints)
+-- none, where either is none
+pub no_first : (c w : ℤ) → c <ℤ pos 0 → (word_of no_tail ≡ more_capped most_tail (word_of c) (word_of w)) × Word no_tail
+unfolding more_capped
+no_first c w h = (no_word no_tail (omega ints) ∙ rw (no_word c h), record { least = omega ints; most = omega ints })
+
+pub no_second : (c w : ℤ) → w <ℤ pos 0 → (word_of no_tail ≡ more_capped most_tail (word_of c) (word_of w)) × Word no_tail
+no_second c w h = (no_word no_tail (omega ints) ∙ rw (no_word w h) (sym (more_none most_tail (word_of c))), record { least = omega ints; most = omega ints })
 
 -- a word in a list of words
 pub low_set : (words : List ℤ) (x : ℕ) (w : ℤ) → x < length words → Word w → Low words → Low (set words x w)

@@ -1,7 +1,4 @@
-use Prim.Native.Nat.{◌-◌}
-use mathlib.Core.Path.{◌≡◌}
-use mathlib.Core.Bool.{true}
-use lib.ListN.{length}
+use Rattle.std.proofs.Common.{◌≡◌, ◌-◌, true, length}
 use Rattle.limits.specs.Limits.{most_blocks}
 use Rattle.exits.specs.Marks.{link_columns, marked, unmarked, Sound}
 use Rattle.exits.proofs.mark_paths.Given as goal

@@ -1,48 +1,59 @@
-use native.Mathlib.Omega.{arith}
-use native.Mathlib.Numerals.{add-one}
-use mathlib.Core.Path.{◌≡◌}
+use Rattle.std.proofs.Common.{◌≡◌, ◌+◌, ◌-◌, true, arith, suc, is_err}
 use Rattle.figures.proofs.Heads.{filling_first, filling_turnable, filling_next, filling_over, filling_all}
 use Rattle.figures.proofs.head_figures.Goals as goal
 
 pub loop-d-init : goal.loop-d-init
-loop-d-init c = let s = c in
-    let a = s.args in
-    (omega arith, filling_first a.parent.now a.kept.now a.made.now a.depths.now a.deepest s.requires.0 a.heads.now s.requires.1 s.requires.2)
-
-pub level_of-level-requires : goal.level_of-level-requires
-level_of-level-requires c = let R = c.requires.0 in
-    (R.few_loops, R.parents_below, R.deep.same)
+loop-d-init c =
+    let a = c.args in
+    let D = a.depths.now in
+    (omega arith, filling_first a.parent.now a.kept.now a.made.now D.each D.most c.requires.0 a.heads.now c.requires.1 c.requires.2)
 
 pub take_turns-requires : goal.take_turns-requires
-take_turns-requires c = let s = c in
-    let a = s.args in
-    let loop = c.loop-d in
-    let level = c.level_of-level in
-    (rw add-one (filling_turnable a.parent.now a.kept.now a.made.now a.depths.now a.deepest s.requires.0 loop.heads loop.d loop.invariant.1 level.result (rw add-one at level.ensures) (omega arith)), s.requires.0.kept_low)
+take_turns-requires c =
+    let a = c.args in
+    let D = a.depths.now in
+    let o = c.loop-d in
+    let up : o.d ≡ suc (o.d - 1) = omega arith in (
+      rw (← up) at (filling_turnable a.parent.now a.kept.now a.made.now D.each D.most c.requires.0 o.heads (o.d - 1) o.invariant.1 c.level_of-level.result (rw up at c.level_of-level.ensures) (omega arith)),
+      c.requires.0.kept_low,
+    )
 
-pub returns-then-take_turns : goal.returns-then-take_turns
-returns-then-take_turns c = let s = c in
-    let a = s.args in
-    let loop = c.loop-d in
-    let level = c.level_of-level in
-    let turns = c.take_turns in
-    filling_over a.parent.now a.kept.now a.made.now a.depths.now a.deepest s.requires.0 loop.heads loop.d loop.invariant.1 level.result (rw add-one at level.ensures) turns.new.heads (rw (add-one, c.if-take_turns.true) at turns.ensures)
-
-pub loop-d-smaller : goal.loop-d-smaller
-loop-d-smaller c = omega arith
+pub returns-in_err-take_turns : goal.returns-in_err-take_turns
+returns-in_err-take_turns c =
+    let a = c.args in
+    let D = a.depths.now in
+    let o = c.loop-d in
+    let up : o.d ≡ suc (o.d - 1) = omega arith in
+    let over : is_err c.from_residual.result ≡ true = c.from_residual.ensures.0 in
+    rw over
+    (filling_over a.parent.now a.kept.now a.made.now D.each D.most c.requires.0 o.heads (o.d - 1) o.invariant.1 c.level_of-level.result (rw up at c.level_of-level.ensures) c.take_turns.new.heads (rw up at c.in_err-take_turns.ensures))
 
 pub loop-d-preserved : goal.loop-d-preserved
-loop-d-preserved c = let s = c in
-    let a = s.args in
-    let loop = c.loop-d in
-    let level = c.level_of-level in
-    let turns = c.take_turns in (
-      omega (arith, c.loop-d-test.true),
-      rw add-one (filling_next a.parent.now a.kept.now a.made.now a.depths.now a.deepest s.requires.0 loop.heads loop.d loop.invariant.1 level.result (rw add-one at level.ensures) turns.new.heads (rw (add-one, c.if-take_turns.false) at turns.ensures)),
+loop-d-preserved c =
+    let a = c.args in
+    let D = a.depths.now in
+    let o = c.loop-d in
+    let up : o.d ≡ suc (o.d - 1) = omega arith in
+    let next : o.d + 1 - 1 ≡ suc (o.d - 1) = omega arith in (
+      omega arith,
+      rw next
+          (filling_next a.parent.now a.kept.now a.made.now D.each D.most c.requires.0 o.heads (o.d - 1) o.invariant.1 c.level_of-level.result (rw up at c.level_of-level.ensures) c.take_turns.new.heads (rw up at c.in_ok-take_turns.ensures)),
     )
 
 pub returns : goal.returns
-returns c = let s = c in
-    let a = s.args in
-    let e : c.loop-d.d ≡ a.deepest = omega arith in
-    filling_all a.parent.now a.kept.now a.made.now a.depths.now a.deepest s.requires.0 c.loop-d.heads (rw e at c.loop-d.invariant.1)
+returns c =
+    let a = c.args in
+    let D = a.depths.now in
+    let o = c.loop-d in
+    let all : o.d - 1 ≡ D.most = omega arith in
+    filling_all a.parent.now a.kept.now a.made.now D.each D.most c.requires.0 o.heads (rw all at o.invariant.1)
+
+pub returns-in_ok-take_turns : goal.returns-in_ok-take_turns
+returns-in_ok-take_turns c =
+    let a = c.args in
+    let D = a.depths.now in
+    let o = c.loop-d in
+    let up : o.d ≡ suc (o.d - 1) = omega arith in
+    let all : suc (o.d - 1) ≡ D.most = omega arith in
+    filling_all a.parent.now a.kept.now a.made.now D.each D.most c.requires.0 c.take_turns.new.heads
+    (rw all at (filling_next a.parent.now a.kept.now a.made.now D.each D.most c.requires.0 o.heads (o.d - 1) o.invariant.1 c.level_of-level.result (rw up at c.level_of-level.ensures) c.take_turns.new.heads (rw up at c.in_ok-take_turns.ensures)))

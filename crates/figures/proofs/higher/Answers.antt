@@ -1,12 +1,10 @@
-use Rattle.figures.proofs.Signs.{higher_second, higher_first, higher_over, higher_same}
+use Rattle.std.proofs.Common.{rules, FitsSigned}
+use mir.Syntax.{w64}
 use mir.Facts.{to_z-of_z}
+use Rattle.figures.proofs.Signs.{higher_max}
 use Rattle.figures.proofs.higher.Goals as goal
 
-pub returns-then-a-b : goal.returns-then-a-b
-returns-then-a-b c = let s = c in
-    let e = rw (to_z-of_z s.ranges.a, to_z-of_z s.ranges.b) at c.if-a-b.true in
-    rw (to_z-of_z s.ranges.b) (higher_second _ _ e, higher_over _ _ e)
-
 pub returns : goal.returns
-returns c = let s = c in
-    rw (to_z-of_z s.ranges.a) (higher_first _ _ (rw (to_z-of_z s.ranges.a, to_z-of_z s.ranges.b) at c.if-a-b.false), higher_same _)
+returns c =
+    let f : FitsSigned w64 c.max.result = search rules in
+    rw (to_z-of_z f) (higher_max c.args.a c.args.b c.max.result (rw (to_z-of_z c.ranges.a, to_z-of_z c.ranges.b) at c.max.ensures.value))

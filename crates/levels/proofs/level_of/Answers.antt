@@ -1,37 +1,24 @@
-use mathlib.Core.Path.{◌≡◌}
-use native.Mathlib.Omega.{arith}
-use lib.ListN.{length, get_or}
-use Rattle.levels.proofs.Filled.{parent_low, levelled_first, levelled_next, levelled_all}
-use borrow.Author.Rules.{rules}
+use Rattle.std.proofs.Common.{◌≡◌, arith, length, get_or}
+use Rattle.levels.specs.Levels.{depth}
+use Rattle.levels.proofs.Filled.{levelled_first, levelled_own, levelled_up, levelled_keep, levelled_all}
 use Rattle.levels.proofs.level_of.Goals as goal
-use Rattle.levels.proofs.level_of.Goals.{then-depth-d, else-depth-d, then-d-depth, else-d-depth}
+use Rattle.levels.proofs.level_of.Goals.{then-d-depth, else-d-depth+then-depth-d, else-d-depth+else-depth-d}
 
 pub loop-l-init : goal.loop-l-init
-loop-l-init c = (search rules, levelled_first _ c.requires.1 _)
-
-pub overflow_cast-p : goal.overflow_cast-p
-overflow_cast-p c = omega (arith, c.type_inv.parent c.loop-l.l)
-
-pub offset_bounds-level-p : goal.offset_bounds-level-p
-offset_bounds-level-p c = omega (arith, parent_low _ c.requires.1 c.loop-l.l)
-
-pub bounds-level-p : goal.bounds-level-p
-bounds-level-p c = omega (arith, parent_low _ c.requires.1 c.loop-l.l)
+loop-l-init c = levelled_first _ c.requires.1 _
 
 pub loop-l-preserved : goal.loop-l-preserved
-loop-l-preserved c = let loop = c.loop-l in
-    let start = c in (
-      search rules,
-      levelled_next start.args.parent.now start.requires.1 start.args.d loop.level c.if-depth-d.level c.if-d-depth.level loop.l (get_or start.args.depths.now loop.l 0) (omega arith) (omega arith) loop.invariant.1
-          (start.requires.2 loop.l (omega arith))
-          (λ e. elim c.if-depth-d.branch [ then-depth-d w ↦ w.level-is | else-depth-d w ↦ absurd (w.if-depth-d.false e) ])
-          (λ ne. elim c.if-depth-d.branch [ then-depth-d w ↦ absurd (ne w.if-depth-d.true) | else-depth-d w ↦ w.level-is ])
-          (λ b. elim c.if-d-depth.branch [ then-d-depth w ↦ w.level-is | else-d-depth w ↦ absurd (omega arith) ])
-          (λ b. elim c.if-d-depth.branch [ then-d-depth w ↦ absurd (omega arith) | else-d-depth w ↦ w.level-is ]),
-    )
+loop-l-preserved c =
+    let p = c.args.parent.now in
+    let loop = c.loop-l in
+    let same : get_or c.args.depths.now.each loop.l 0 ≡ depth p loop.l = c.requires.2 loop.l (omega arith) in
+    elim c.if-d-depth.branch [
+      | else-d-depth+then-depth-d w ↦ rw w.level-is (levelled_own p c.requires.1 c.args.d loop.level loop.l (omega arith) (omega arith) loop.invariant (omega (arith, same)))
+      | then-d-depth w ↦ rw w.level-is (levelled_up p c.requires.1 c.args.d loop.level loop.l (omega arith) (omega arith) loop.invariant (omega (arith, same)))
+      | else-d-depth+else-depth-d w ↦ rw w.level-is (levelled_keep p c.requires.1 c.args.d loop.level loop.l (omega arith) (omega arith) loop.invariant (omega (arith, same)))
+    ]
 
 pub returns : goal.returns
-returns c = let loop = c.loop-l in
-    let start = c in
-    let all : loop.l ≡ length start.args.parent.now = omega arith in
-    levelled_all _ start.requires.1 _ _ (rw all at loop.invariant.1)
+returns c =
+    let all : c.loop-l.l ≡ length c.args.parent.now = omega arith in
+    levelled_all _ c.requires.1 _ _ (rw all at c.loop-l.invariant)

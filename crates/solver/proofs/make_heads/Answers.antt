@@ -1,34 +1,27 @@
-use mathlib.Core.Path.{refl}
+use Rattle.std.proofs.Common.{refl}
+use Rattle.std.proofs.lemmas.Result.{err_from_is_err_and}
 use Rattle.multipliers.proofs.Weights.{none_low}
 use Rattle.solver.proofs.Making.{depths_ready, rounds_ready, headed_multiplier, heads_ready, headed_figure, headed_made}
 use Rattle.solver.proofs.make_heads.Goals as goal
 
 pub depths_of-depths-requires : goal.depths_of-depths-requires
-depths_of-depths-requires c = let s = c in
-    let a = s.args in
-    depths_ready a.cost.now a.parent.now a.header.now a.limit.now a.firsts.now a.seconds.now a.order.now s.requires.0
+depths_of-depths-requires c = depths_ready c.requires.0
 
 pub remake_multipliers-requires : goal.remake_multipliers-requires
-remake_multipliers-requires c = let s = c in
-    let a = s.args in
-    (rounds_ready a.cost.now a.parent.now a.header.now a.limit.now a.firsts.now a.seconds.now a.order.now s.requires.0 _ c.depths_of-depths.ensures, s.requires.3, s.requires.4, refl, none_low 1024, s.requires.5)
+remake_multipliers-requires c = (rounds_ready c.requires.0 _ c.depths_of-depths.ensures, c.requires.3, c.requires.4, refl, none_low 1024, c.requires.5)
 
-pub returns-then-remake_multipliers : goal.returns-then-remake_multipliers
-returns-then-remake_multipliers c = let s = c in
-    let a = s.args in
-    headed_multiplier a.cost.now a.parent.now a.header.now a.limit.now a.firsts.now a.seconds.now a.order.now _ c.depths_of-depths.ensures _ _ _ _ c.remake_multipliers.ensures c.if-remake_multipliers.true a.heads.now
+pub returns-in_err-remake_multipliers : goal.returns-in_err-remake_multipliers
+returns-in_err-remake_multipliers c =
+    let p = err_from_is_err_and c.from_residual.result c.from_residual.ensures.1 in
+    rw (p.1, p.2) (headed_multiplier c.requires.0 _ c.depths_of-depths.ensures _ _ _ _ c.in_err-remake_multipliers.ensures refl)
 
 pub head_figures-requires : goal.head_figures-requires
-head_figures-requires c = let s = c in
-    let a = s.args in
-    (heads_ready a.cost.now a.parent.now a.header.now a.limit.now a.firsts.now a.seconds.now a.order.now _ c.depths_of-depths.ensures _ _ _ _ c.remake_multipliers.ensures c.if-remake_multipliers.false s.requires.0, s.requires.1, s.requires.2)
+head_figures-requires c = (heads_ready c.requires.0 _ c.depths_of-depths.ensures _ _ _ _ c.in_ok-remake_multipliers.ensures refl, c.requires.1, c.requires.2)
 
-pub returns-then-head_figures : goal.returns-then-head_figures
-returns-then-head_figures c = let s = c in
-    let a = s.args in
-    headed_figure a.cost.now a.parent.now a.header.now a.limit.now a.firsts.now a.seconds.now a.order.now _ c.depths_of-depths.ensures _ _ _ _ c.remake_multipliers.ensures c.if-remake_multipliers.false _ _ c.head_figures.ensures c.if-head_figures.true
+pub returns-in_err-head_figures : goal.returns-in_err-head_figures
+returns-in_err-head_figures c =
+    let p = err_from_is_err_and c.from_residual-in_err-head_figures.result c.from_residual-in_err-head_figures.ensures.1 in
+    rw (p.1, p.2) (headed_figure c.requires.0 _ c.depths_of-depths.ensures _ _ _ _ c.in_ok-remake_multipliers.ensures refl _ _ c.in_err-head_figures.ensures refl)
 
 pub returns : goal.returns
-returns c = let s = c in
-    let a = s.args in
-    headed_made a.cost.now a.parent.now a.header.now a.limit.now a.firsts.now a.seconds.now a.order.now _ c.depths_of-depths.ensures _ _ _ _ c.remake_multipliers.ensures c.if-remake_multipliers.false _ _ c.head_figures.ensures c.if-head_figures.false
+returns c = headed_made c.requires.0 _ c.depths_of-depths.ensures _ _ _ _ c.in_ok-remake_multipliers.ensures refl _ _ c.in_ok-head_figures.ensures refl

@@ -1,12 +1,5 @@
-use mathlib.Core.Path.{refl}
-use mathlib.Core.Logic.{inl, inr}
+use Rattle.std.proofs.Common.{refl, inl}
 use Rattle.solver.proofs.refuse.Goals as goal
 
-pub first_lost-lost-requires : goal.first_lost-lost-requires
-first_lost-lost-requires c = c.requires
-
-pub returns-in-At : goal.returns-in-At
-returns-in-At c t f s n = inl (_, ((c.first_lost-lost.ensures t f s n).lowest _).0 c.in-At.is, refl)
-
-pub returns : goal.returns
-returns c t f s n = inr ((c.first_lost-lost.ensures t f s n).nowhere.0 c.in_default.is, refl)
+pub returns-in-Some : goal.returns-in-Some
+returns-in-Some c t f s n = inl (_, ((c.in-Some.ensures t f s n).lowest _).0 refl, refl)
