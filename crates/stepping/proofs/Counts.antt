@@ -1,14 +1,10 @@
 -- The counts: a step changes one of them at most, and they are then the counts of the definition for every loop. Assumes nothing.
-use mathlib.Core.Path.{◌≡◌, refl, sym, ◌∙◌, ap, fun_ext}
-use mathlib.Core.Bool.{Bool, true, false, not, ◌&&◌, true≢false}
-use mathlib.Core.List.{List}
-use Prim.Native.Nat.{ℕ, zero, suc, ◌+◌, ◌-◌, ◌≤◌, ◌<◌}
+use Rattle.std.proofs.Common.{◌≡◌, refl, sym, ◌∙◌, ap, Bool, true, false, not, ◌&&◌, true≢false, List, ℕ, zero, suc, ◌+◌, ◌-◌, ◌≤◌, ◌<◌, arith, eqb, ltb, ne_eqb, ltb-true, ltb-false, length, get_or, set, replicate, get_or-set_same, get_or-set_other}
+use mathlib.Core.Path.{fun_ext}
 use native.Mathlib.Decide.{ℕ_discrete}
-use native.Mathlib.Omega.{arith}
-use lib.Dec.{eqb, ltb, eqb-suc-zero}
-use borrow.Author.Tests.{eqb-false, ne_eqb, ltb-true, ltb-false}
-use lib.ListN.{length, get_or, set, replicate, get_or-eq_default}
-use lib.Seq.{get_or-set_same, get_or-set_other}
+use lib.Dec.{eqb-suc-zero}
+use borrow.Author.Tests.{eqb-false}
+use lib.ListN.{get_or-eq_default}
 use Rattle.limits.specs.Limits.{most_loops}
 use Rattle.lists.specs.Search.{when◌then◌else◌}
 use Rattle.wcet.specs.Table.{Routine, block_count, loop_count, loop_of, header, edge, inside, is_header}

@@ -1,19 +1,30 @@
 -- The state of a run as the code has it, and what one block more makes of it. No limit plays a part.
-use Rattle.std.specs.Prelude.{ℕ, ◌+◌, ◌-◌, ◌*◌, ◌≤◌, ◌<◌, ◌≡◌, Bool, not, ◌||◌, List, ◌∷◌, eqb, ltb, ℤ, length, get_or, set, replicate}
+use Rattle.std.specs.Prelude.{ℕ, ◌+◌, ◌-◌, ◌*◌, ◌≤◌, ◌<◌, ◌≡◌, Bool, not, ◌||◌, List, ◌∷◌, eqb, ltb, length, get_or, set, replicate, ℤ, Result, Ok, Err}
 use Rattle.limits.specs.Limits.{most_loops, longest_walk}
 use Rattle.lists.specs.Search.{when◌then◌else◌}
 use Rattle.wcet.specs.Table.{Routine, block_count, exit, cost, loop_of, edge, inside, is_header}
-use Rattle.wcet.specs.Rules.{out_of_range, structure_rules}
+use Rattle.wcet.specs.Rules.{Reply, refused, out_of_range, structure_rules}
 use Rattle.wcet.specs.Run.{State, next}
 use Rattle.wcet.specs.Claim.{AllHold}
 use Rattle.nesting.specs.Columns.{routine, Ranged}
+use Rattle.nesting.specs.declared.Tables.{Tables}
 use Rattle.loopsets.specs.Sets.{sets_around}
+use Rattle.nesting.specs.declared.Refusal.{Refusal}
 use Rattle.stepping.specs.declared.Run.{Run}
-use Rattle.stepping.specs.declared.Answer.{Answer}
-use Rattle.stepping.specs.declared.Answer.TheVariants.{Moved, NoBlock, AfterExit, NoEdge}
-use Rattle.stepping.specs.declared.Stepped.{Stepped}
-use Rattle.stepping.specs.declared.Entry.{Entry}
-use Rattle.stepping.specs.declared.Entry.TheVariants as entry
+use Rattle.stepping.specs.declared.RunFault.{RunFault}
+use Rattle.stepping.specs.declared.RunFault.TheVariants.{Length, NoBlock, NotEntry, AfterExit, NoEdge, Unfinished}
+
+-- the number and the place of each refusal
+abbrev pub run_refusal_of : RunFault → Refusal
+run_refusal_of Length = record { number = 301; place = 0 }
+run_refusal_of (NoBlock i) = record { number = 302; place = i }
+run_refusal_of NotEntry = record { number = 303; place = 0 }
+run_refusal_of (AfterExit i) = record { number = 311; place = i }
+run_refusal_of (NoEdge i) = record { number = 312; place = i }
+run_refusal_of (Unfinished n) = record { number = 314; place = n }
+
+abbrev pub run_refusal : {A : Type 0} → RunFault → Reply A
+run_refusal f = refused (run_refusal_of f).number (run_refusal_of f).place
 
 -- ---- the counts
 
@@ -47,52 +58,58 @@ state_of t counts r = record { block = r.at; count = count_in t counts r.at }
 abbrev pub visits_to : Routine → State → ℕ → ℕ
 visits_to t s v = header_visits (s.count (loop_of t v)) (is_header t v) (inside t s.block (loop_of t v))
 
--- a state, the cost of the run up to it, and of the step that led to it the visits and the answer
+-- a state, the cost of the run up to it, and the visits of the step that led to it
 pub record Outcome : Type 0 where
   pub state : State
   pub spent : ℕ
   pub visits : ℕ
-  pub answer : Answer
 
-abbrev pub outcome : Routine → List ℕ → Stepped → Outcome
-outcome t counts s = record { state = state_of t counts s.run; spent = s.run.cost; visits = s.visits; answer = s.answer }
+-- the run at the first block: its cost, and the first visit to the header of loop 0
+abbrev pub first_run : ℕ → Run
+first_run c = record { at = 0; cost = c; visits = 1 }
 
--- the first block: its cost, and the first visit to the header of loop 0
-abbrev pub first_step : ℕ → Stepped
-first_step c = record { run = record { at = 0; cost = c }; visits = 1; answer = Moved }
+-- what a step answers, in those terms
+abbrev pub outcome : Routine → List ℕ → Result Run RunFault → Result Outcome RunFault
+outcome t counts (Ok r) = Ok (record { state = state_of t counts r; spent = r.cost; visits = r.visits })
+outcome t counts (Err f) = Err f
 
--- a refused step leaves the state as it was
-abbrev pub unmoved : State → ℕ → Answer → Outcome
-unmoved s c a = record { state = s; spent = c; visits = 0; answer = a }
+-- the visits that a step ends with; a refused step visits nothing
+abbrev pub visits_of : Result Run RunFault → ℕ
+visits_of (Ok r) = r.visits
+visits_of (Err f) = 0
 
--- What block v makes of the state s, where the run's cost is c: "at one index 302, 303, 311, 312" (303 is about the first block, which is no
--- step).
-unfoldable pub stepped : Routine → State → ℕ → ℕ → Outcome
-stepped t s c v =
-    when not (ltb v (block_count t)) then unmoved s c NoBlock else
-    when eqb s.block (exit t) then unmoved s c AfterExit else
-    when not (edge t s.block v) then unmoved s c NoEdge else
-    record { state = next t s v; spent = c + cost t v; visits = visits_to t s v; answer = Moved }
+-- What block v, at index i, makes of the state s, where the run's cost is c: "at one index 302, 303, 311, 312" (303 is about the first block,
+-- which is no step).
+unfoldable pub stepped : Routine → State → ℕ → ℕ → ℕ → Result Outcome RunFault
+stepped t s c i v =
+    when not (ltb v (block_count t)) then Err (NoBlock i) else
+    when eqb s.block (exit t) then Err (AfterExit i) else
+    when not (edge t s.block v) then Err (NoEdge i) else
+    Ok (record { state = next t s v; spent = c + cost t v; visits = visits_to t s v })
 
--- ---- the first tests of a step, and of a walk
+-- ---- the tests of a step, of the first block and of the end
 
--- 302, 311 and 312 of a step from u, with these two successors, to v, in a routine of n blocks
-unfoldable pub edge_answer : ℕ → ℕ → ℕ → ℕ → ℕ → Answer
-edge_answer n first second u v =
-    when not (ltb v n) then NoBlock else
-    when eqb u (n - 1) then AfterExit else
-    when not (eqb first v || eqb second v) then NoEdge else
-    Moved
+-- 302, 311 and 312 of a step from u, with these two successors, to v at index i, in a routine of n blocks
+unfoldable pub edge_answer : ℕ → ℕ → ℕ → ℕ → ℕ → ℕ → Result Unit RunFault
+edge_answer n first second u i v =
+    when not (ltb v n) then Err (NoBlock i) else
+    when eqb u (n - 1) then Err (AfterExit i) else
+    when not (eqb first v || eqb second v) then Err (NoEdge i) else
+    Ok tt
 
--- 301, 302 and 303 of the walk w in a routine of n blocks
-unfoldable pub entry_answer : ℕ → List ℕ → Entry
+-- 301, 302 and 303 of the list w in a routine of n blocks
+unfoldable pub entry_answer : ℕ → List ℕ → Result Unit RunFault
 entry_answer n w =
-    when out_of_range 1 longest_walk (length w) then entry.Length else
-    when not (ltb (get_or w 0 0) n) then entry.NoBlock else
-    when not (eqb (get_or w 0 0) 0) then entry.NotEntry else
-    entry.Entered
+    when out_of_range 1 longest_walk (length w) then Err Length else
+    when not (ltb (get_or w 0 0) n) then Err (NoBlock 0) else
+    when not (eqb (get_or w 0 0) 0) then Err NotEntry else
+    Ok tt
 
--- ---- what a step may rely on
+-- 314 of a run over a list of this length, in a routine of n blocks
+unfoldable pub end_answer : Run → ℕ → ℕ → Result Unit RunFault
+end_answer r n length = when not (eqb r.at (n - 1)) then Err (Unfinished length) else Ok tt
+
+-- ---- what a step may rely on, and what it ensures
 
 -- the tables keep 201 to 207, with the lengths and ranges of 201 to 203 by name, and `sets` has the loops around each loop
 pub record Walkable (t : Routine) (sets : List ℕ) : Type 0 where
@@ -116,8 +133,8 @@ pub record Unread : Type 0 where
   pub multipliers : List ℕ
 
 -- the routine of the columns that a step reads, whatever the others are
-abbrev pub step_columns : (costs loops firsts seconds headers : List ℕ) → Unread → Routine
-step_columns costs loops firsts seconds headers x = routine costs loops firsts seconds x.figures x.parents headers x.limits x.multipliers
+abbrev pub step_columns : Tables → Unread → Routine
+step_columns c x = routine c.cost.now c.loops.now c.first.now c.second.now x.figures x.parents c.header.now x.limits x.multipliers
 
 -- what a step requires: there are such columns
 pub record Stands (t : Unread → Routine) (sets counts : List ℕ) (r : Run) : Type 0 where
@@ -125,22 +142,12 @@ pub record Stands (t : Unread → Routine) (sets counts : List ℕ) (r : Run) : 
   pub walkable : Walkable (t unread) sets
   pub standing : Standing (t unread) counts r
 
--- what a step ensures of its answer s and of the counts after it: the count of the loop that it ends in is the visits, if there are any, and with any
--- such columns it is the step of the definition
-pub record Steps (t : Unread → Routine) (sets counts : List ℕ) (r : Run) (v : ℕ) (s : Stepped) (counts' : List ℕ) : Type 0 where
-  pub counts_are : (x : Unread) → counts' ≡ counts_after counts (loop_of (t x) v) s.visits
-  pub is_step : (x : Unread) → Walkable (t x) sets → Standing (t x) counts r → outcome (t x) counts' s ≡ stepped (t x) (state_of (t x) counts r) r.cost v
+-- the answer s to block v at index i is the step of the definition, and the count of the loop that the step ends in is the visits, if there are any
+pub record Stepped (t : Routine) (counts : List ℕ) (r : Run) (i v : ℕ) (s : Result Run RunFault) (counts' : List ℕ) : Type 0 where
+  pub counts_are : counts' ≡ counts_after counts (loop_of t v) (visits_of s)
+  pub is_step : outcome t counts' s ≡ stepped t (state_of t counts r) r.cost i v
 
--- ---- the blocks of a walk, for a function that reads some of the columns
-
--- what a function that follows a walk requires: with some choice of the columns that it does not take, the tables keep 201 to 207
-pub record Ready {Others : Type 0} (t : Others → Routine) (sets : List ℕ) : Type 0 where
-  pub others : Others
-  pub walkable : Walkable (t others) sets
-
--- what its loop over the blocks after the first requires as well: the walk w is no longer than a walk may be and starts at block 0
-pub record Enters {Others : Type 0} (t : Others → Routine) (sets w : List ℕ) : Type 0 where
-  pub ready : Ready t sets
-  pub some : 0 < length w
-  pub short : length w ≤ longest_walk
-  pub entry : get_or w 0 0 ≡ 0
+-- what a step ensures: that, with any such columns
+pub record Steps (t : Unread → Routine) (sets counts : List ℕ) (r : Run) (i v : ℕ) (s : Result Run RunFault) (counts' : List ℕ) : Type 0 where
+  pub counts_are : (x : Unread) → counts' ≡ counts_after counts (loop_of (t x) v) (visits_of s)
+  pub is_step : (x : Unread) → Walkable (t x) sets → Standing (t x) counts r → Stepped (t x) counts r i v s counts'

@@ -4,47 +4,52 @@
 
 ghost use Rattle.std.specs.Prelude.{◌≡◌, true, ◌||◌, ◌≤◌, ◌<◌, eqb, length, get_or};
 ghost use Rattle.limits.specs.Limits.{most_loops, longest_walk};
-ghost use Rattle.stepping.specs.Step.{first_numbers, visits_after, header_visits, counts_after, first_step, edge_answer, entry_answer, step_columns, Stands, Steps};
+ghost use Rattle.stepping.specs.Step.{run_refusal_of, first_numbers, visits_after, header_visits, counts_after, first_run, edge_answer, entry_answer, end_answer, step_columns, Stands, Steps};
 
 use limits::{LONGEST_WALK, MOST_LOOPS};
 use loopsets::Sets;
+use nesting::{Refusal, Tables};
 
 // A number for each loop.
 pub type Numbers = [u32; MOST_LOOPS];
 
-// Where a run stands: its block, and the cost of its blocks. The visits to each loop's header in the present stay are lent beside it, a number
-// for each loop. A loop that is not around the block stands at 0, whatever its number is: nothing is cleared when a loop is left, and the number
-// is not read until the header is visited from outside, which sets it to 1.
+// Where a run stands: its block, the cost of its blocks, and the visits to the header that it stands at in the present stay, 0 where it stands at no
+// header. The visits to each loop's header are lent beside it, a number for each loop. A loop that is not around the block stands at 0, whatever
+// its number is: nothing is cleared when a loop is left, and the number is not read until the header is visited from outside, which sets it to 1.
+// The order of the fields is for speed: in another one the compiler keeps the block and the tag of a fault in one word, and parts them at each step.
 #[derive(Clone, Copy)]
 pub struct Run {
+    pub visits: u32,
     pub at: usize,
     pub cost: u64,
 }
 
-// What the first block answers.
-#[derive(Clone, Copy)]
-pub enum Entry {
-    Entered,
+// Why a list of blocks is no finished run, with the index of the block: 301 to 303, 311, 312 and 314.
+#[derive(Clone, Copy, PartialEq, Eq)]
+pub enum RunFault {
     Length,
-    NoBlock,
+    NoBlock(usize),
     NotEntry,
+    AfterExit(usize),
+    NoEdge(usize),
+    Unfinished(usize),
 }
 
-// What a step answers.
-#[derive(Clone, Copy)]
-pub enum Answer {
-    Moved,
-    NoBlock,
-    AfterExit,
-    NoEdge,
-}
-
-// The state after a step, the visits to the header that it ends at in this stay, 0 where it ends at no header, and the answer.
-#[derive(Clone, Copy)]
-pub struct Stepped {
-    pub run: Run,
-    pub visits: u32,
-    pub answer: Answer,
+impl RunFault {
+    // The number and the place of the refusal.
+    pub fn refusal(self) -> Refusal
+        ensures { result ≡ run_refusal_of self }
+    {
+        let (number, place) = match self {
+            RunFault::Length => (301, 0),
+            RunFault::NoBlock(i) => (302, i),
+            RunFault::NotEntry => (303, 0),
+            RunFault::AfterExit(i) => (311, i),
+            RunFault::NoEdge(i) => (312, i),
+            RunFault::Unfinished(n) => (314, n),
+        };
+        Refusal { number, place }
+    }
 }
 
 // The numbers at the first block, block 0: 1 for loop 0, and 0 for every other loop.
@@ -72,10 +77,11 @@ fn visit(counts: &mut Numbers, l: usize, heading: bool, inside: bool) -> u32
     requires { (l < most_loops) × (inside ≡ true → get_or counts.old l 0 ≤ longest_walk) }
     ensures { (result ≡ header_visits (get_or counts.old l 0) heading inside) × (counts.new ≡ counts_after counts.old l result) }
 {
-    if !heading {
-        return 0;
+    if heading {
+        count_on(&mut counts[l], inside)
+    } else {
+        0
     }
-    count_on(&mut counts[l], inside)
 }
 
 // Whether one of the two successors of block u is v.
@@ -83,104 +89,98 @@ fn has_edge(first: &[u16], second: &[u16], u: usize, v: u16) -> bool
     requires { (u < length first.now) × (u < length second.now) }
     ensures { result ≡ (eqb (get_or first.now u 0) v || eqb (get_or second.now u 0) v) }
 {
-    if first[u] == v {
-        return true;
-    }
-    second[u] == v
+    first[u] == v || second[u] == v
 }
 
-// What 302, 311 and 312 say of a step from one block to another, in a routine of n blocks.
-fn edge_answer(n: usize, first: &[u16], second: &[u16], from: usize, v: u16) -> Answer
+// What 302, 311 and 312 say of a step from one block to another, which has index i, in a routine of n blocks.
+#[tactic(auto, unfolding(crate::specs::Step::edge_answer))]
+fn edge_answer(
+    n: usize,
+    first: &[u16],
+    second: &[u16],
+    from: usize,
+    i: usize,
+    v: u16,
+) -> Result<(), RunFault>
     requires { (0 < n) × (from < length first.now) × (from < length second.now) }
-    ensures { result ≡ edge_answer n (get_or first.now from 0) (get_or second.now from 0) from v }
+    ensures { result ≡ edge_answer n (get_or first.now from 0) (get_or second.now from 0) from i v }
 {
     if n <= v as usize {
-        return Answer::NoBlock;
+        return Err(RunFault::NoBlock(i));
     }
     if from == n - 1 {
-        return Answer::AfterExit;
+        return Err(RunFault::AfterExit(i));
     }
     if !has_edge(first, second, from, v) {
-        return Answer::NoEdge;
+        return Err(RunFault::NoEdge(i));
     }
-    Answer::Moved
-}
-
-impl Stepped {
-    // At the first block, block 0: the first visit to the header of loop 0.
-    pub fn start(cost: u32) -> Stepped
-        ensures { result ≡ first_step cost }
-    {
-        let run = Run {
-            at: 0,
-            cost: cost as u64,
-        };
-        let answer = Answer::Moved;
-        Stepped {
-            run,
-            visits: 1,
-            answer,
-        }
-    }
+    Ok(())
 }
 
 impl Run {
-    // One block more. The contract holds for any columns that it does not take.
+    // At the first block, block 0: the first visit to the header of loop 0.
+    pub fn start(cost: u32) -> Run
+        ensures { result ≡ first_run cost }
+    {
+        Run {
+            visits: 1,
+            at: 0,
+            cost: cost as u64,
+        }
+    }
+
+    // One block more, v at index i of the list. The answer is around the state: a refusal has none, and counts nothing.
     pub fn step(
         mut self,
         counts: &mut Numbers,
-        cost: &[u32],
-        loops: &[u16],
-        first: &[u16],
-        second: &[u16],
-        header: &[u16],
+        tables: &Tables<'_>,
         around: &Sets,
+        i: usize,
         v: u16,
-    ) -> Stepped
-        requires { Stands (step_columns cost.now loops.now first.now second.now header.now) around.now counts.old self }
-        ensures { Steps (step_columns cost.now loops.now first.now second.now header.now) around.now counts.old self v result counts.new }
+    ) -> Result<Run, RunFault>
+        requires { Stands (step_columns tables.now) around.now counts.old self }
+        ensures { Steps (step_columns tables.now) around.now counts.old self i v result counts.new }
     {
         let from = self.at;
         let to = v as usize;
-        let answer = edge_answer(cost.len(), first, second, from, v);
-        let Answer::Moved = answer else {
-            return Stepped {
-                run: self,
-                visits: 0,
-                answer,
-            };
-        };
-        let l = loops[to] as usize;
-        let here = loopsets::set_at(around, loops[from] as usize);
-        let heading = header[l] == v;
-        let visits = visit(counts, l, heading, here.contains(l));
+        edge_answer(tables.cost.len(), tables.first, tables.second, from, i, v)?;
+        self.cost += tables.cost[to] as u64;
+        let l = tables.loops[to] as usize;
+        let here = loopsets::set_at(around, tables.loops[from] as usize);
+        let heading = tables.header[l] == v;
+        self.visits = visit(counts, l, heading, here.contains(l));
         self.at = to;
-        self.cost += cost[to] as u64;
-        Stepped {
-            run: self,
-            visits,
-            answer,
+        Ok(self)
+    }
+
+    // What 314 says of a run over a list of this length, in a routine of n blocks.
+    #[tactic(auto, unfolding(crate::specs::Step::end_answer))]
+    pub fn finish(self, n: usize, length: usize) -> Result<(), RunFault>
+        requires { 0 < n }
+        ensures { result ≡ end_answer self n length }
+    {
+        if self.at != n - 1 {
+            return Err(RunFault::Unfinished(length));
         }
+        Ok(())
     }
 }
 
-// What 301, 302 and 303 say of the first block of a walk, in a routine of n blocks. There is a block, so block 0 is one.
-pub fn first_block(n: usize, blocks: &[u16]) -> Entry
+// What 301, 302 and 303 say of a list of blocks, in a routine of n blocks. There is a block, so block 0 is one.
+#[tactic(auto, unfolding(crate::specs::Step::entry_answer))]
+pub fn first_block(n: usize, blocks: &[u16]) -> Result<(), RunFault>
     requires { 0 < n }
     ensures { result ≡ entry_answer n blocks.now }
 {
-    if blocks.len() < 1 {
-        return Entry::Length;
-    }
-    if LONGEST_WALK < blocks.len() {
-        return Entry::Length;
+    if blocks.is_empty() || LONGEST_WALK < blocks.len() {
+        return Err(RunFault::Length);
     }
     let entry = blocks[0] as usize;
     if entry == 0 {
-        return Entry::Entered;
+        return Ok(());
     }
     if n <= entry {
-        return Entry::NoBlock;
+        return Err(RunFault::NoBlock(0));
     }
-    Entry::NotEntry
+    Err(RunFault::NotEntry)
 }

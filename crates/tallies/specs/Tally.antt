@@ -1,5 +1,5 @@
--- The tally of one loop over a recorded walk, the numbers of all loops, and what one step makes of them.
-use Rattle.std.specs.Prelude.{ℕ, ◌+◌, ◌≤◌, ◌<◌, max, ◌≡◌, List, eqb, length, get_or, set}
+-- The tally of one loop over a recorded walk, the tallies of all loops, and what one step makes of them.
+use Rattle.std.specs.Prelude.{ℕ, ◌+◌, ◌-◌, ◌≤◌, ◌<◌, max, ◌≡◌, List, ◌∷◌, eqb, length, get_or, set, replicate}
 use Rattle.limits.specs.Limits.{most_loops, longest_walk}
 use Rattle.lists.specs.Search.{when◌then◌else◌}
 use Rattle.tallies.specs.declared.LoopTally.{LoopTally}
@@ -8,14 +8,24 @@ use Rattle.tallies.specs.declared.LoopTally.{LoopTally}
 abbrev pub seen_after : LoopTally → ℕ → LoopTally
 seen_after one visits = record { stays = one.stays + (when eqb visits 1 then 1 else 0); greatest = max one.greatest visits }
 
--- there is room for the numbers of every loop, and for one stay more in loop l
-pub record TallyFits (stayed visited : List ℕ) (l : ℕ) : Type 0 where
-  pub stays_sized : length stayed ≡ most_loops
-  pub visits_sized : length visited ≡ most_loops
-  pub is_loop : l < most_loops
-  pub few : get_or stayed l 0 ≤ longest_walk
+-- no stay and no visit
+abbrev pub unseen : LoopTally
+unseen = record { stays = 0; greatest = 0 }
 
--- the numbers of all loops after a step into loop l that ends with these visits to its header: the first visit begins a stay
-pub record Noted (stayed visited : List ℕ) (l visits : ℕ) (stayed' visited' : List ℕ) : Type 0 where
-  pub more_stays : stayed' ≡ set stayed l (get_or stayed l 0 + (when eqb visits 1 then 1 else 0))
-  pub more_visits : visited' ≡ set visited l (max (get_or visited l 0) visits)
+-- the tallies at the first block: one stay in loop 0, with one visit to its header
+abbrev pub first_tallies : List LoopTally
+first_tallies = record { stays = 1; greatest = 1 } ∷ replicate (most_loops - 1) unseen
+
+-- the tally of loop l
+abbrev pub tally_of : List LoopTally → ℕ → LoopTally
+tally_of tallies l = get_or tallies l unseen
+
+-- there is a tally for every loop, and room for one stay more in loop l
+pub record TallyFits (tallies : List LoopTally) (l : ℕ) : Type 0 where
+  pub sized : length tallies ≡ most_loops
+  pub is_loop : l < most_loops
+  pub few : (tally_of tallies l).stays ≤ longest_walk
+
+-- the tallies of all loops after a step into loop l that ends with these visits to its header: the first visit begins a stay
+abbrev pub noted : List LoopTally → ℕ → ℕ → List LoopTally
+noted tallies l visits = set tallies l (seen_after (tally_of tallies l) visits)

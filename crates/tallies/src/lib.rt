@@ -4,9 +4,9 @@
 
 ghost use Rattle.std.specs.Prelude.{◌≡◌, ◌≤◌, ◌<◌, length, get_or};
 ghost use Rattle.limits.specs.Limits.{longest_walk};
-ghost use Rattle.tallies.specs.Tally.{seen_after, TallyFits, Noted};
+ghost use Rattle.tallies.specs.Tally.{seen_after, first_tallies, noted, TallyFits};
 
-use stepping::Numbers;
+use limits::MOST_LOOPS;
 
 #[derive(Clone, Copy)]
 pub struct LoopTally {
@@ -14,74 +14,46 @@ pub struct LoopTally {
     pub greatest: u32,
 }
 
+// A tally for each loop.
+pub type Tallies = [LoopTally; MOST_LOOPS];
+
 impl LoopTally {
-    // After a step to a block of the loop: `visits` are the visits to the loop's header in the present stay if the step ended at it, and 0 if it
-    // ended at another block. The first visit begins a stay.
-    fn seen(self, visits: u32) -> LoopTally
-        requires { self.stays ≤ longest_walk }
-        ensures { result ≡ seen_after self visits }
+    // A step to a block of the loop: `visits` are the visits to the loop's header in the present stay if the step ended at it, and 0 if it ended at
+    // another block. The first visit begins a stay. A number that does not change is not stored, as `max` would: the next read of it would have to
+    // wait for the store. The greatest number is read first, so that the compiler keeps it so.
+    fn see(&mut self, visits: u32)
+        requires { self.old.stays ≤ longest_walk }
+        ensures { self.new ≡ seen_after self.old visits }
     {
-        let stays = if visits == 1 {
-            self.stays + 1
-        } else {
-            self.stays
-        };
-        let greatest = if self.greatest < visits {
-            visits
-        } else {
-            self.greatest
-        };
-        LoopTally { stays, greatest }
+        let greatest = self.greatest;
+        if visits == 1 {
+            self.stays += 1;
+        }
+        if greatest < visits {
+            self.greatest = visits;
+        }
     }
 }
 
-// The same step on a tally that is lent.
-fn see(one: &mut LoopTally, visits: u32)
-    requires { one.old.stays ≤ longest_walk }
-    ensures { one.new ≡ seen_after one.old visits }
+// The tallies at the first block: one stay in loop 0, with one visit to its header.
+pub fn first_tallies() -> Tallies
+    ensures { result ≡ first_tallies }
 {
-    *one = one.seen(visits);
-}
-
-// The step on a lent tally, for `note`, which has the tally by value.
-fn tallied(mut one: LoopTally, visits: u32) -> LoopTally
-    requires { one.stays ≤ longest_walk }
-    ensures { result ≡ seen_after one visits }
-{
-    see(&mut one, visits);
-    one
-}
-
-// Makes a number this one. A number that is this one already is not stored: the next read of it would have to wait for the store.
-fn renew(number: &mut u32, next: u32)
-    ensures { number.new ≡ next }
-{
-    if *number != next {
-        *number = next;
-    }
-}
-
-// Updates the tally of loop l after a step to its header, which ends with these visits in the present stay.
-fn note(stayed: &mut Numbers, visited: &mut Numbers, l: usize, visits: u32)
-    requires { TallyFits stayed.old visited.old l }
-    ensures { Noted stayed.old visited.old l visits stayed.new visited.new }
-{
-    let one = LoopTally {
-        stays: stayed[l],
-        greatest: visited[l],
+    let mut tallies = [LoopTally {
+        stays: 0,
+        greatest: 0,
+    }; MOST_LOOPS];
+    tallies[0] = LoopTally {
+        stays: 1,
+        greatest: 1,
     };
-    let next = tallied(one, visits);
-    renew(&mut stayed[l], next.stays);
-    renew(&mut visited[l], next.greatest);
+    tallies
 }
 
-// The same after a step to any block v. A block that is no header has 0 visits, and nothing changes.
-pub fn note_step(loops: &[u16], v: u16, visits: u32, stayed: &mut Numbers, visited: &mut Numbers)
-    requires { (v < length loops.now) × TallyFits stayed.old visited.old (get_or loops.now v 0) }
-    ensures { Noted stayed.old visited.old (get_or loops.now v 0) visits stayed.new visited.new }
+// Updates the tallies after a step to block v. A block that is no header has 0 visits, which change nothing.
+pub fn note_step(tallies: &mut Tallies, loops: &[u16], v: u16, visits: u32)
+    requires { (v < length loops.now) × TallyFits tallies.old (get_or loops.now v 0) }
+    ensures { tallies.new ≡ noted tallies.old (get_or loops.now v 0) visits }
 {
-    if visits == 0 {
-        return;
-    }
-    note(stayed, visited, loops[v as usize] as usize, visits);
+    tallies[loops[v as usize] as usize].see(visits);
 }

@@ -1,44 +1,46 @@
--- The number, the place and the value that document 02, §7, gives each reply to a recording, and what is promised of the lent columns.
-use Rattle.std.specs.Prelude.{ℕ, ◌-◌, ◌<◌, ◌≡◌, List, [], ◌∷◌, length, get_or}
+-- The number, the place and the value that document 02, §7, gives each reply to a recording, and what is promised of the tallies and of the lent
+-- columns.
+use Rattle.std.specs.Prelude.{ℕ, ◌-◌, ◌<◌, ◌≡◌, List, [], ◌∷◌, length, get_or, Result, Ok, Err}
 use Rattle.wcet.specs.Table.{Routine, loop_count}
 use Rattle.wcet.specs.Rules.{Reply, accepted, refused, check}
 use Rattle.wcet.specs.Walk.{length_rule}
-use Rattle.wcet.specs.Tally.{recording_blocks, stays_after, greatest_after}
+use Rattle.wcet.specs.Tally.{stays, greatest, recording_blocks}
 use Rattle.nesting.specs.Answers.{refusal}
-use Rattle.stepping.specs.Step.{Walkable, Unread}
-use Rattle.tally.specs.declared.TallyReply.{TallyReply}
-use Rattle.tally.specs.declared.TallyReply.TheVariants.{Accepted, Structure, Columns, Length, NoBlock, NotEntry, AfterExit, NoEdge, Unfinished}
+use Rattle.stepping.specs.Step.{run_refusal}
+use Rattle.tallies.specs.declared.LoopTally.{LoopTally}
+use Rattle.tallies.specs.Tally.{tally_of}
+use Rattle.tally.specs.declared.TallyFault.{TallyFault}
+use Rattle.tally.specs.declared.TallyFault.TheVariants.{Structure, Columns, Run}
 
--- 201 to 207 are the refusals of the structure check
-abbrev pub meaning : TallyReply → Reply ℕ
-meaning (Accepted steps) = accepted steps
-meaning (Structure fault) = refusal fault
-meaning Columns = refused 421 0
-meaning Length = refused 301 0
-meaning (NoBlock i) = refused 302 i
-meaning NotEntry = refused 303 0
-meaning (AfterExit i) = refused 311 i
-meaning (NoEdge i) = refused 312 i
-meaning (Unfinished n) = refused 314 n
+-- 201 to 207 are the refusals of the structure check; 301 to 303, 311, 312 and 314 are those of a run
+abbrev pub meaning : Result ℕ TallyFault → Reply ℕ
+meaning (Ok steps) = accepted steps
+meaning (Err (Structure f)) = refusal f
+meaning (Err Columns) = refused 421 0
+meaning (Err (Run f)) = run_refusal f
 
--- the column has the first m of these numbers
-pub record Filled (m : ℕ) (numbers column : List ℕ) : Type 0 where
-  pub size : length column ≡ m
-  pub each : (l : ℕ) → l < m → get_or column l 0 ≡ get_or numbers l 0
+-- the definition's reply to a recording after 421
+abbrev pub reply_to_recording : Routine → List ℕ → Reply ℕ
+reply_to_recording t w = check (length_rule w ∷ []) (recording_blocks t w (accepted (length w - 1)))
 
--- what is known after 421: the tables keep 201 to 207, and each lent column has a place for each loop
-pub record Lent (t : Unread → Routine) (sets stayed visited : List ℕ) : Type 0 where
-  pub unread : Unread
-  pub walkable : Walkable (t unread) sets
-  pub stays_sized : length stayed ≡ loop_count (t unread)
-  pub greatest_sized : length visited ≡ loop_count (t unread)
+-- the tally of each loop is that of the list w
+pub record SeenIn (t : Routine) (w : List ℕ) (tallies : List LoopTally) : Type 0 where
+  pub stays_are : (l : ℕ) → l < loop_count t → (tally_of tallies l).stays ≡ stays t l w
+  pub greatest_are : (l : ℕ) → l < loop_count t → (tally_of tallies l).greatest ≡ greatest t l w
 
--- what is ensured then, with any columns that are not read, of the reply r and of the columns ss and gs after the call
-pub record Written (t : Routine) (w stayed visited : List ℕ) (r : Reply ℕ) (ss gs : List ℕ) : Type 0 where
-  pub replied : r ≡ check (length_rule w ∷ []) (recording_blocks t w (accepted (length w - 1)))
-  pub stays_column : ss ≡ stays_after t w stayed r
-  pub greatest_column : gs ≡ greatest_after t w visited r
+-- the answer to the recording w over tables that keep 201 to 207: the tallies where w is accepted, and else the definition's refusal
+abbrev pub Follows : Routine → List ℕ → Result (List LoopTally) TallyFault → Type 0
+Follows t w (Ok tallies) = (accepted (length w - 1) ≡ reply_to_recording t w) × SeenIn t w tallies
+Follows t w (Err f) = meaning (Err f) ≡ reply_to_recording t w
 
-abbrev pub Writes : (Unread → Routine) → (sets w stayed visited : List ℕ) → Reply ℕ → (ss gs : List ℕ) → Type 0
-Writes t sets w stayed visited r ss gs = (x : Unread) → Walkable (t x) sets → length stayed ≡ loop_count (t x) → length visited ≡ loop_count (t x)
-    → Written (t x) w stayed visited r ss gs
+-- a run's answer with the tallies that it has written
+abbrev pub given : Result Unit TallyFault → List LoopTally → Result (List LoopTally) TallyFault
+given (Ok _) tallies = Ok tallies
+given (Err f) _ = Err f
+
+-- the two columns have the first m of these tallies
+pub record Filled (tallies : List LoopTally) (m : ℕ) (ss gs : List ℕ) : Type 0 where
+  pub stays_sized : length ss ≡ m
+  pub greatest_sized : length gs ≡ m
+  pub each_stays : (l : ℕ) → l < m → get_or ss l 0 ≡ (tally_of tallies l).stays
+  pub each_greatest : (l : ℕ) → l < m → get_or gs l 0 ≡ (tally_of tallies l).greatest

@@ -3,188 +3,114 @@
 
 ghost use Rattle.std.specs.Prelude.{◌≡◌, ◌≤◌, ◌<◌, length};
 ghost use Rattle.limits.specs.Limits.{most_loops};
+ghost use Rattle.wcet.specs.Rules.{refused};
 ghost use Rattle.wcet.specs.Tally.{Tallied};
-ghost use Rattle.nesting.specs.Columns.{routine};
-ghost use Rattle.stepping.specs.Step.{step_columns, Enters, Ready};
-ghost use Rattle.tally.specs.Tally.{meaning, Filled, Lent, Writes};
-ghost use Rattle.tally.specs.Follow.{end_of, First, Follows, Through};
+ghost use Rattle.nesting.specs.Columns.{routine_of};
+ghost use Rattle.stepping.specs.Step.{Walkable};
+ghost use Rattle.tallies.specs.Tally.{first_tallies};
+ghost use Rattle.tally.specs.Tally.{meaning, Follows, given, Filled};
 
 use loopsets::Sets;
-use nesting::{Structure, StructureFault};
-use stepping::{Answer, Entry, Numbers, Run, Stepped};
+use nesting::{Refusal, StructureFault, Tables};
+use stepping::{Run, RunFault};
+use tallies::Tallies;
 
-// The reply to a recording; a refusal of a block with its index.
-#[derive(Clone, Copy)]
-pub enum TallyReply {
-    Accepted(usize),
+// Why a recording is refused: the tables, a lent column that has not a place for each loop, or the list of blocks.
+#[derive(Clone, Copy, PartialEq, Eq)]
+pub enum TallyFault {
     Structure(StructureFault),
     Columns,
-    Length,
-    NoBlock(usize),
-    NotEntry,
-    AfterExit(usize),
-    NoEdge(usize),
-    Unfinished(usize),
+    Run(RunFault),
 }
 
-// The reply to a recording of this length that stops at no index and ends in this state, in a routine of n blocks.
-fn finish(run: Run, n: usize, length: usize) -> TallyReply
-    requires { (0 < n) × (0 < length) }
-    ensures { result ≡ end_of run n length }
-{
-    if run.at != n - 1 {
-        return TallyReply::Unfinished(length);
+impl From<StructureFault> for TallyFault {
+    ghost use Rattle.tally.specs.declared.TallyFault.TheVariants.{Structure};
+
+    ghost from_gives = { λ fault r. r ≡ Structure fault };
+
+    fn from(fault: StructureFault) -> TallyFault {
+        TallyFault::Structure(fault)
     }
-    let steps = length - 1;
-    TallyReply::Accepted(steps)
 }
 
-// The reply to a recording that starts at block 0, over tables that keep 201 to 207. The numbers are those of the first block before the call, and
-// of all blocks after it if the recording is accepted; else they are free.
-fn follow(
-    cost: &[u32],
-    loops: &[u16],
-    first: &[u16],
-    second: &[u16],
-    header: &[u16],
-    around: &Sets,
-    blocks: &[u16],
-    stayed: &mut Numbers,
-    visited: &mut Numbers,
-) -> TallyReply
-    requires { Enters (step_columns cost.now loops.now first.now second.now header.now) around.now blocks.now × First stayed.old visited.old }
-    ensures { Follows (step_columns cost.now loops.now first.now second.now header.now) around.now blocks.now result stayed.new visited.new }
-{
-    let mut counts = stepping::first_numbers();
-    let mut last = Stepped::start(cost[0]);
-    let mut i = 1;
-    while i < blocks.len() {
-        let v = blocks[i];
-        let run = last.run;
-        last = run.step(&mut counts, cost, loops, first, second, header, around, v);
-        let answer = last.answer;
-        match answer {
-            Answer::Moved => {}
-            Answer::NoBlock => return TallyReply::NoBlock(i),
-            Answer::AfterExit => return TallyReply::AfterExit(i),
-            Answer::NoEdge => return TallyReply::NoEdge(i),
+impl From<RunFault> for TallyFault {
+    ghost use Rattle.tally.specs.declared.TallyFault.TheVariants.{Run};
+
+    ghost from_gives = { λ fault r. r ≡ Run fault };
+
+    fn from(fault: RunFault) -> TallyFault {
+        TallyFault::Run(fault)
+    }
+}
+
+impl TallyFault {
+    // The number and the place of the refusal.
+    pub fn refusal(self) -> Refusal
+        ensures { refused result.number result.place ≡ meaning (Err self) }
+    {
+        match self {
+            TallyFault::Structure(fault) => fault.refusal(),
+            TallyFault::Columns => Refusal {
+                number: 421,
+                place: 0,
+            },
+            TallyFault::Run(fault) => fault.refusal(),
         }
-        let visits = last.visits;
-        tallies::note_step(loops, v, visits, stayed, visited);
-        i += 1;
     }
-    let run = last.run;
-    finish(run, cost.len(), i)
 }
 
-// The reply to a recording over tables that keep 201 to 207: 301, then the first block, then the others. The numbers as above.
-fn tally_through(
-    cost: &[u32],
-    loops: &[u16],
-    first: &[u16],
-    second: &[u16],
-    header: &[u16],
+// The tallies of a recording over tables that keep 201 to 207: 301, then the first block, then the others. A loop of its own beside that of a walk, as is
+// said there. The tallies are lent: each copy of them would be 512 bytes of the stack.
+fn follow(
+    tables: &Tables<'_>,
     around: &Sets,
     blocks: &[u16],
-    stayed: &mut Numbers,
-    visited: &mut Numbers,
-) -> TallyReply
-    requires { Ready (step_columns cost.now loops.now first.now second.now header.now) around.now × First stayed.old visited.old }
-    ensures { Through (step_columns cost.now loops.now first.now second.now header.now) around.now blocks.now result stayed.new visited.new }
+    tallies: &mut Tallies,
+) -> Result<(), TallyFault>
+    requires { Walkable (routine_of tables.now) around.now × (tallies.old ≡ first_tallies) }
+    ensures { Follows (routine_of tables.now) blocks.now (given result tallies.new) }
 {
-    let entry = stepping::first_block(cost.len(), blocks);
-    match entry {
-        Entry::Entered => {}
-        Entry::Length => return TallyReply::Length,
-        Entry::NoBlock => return TallyReply::NoBlock(0),
-        Entry::NotEntry => return TallyReply::NotEntry,
+    let n = tables.cost.len();
+    stepping::first_block(n, blocks)?;
+    let mut counts = stepping::first_numbers();
+    let mut run = Run::start(tables.cost[0]);
+    for i in 1..blocks.len() {
+        let v = blocks[i];
+        run = run.step(&mut counts, tables, around, i, v)?;
+        tallies::note_step(tallies, tables.loops, v, run.visits);
     }
-    follow(
-        cost, loops, first, second, header, around, blocks, stayed, visited,
-    )
+    run.finish(n, blocks.len())?;
+    Ok(())
 }
 
-// Writes the numbers of the first loops, as many as the column has places.
-fn fill(column: &mut [u32], numbers: &Numbers)
-    requires { length column.old ≤ most_loops }
-    ensures { Filled (length column.old) numbers.now column.new }
+// Writes the tallies of the first loops, as many as the two columns have places.
+fn write(tallies: &Tallies, stays: &mut [u32], greatest: &mut [u32])
+    requires { (length stays.old ≤ most_loops) × (length greatest.old ≡ length stays.old) }
+    ensures { Filled tallies.now (length stays.old) stays.new greatest.new }
 {
-    let mut l = 0;
-    while l < column.len() {
-        column[l] = numbers[l];
-        l += 1;
+    for l in 0..stays.len() {
+        stays[l] = tallies[l].stays;
+        greatest[l] = tallies[l].greatest;
     }
-}
-
-// The reply after 421. The lent columns are written last, where nothing is refused.
-fn write(
-    cost: &[u32],
-    loops: &[u16],
-    first: &[u16],
-    second: &[u16],
-    header: &[u16],
-    around: &Sets,
-    blocks: &[u16],
-    stays: &mut [u32],
-    greatest: &mut [u32],
-) -> TallyReply
-    requires { Lent (step_columns cost.now loops.now first.now second.now header.now) around.now stays.old greatest.old }
-    ensures { Writes (step_columns cost.now loops.now first.now second.now header.now) around.now blocks.now stays.old greatest.old (meaning result) stays.new greatest.new }
-{
-    let mut stayed = stepping::first_numbers();
-    let mut visited = stepping::first_numbers();
-    let reply = tally_through(
-        cost,
-        loops,
-        first,
-        second,
-        header,
-        around,
-        blocks,
-        &mut stayed,
-        &mut visited,
-    );
-    let TallyReply::Accepted(count) = reply else {
-        return reply;
-    };
-    fill(stays, &stayed);
-    fill(greatest, &visited);
-    TallyReply::Accepted(count)
 }
 
 // The step count of a recorded walk, and for each loop in the two lent columns the number of stays and the greatest number of header visits in
-// one stay; or the first refusal: 201 to 207, 421, then 301 and the blocks.
+// one stay; or the first refusal: 201 to 207, 421, then 301 and the blocks. The lent columns are written last, where nothing is refused.
 pub fn tally(
-    cost: &[u32],
-    loops: &[u16],
-    first: &[u16],
-    second: &[u16],
-    figure: &[i64],
-    parent: &[u16],
-    header: &[u16],
-    limit: &[u32],
-    multiplier: &[u64],
+    tables: &Tables<'_>,
     blocks: &[u16],
     stays: &mut [u32],
     greatest: &mut [u32],
-) -> TallyReply
-    ensures { Tallied (routine cost.now loops.now first.now second.now figure.now parent.now header.now limit.now multiplier.now) blocks.now stays.old greatest.old (meaning result) stays.new greatest.new }
+) -> Result<usize, TallyFault>
+    ensures { Tallied (routine_of tables.now) blocks.now stays.old greatest.old (meaning result) stays.new greatest.new }
 {
-    let checked = nesting::check_structure(
-        cost, loops, first, second, figure, parent, header, limit, multiplier,
-    );
-    let answer = checked.answer;
-    if let Structure::Broken(fault) = answer {
-        return TallyReply::Structure(fault);
+    let around = nesting::check_structure(tables)?;
+    let m = tables.parent.len();
+    if stays.len() != m || greatest.len() != m {
+        return Err(TallyFault::Columns);
     }
-    if stays.len() != parent.len() {
-        return TallyReply::Columns;
-    }
-    if greatest.len() != parent.len() {
-        return TallyReply::Columns;
-    }
-    let around = checked.around;
-    write(
-        cost, loops, first, second, header, &around, blocks, stays, greatest,
-    )
+    let mut tallies = tallies::first_tallies();
+    follow(tables, &around, blocks, &mut tallies)?;
+    write(&tallies, stays, greatest);
+    Ok(blocks.len() - 1)
 }

@@ -1,41 +1,36 @@
--- The reply of the whole walk from what is looked at in turn: the tables, the walk. Assumes nothing.
-use mathlib.Core.Path.{◌≡◌, refl, sym, ◌∙◌}
-use mathlib.Core.List.{List, [], ◌∷◌}
-use Prim.Native.Nat.{ℕ}
-use lib.ListN.{drop}
-use Rattle.wcet.specs.Table.{Routine, block_count}
-use Rattle.wcet.specs.Rules.{accepted, check, structure_rules}
-use Rattle.wcet.specs.Run.{start}
-use Rattle.wcet.specs.Walk.{walked, length_rule, walk_from, walk_blocks, walk_reply}
+-- The reply of the whole walk from what is looked at in turn: the tables, the blocks. Assumes nothing.
+use Rattle.std.proofs.Common.{◌≡◌, sym, ◌∙◌, List, [], ◌∷◌, ℕ, Result, Ok, Err, IsErrAnd}
+use Rattle.std.proofs.lemmas.Result.{err_from_is_err_and}
+use Rattle.wcet.specs.Table.{Routine}
+use Rattle.wcet.specs.Rules.{Reply, accepted, structure_rules}
+use Rattle.wcet.specs.Walk.{Walked, walked, length_rule, walk_blocks, walk_reply}
 use Rattle.wcet.specs.Claim.{WalkChecked}
 use Rattle.wcet.proofs.Replies.{past_all}
 use Rattle.wcet.proofs.Walks.{walk_checked}
 use Rattle.nesting.specs.Answers.{refusal, StructureChecked}
 use Rattle.nesting.specs.declared.StructureFault.{StructureFault}
-use Rattle.nesting.specs.declared.Structure.TheVariants.{Sound, Broken}
-use Rattle.nesting.specs.declared.Structured.{Structured}
 use Rattle.nesting.proofs.Chain.{refusal_stands, sound_holds}
-use Rattle.stepping.specs.declared.Entry.{Entry}
-use Rattle.stepping.specs.Step.{entry_answer}
-use Rattle.stepping.proofs.Along.{opens}
-use Rattle.stepping.proofs.Openings.{by_entry}
-use Rattle.walk.specs.declared.WalkReply.{WalkReply}
-use Rattle.walk.specs.declared.WalkReply.TheVariants.{Structure}
-use Rattle.walk.specs.Reply.{meaning}
+use Rattle.stepping.specs.Step.{run_refusal}
+use Rattle.stepping.specs.declared.RunFault.{RunFault}
+use Rattle.walk.specs.declared.Walked.{Walked as WalkedValues}
+use Rattle.walk.specs.declared.WalkFault.{WalkFault}
+use Rattle.walk.specs.declared.WalkFault.TheVariants.{Structure, Run}
+use Rattle.walk.specs.Reply.{meaning, reply_to_walk}
 
-module _ (t : Routine) (w : List ℕ) (s : Structured) (checked : StructureChecked t s) where
-  pub reply_structure : (f : StructureFault) → s.answer ≡ Broken f → WalkChecked t w (meaning (Structure f))
+-- a fault of the run is handed on as a fault of the walk
+pub handed_on : {x : Reply Walked} (r : Result WalkedValues WalkFault) (f : RunFault) → IsErrAnd r (λ e. e ≡ Run f) → run_refusal f ≡ x → meaning r ≡ x
+handed_on r f k e = let p = err_from_is_err_and r k in rw (p.1, p.2) e
+
+module _ (t : Routine) (w : List ℕ) where
+  -- the tables are refused
+  pub structure_refused : (r : Result WalkedValues WalkFault) (f : StructureFault) → IsErrAnd r (λ e. e ≡ Structure f) → StructureChecked t (Err f) → WalkChecked t w (meaning r)
   unfolding walk_reply
-  reply_structure f e = walk_checked t w (refusal f) (refusal_stands t s checked f e (length_rule w ∷ []) (walk_blocks t w (accepted (walked t w))))
+  structure_refused r f k checked =
+      let p = err_from_is_err_and r k in
+      rw (p.1, p.2) (walk_checked t w (refusal f) (refusal_stands t f checked (length_rule w ∷ []) (walk_blocks t w (accepted (walked t w)))))
 
-  module _ (sound : s.answer ≡ Sound) where
-    -- the tables pass: the reply is that to the walk
-    pub reply_walked : (r : WalkReply) → meaning r ≡ check (length_rule w ∷ []) (walk_blocks t w (accepted (walked t w))) → WalkChecked t w (meaning r)
-    unfolding walk_reply
-    reply_walked r e = walk_checked t w (meaning r) (e ∙ sym (past_all (structure_rules t) (length_rule w ∷ []) (walk_blocks t w (accepted (walked t w))) (sound_holds t s checked sound)))
-
--- the reply to a walk's blocks, by the answer to the first
-module _ (t : Routine) (w : List ℕ) (a : Entry) (found : a ≡ entry_answer (block_count t) w) where
-  pub reply_entry : (b : Entry) → a ≡ b → (r : WalkReply) → meaning r ≡ opens b (walk_from t start 1 (drop 1 w) (accepted (walked t w))) → meaning r ≡ check (length_rule w ∷ []) (walk_blocks t w (accepted (walked t w)))
-  unfolding walk_blocks
-  reply_entry b e r q = by_entry (block_count t) w (λ x. walk_blocks t x (accepted (walked t w))) (walk_from t start 1 (drop 1 w) (accepted (walked t w))) refl a found b e (meaning r) q
+  -- the tables pass: the reply is that to the blocks
+  pub blocks_checked : (sets : List ℕ) → StructureChecked t (Ok sets) → (r : Result WalkedValues WalkFault) → meaning r ≡ reply_to_walk t w → WalkChecked t w (meaning r)
+  unfolding walk_reply
+  blocks_checked sets checked r e =
+      walk_checked t w (meaning r) (e ∙ sym (past_all (structure_rules t) (length_rule w ∷ []) (walk_blocks t w (accepted (walked t w))) (sound_holds t sets checked)))

@@ -3,139 +3,103 @@
 #![tactic(auto)]
 
 ghost use Rattle.std.specs.Prelude.{◌≡◌, ◌<◌, ltb, length, get_or};
+ghost use Rattle.wcet.specs.Rules.{refused};
 ghost use Rattle.wcet.specs.Claim.{WalkChecked};
-ghost use Rattle.nesting.specs.Columns.{routine};
-ghost use Rattle.stepping.specs.Step.{Enters, Ready};
-ghost use Rattle.walk.specs.Reply.{meaning};
-ghost use Rattle.walk.specs.Follow.{end_of, walk_columns, Follows, Through};
+ghost use Rattle.nesting.specs.Columns.{routine_of};
+ghost use Rattle.stepping.specs.Step.{Walkable};
+ghost use Rattle.walk.specs.Reply.{meaning, reply_to_walk};
 
 use loopsets::Sets;
-use nesting::{Structure, StructureFault};
-use stepping::{Answer, Entry, Run, Stepped};
+use nesting::{Refusal, StructureFault, Tables};
+use stepping::{Run, RunFault};
 
-// The reply to a walk; a refusal with its index.
-#[derive(Clone, Copy)]
-pub enum WalkReply {
-    Accepted { cost: u64, steps: usize },
-    Structure(StructureFault),
-    Length,
-    NoBlock(usize),
-    NotEntry,
-    AfterExit(usize),
-    NoEdge(usize),
-    OverLimit(usize),
-    Unfinished(usize),
+// The cost of an accepted walk, and its step count.
+#[derive(Clone, Copy, PartialEq, Eq)]
+pub struct Walked {
+    pub cost: u64,
+    pub steps: usize,
 }
 
-// The reply to a walk of this length that stops at no index and ends in this state, in a routine of n blocks.
-fn finish(run: Run, n: usize, length: usize) -> WalkReply
-    requires { (0 < n) × (0 < length) }
-    ensures { result ≡ end_of run n length }
-{
-    if run.at != n - 1 {
-        return WalkReply::Unfinished(length);
+// Why a walk is refused: the tables, the list of blocks, or at an index the limit of a loop.
+#[derive(Clone, Copy, PartialEq, Eq)]
+pub enum WalkFault {
+    Structure(StructureFault),
+    Run(RunFault),
+    OverLimit(usize),
+}
+
+impl From<StructureFault> for WalkFault {
+    ghost use Rattle.walk.specs.declared.WalkFault.TheVariants.{Structure};
+
+    ghost from_gives = { λ fault r. r ≡ Structure fault };
+
+    fn from(fault: StructureFault) -> WalkFault {
+        WalkFault::Structure(fault)
     }
-    let cost = run.cost;
-    let steps = length - 1;
-    WalkReply::Accepted { cost, steps }
+}
+
+impl From<RunFault> for WalkFault {
+    ghost use Rattle.walk.specs.declared.WalkFault.TheVariants.{Run};
+
+    ghost from_gives = { λ fault r. r ≡ Run fault };
+
+    fn from(fault: RunFault) -> WalkFault {
+        WalkFault::Run(fault)
+    }
+}
+
+impl WalkFault {
+    // The number and the place of the refusal.
+    pub fn refusal(self) -> Refusal
+        ensures { refused result.number result.place ≡ meaning (Err self) }
+    {
+        match self {
+            WalkFault::Structure(fault) => fault.refusal(),
+            WalkFault::Run(fault) => fault.refusal(),
+            WalkFault::OverLimit(i) => Refusal {
+                number: 313,
+                place: i,
+            },
+        }
+    }
 }
 
 // Whether a step to block v, which ends with these visits to a header, passes the limit of the block's loop. A step to a block that is no header
-// has 0 visits, and no limit is looked up.
+// has 0 visits, which pass no limit.
 fn passes(loops: &[u16], limit: &[u32], v: u16, visits: u32) -> bool
     requires { (v < length loops.now) × (get_or loops.now v 0 < length limit.now) }
     ensures { result ≡ ltb (get_or limit.now (get_or loops.now v 0) 0) visits }
 {
-    if visits == 0 {
-        return false;
-    }
     limit[loops[v as usize] as usize] < visits
 }
 
-// The reply to a walk that starts at block 0, over tables that keep 201 to 207.
-fn follow(
-    cost: &[u32],
-    loops: &[u16],
-    first: &[u16],
-    second: &[u16],
-    header: &[u16],
-    limit: &[u32],
-    around: &Sets,
-    blocks: &[u16],
-) -> WalkReply
-    requires { Enters (walk_columns cost.now loops.now first.now second.now header.now limit.now) around.now blocks.now }
-    ensures { Follows (walk_columns cost.now loops.now first.now second.now header.now limit.now) around.now blocks.now result }
+// The reply to a walk over tables that keep 201 to 207: 301, then the first block, then the others. The tally of a recording has such a loop too. One loop
+// for both would take a trait for what follows a step, with its ghost state and laws, and two impls: more than the loop.
+fn follow(tables: &Tables<'_>, around: &Sets, blocks: &[u16]) -> Result<Walked, WalkFault>
+    requires { Walkable (routine_of tables.now) around.now }
+    ensures { meaning result ≡ reply_to_walk (routine_of tables.now) blocks.now }
 {
+    let n = tables.cost.len();
+    stepping::first_block(n, blocks)?;
     let mut counts = stepping::first_numbers();
-    let mut last = Stepped::start(cost[0]);
-    let mut i = 1;
-    while i < blocks.len() {
+    let mut run = Run::start(tables.cost[0]);
+    for i in 1..blocks.len() {
         let v = blocks[i];
-        let run = last.run;
-        last = run.step(&mut counts, cost, loops, first, second, header, around, v);
-        let answer = last.answer;
-        match answer {
-            Answer::Moved => {}
-            Answer::NoBlock => return WalkReply::NoBlock(i),
-            Answer::AfterExit => return WalkReply::AfterExit(i),
-            Answer::NoEdge => return WalkReply::NoEdge(i),
+        run = run.step(&mut counts, tables, around, i, v)?;
+        if passes(tables.loops, tables.limit, v, run.visits) {
+            return Err(WalkFault::OverLimit(i));
         }
-        let visits = last.visits;
-        if passes(loops, limit, v, visits) {
-            return WalkReply::OverLimit(i);
-        }
-        i += 1;
     }
-    let run = last.run;
-    finish(run, cost.len(), i)
-}
-
-// The reply to a walk over tables that keep 201 to 207: 301, then the first block, then the others.
-fn walk_through(
-    cost: &[u32],
-    loops: &[u16],
-    first: &[u16],
-    second: &[u16],
-    header: &[u16],
-    limit: &[u32],
-    around: &Sets,
-    blocks: &[u16],
-) -> WalkReply
-    requires { Ready (walk_columns cost.now loops.now first.now second.now header.now limit.now) around.now }
-    ensures { Through (walk_columns cost.now loops.now first.now second.now header.now limit.now) around.now blocks.now result }
-{
-    let entry = stepping::first_block(cost.len(), blocks);
-    match entry {
-        Entry::Entered => {}
-        Entry::Length => return WalkReply::Length,
-        Entry::NoBlock => return WalkReply::NoBlock(0),
-        Entry::NotEntry => return WalkReply::NotEntry,
-    }
-    follow(cost, loops, first, second, header, limit, around, blocks)
+    run.finish(n, blocks.len())?;
+    let cost = run.cost;
+    let steps = blocks.len() - 1;
+    Ok(Walked { cost, steps })
 }
 
 // The reply to a walk: 201 to 207 first, then 301 and the blocks.
-pub fn walk(
-    cost: &[u32],
-    loops: &[u16],
-    first: &[u16],
-    second: &[u16],
-    figure: &[i64],
-    parent: &[u16],
-    header: &[u16],
-    limit: &[u32],
-    multiplier: &[u64],
-    blocks: &[u16],
-) -> WalkReply
-    ensures { WalkChecked (routine cost.now loops.now first.now second.now figure.now parent.now header.now limit.now multiplier.now) blocks.now (meaning result) }
+pub fn walk(tables: &Tables<'_>, blocks: &[u16]) -> Result<Walked, WalkFault>
+    ensures { WalkChecked (routine_of tables.now) blocks.now (meaning result) }
 {
-    let checked = nesting::check_structure(
-        cost, loops, first, second, figure, parent, header, limit, multiplier,
-    );
-    let answer = checked.answer;
-    if let Structure::Broken(fault) = answer {
-        return WalkReply::Structure(fault);
-    }
-    let around = checked.around;
-    walk_through(cost, loops, first, second, header, limit, &around, blocks)
+    let around = nesting::check_structure(tables)?;
+    follow(tables, &around, blocks)
 }

@@ -1,72 +1,40 @@
-use Prim.Native.Nat.{ℕ}
-use mathlib.Core.List.{List}
-use mathlib.Core.Path.{◌≡◌, refl, ◌∙◌, ap}
-use native.Mathlib.Omega.{arith}
-use lib.ListN.{length}
-use Rattle.stepping.specs.declared.Stepped.{Stepped}
-use Rattle.stepping.specs.declared.Answer.TheVariants.{NoBlock, AfterExit, NoEdge}
-use Rattle.stepping.specs.Step.{state_of, step_columns}
-use Rattle.stepping.proofs.Counts.{start_is}
-use Rattle.stepping.proofs.Along.{standing}
-use Rattle.tally.specs.declared.TallyReply.TheVariants as reply
-use Rattle.tally.proofs.Tallying.{tallying_first, end_reply, at_end}
-use Rattle.tally.proofs.Following.{stop, going_on, known, sized_after}
-use borrow.Author.Rules.{rules}
+use Rattle.std.proofs.Common.{arith}
+use Rattle.stepping.proofs.Along.{starts, standing, unread_of, own_step}
+use Rattle.tally.proofs.Tallying.{not_entered, tallying_first, end_refused, end_accepted, stopped, fits, tallying_next}
+use Rattle.tally.proofs.Replies.{handed_on}
 use Rattle.tally.proofs.follow.Goals as goal
 
-pub bounds-cost-0 : goal.bounds-cost-0
-bounds-cost-0 c = omega (arith, c.requires.0.ready.walkable.ranged.sized.some_block)
+pub returns-in_err-first_block : goal.returns-in_err-first_block
+returns-in_err-first_block c = handed_on _ _ _ _ _ c.from_residual.ensures.1 (not_entered _ c.args.around.now c.requires.0 _ _ c.first_block.ensures _ c.in_err-first_block.was)
 
 pub loop-i-init : goal.loop-i-init
 loop-i-init c =
-    let p = c.requires.0 in
-    let e = c.first_numbers-counts.ensures in (
-      record { stays_sized = ap (λ (xs : List ℕ). length xs) c.requires.1.first_stays; visits_sized = ap (λ (xs : List ℕ). length xs) c.requires.1.first_visits },
-      λ x S.
-          let t = step_columns c.args.cost.now c.args.loops.now c.args.first.now c.args.second.now c.args.header.now x in
-          rw (c.requires.1.first_stays, c.requires.1.first_visits)
-          (tallying_first t c.args.around.now S c.args.blocks.now c.first_numbers-counts.result c.start-last.result.run p.some p.entry (ap (λ (xs : List ℕ). length xs) e)
-          (ap (λ (xs : List ℕ). state_of t xs c.start-last.result.run) e ∙ start_is t S.rules c.start-last.result.run (ap (λ (s : Stepped). s.run.at) c.start-last.ensures)) (ap (λ (s : Stepped). s.run.cost) c.start-last.ensures)),
-    )
+    tallying_first _ c.args.around.now c.requires.0 _ _ c.first_block.ensures _ c.in_ok-first_block.was _ c.first_numbers-counts.ensures
+    _ c.requires.1 _ c.start-run.ensures
 
-pub step-last-requires : goal.step-last-requires
-step-last-requires c =
-    let p = c.requires.0 in
-    record { unread = p.ready.others; walkable = p.ready.walkable; standing = standing (c.loop-i.invariant.1 p.ready.others p.ready.walkable).along (omega (arith, p.short, c.loop-i-test.true)) }
+pub step-requires : goal.step-requires
+step-requires c =
+    let p = starts _ c.args.blocks.now _ c.first_block.ensures _ c.in_ok-first_block.was in
+    record { unread = unread_of c.args.tables.now; walkable = c.requires.0; standing = standing c.loop-i.invariant.along (omega arith) }
 
-pub returns-in-NoBlock : goal.returns-in-NoBlock
-returns-in-NoBlock c = λ x S. stop c.args.cost.now c.args.loops.now c.args.first.now c.args.second.now c.args.header.now c.args.around.now c.args.blocks.now c.loop-i.counts c.loop-i.last.run c.loop-i.i c.loop-i.stayed c.loop-i.visited c.step-last.new.counts c.step-last.result c.requires.0 c.loop-i.invariant.0 c.loop-i.invariant.1 c.loop-i-test.true c.step-last.ensures x S NoBlock (reply.NoBlock c.loop-i.i) (λ y. refl) (λ k e. absurd (let z : ◌≡◌ {A = ℕ} 0 1 = cc in omega arith)) (search rules)
-
-pub returns-in-AfterExit : goal.returns-in-AfterExit
-returns-in-AfterExit c = λ x S. stop c.args.cost.now c.args.loops.now c.args.first.now c.args.second.now c.args.header.now c.args.around.now c.args.blocks.now c.loop-i.counts c.loop-i.last.run c.loop-i.i c.loop-i.stayed c.loop-i.visited c.step-last.new.counts c.step-last.result c.requires.0 c.loop-i.invariant.0 c.loop-i.invariant.1 c.loop-i-test.true c.step-last.ensures x S AfterExit (reply.AfterExit c.loop-i.i) (λ y. refl) (λ k e. absurd (let z : ◌≡◌ {A = ℕ} 0 1 = cc in omega arith)) (search rules)
-
-pub returns-in-NoEdge : goal.returns-in-NoEdge
-returns-in-NoEdge c = λ x S. stop c.args.cost.now c.args.loops.now c.args.first.now c.args.second.now c.args.header.now c.args.around.now c.args.blocks.now c.loop-i.counts c.loop-i.last.run c.loop-i.i c.loop-i.stayed c.loop-i.visited c.step-last.new.counts c.step-last.result c.requires.0 c.loop-i.invariant.0 c.loop-i.invariant.1 c.loop-i-test.true c.step-last.ensures x S NoEdge (reply.NoEdge c.loop-i.i) (λ y. refl) (λ k e. absurd (let z : ◌≡◌ {A = ℕ} 0 1 = cc in omega arith)) (search rules)
+pub returns-in_err-run : goal.returns-in_err-run
+returns-in_err-run c =
+    handed_on _ _ _ _ _ c.from_residual-in_err-run.ensures.1
+    (stopped _ c.args.around.now c.requires.0 _ _ _ _ _ c.loop-i.invariant c.loop-i-test.true _ _ (own_step c.args.tables.now c.args.around.now c.requires.0 _ _ _ _ c.loop-i.invariant.along c.loop-i-test.true (starts _ c.args.blocks.now _ c.first_block.ensures _ c.in_ok-first_block.was).1 c.step.ensures) _ c.in_err-run.was)
 
 pub note_step-requires : goal.note_step-requires
 note_step-requires c =
-    let k = known c.args.cost.now c.args.loops.now c.args.first.now c.args.second.now c.args.header.now c.args.around.now c.args.blocks.now c.loop-i.counts c.loop-i.last.run c.loop-i.i c.loop-i.stayed c.loop-i.visited c.step-last.new.counts c.step-last.result c.requires.0 c.loop-i.invariant.0 c.loop-i.invariant.1 c.loop-i-test.true c.step-last.ensures (search rules) in
-    (k.in_loops, k.fits)
-
-pub overflow_add-i : goal.overflow_add-i
-overflow_add-i c = record { fits = omega (arith, c.loop-i-test.true, c.requires.0.short) }
+    let p = starts _ c.args.blocks.now _ c.first_block.ensures _ c.in_ok-first_block.was in
+    fits _ c.args.around.now c.requires.0 _ _ _ _ _ c.loop-i.invariant c.loop-i-test.true _ _ (own_step c.args.tables.now c.args.around.now c.requires.0 _ _ _ _ c.loop-i.invariant.along c.loop-i-test.true (starts _ c.args.blocks.now _ c.first_block.ensures _ c.in_ok-first_block.was).1 c.step.ensures) _ c.in_ok-run.was (omega arith)
 
 pub loop-i-preserved : goal.loop-i-preserved
-loop-i-preserved c = (
-  sized_after c.loop-i.stayed c.loop-i.visited c.loop-i.invariant.0 c.note_step.ensures,
-  λ x S. going_on c.args.cost.now c.args.loops.now c.args.first.now c.args.second.now c.args.header.now c.args.around.now c.args.blocks.now c.loop-i.counts c.loop-i.last.run c.loop-i.i c.loop-i.stayed c.loop-i.visited c.step-last.new.counts c.step-last.result c.requires.0 c.loop-i.invariant.0 c.loop-i.invariant.1 c.loop-i-test.true c.step-last.ensures x S (search rules) c.note_step.new.stayed c.note_step.new.visited c.note_step.ensures,
-)
+loop-i-preserved c =
+    rw c.note_step.ensures (tallying_next _ c.args.around.now c.requires.0 _ _ _ _ _ c.loop-i.invariant c.loop-i-test.true _ _ (own_step c.args.tables.now c.args.around.now c.requires.0 _ _ _ _ c.loop-i.invariant.along c.loop-i-test.true (starts _ c.args.blocks.now _ c.first_block.ensures _ c.in_ok-first_block.was).1 c.step.ensures) _ c.in_ok-run.was)
 
-pub finish-requires : goal.finish-requires
-finish-requires c =
-    let p = c.requires.0 in
-    (omega (arith, p.ready.walkable.ranged.sized.some_block), (c.loop-i.invariant.1 p.ready.others p.ready.walkable).along.some)
+pub returns-in_err-finish : goal.returns-in_err-finish
+returns-in_err-finish c =
+    handed_on _ _ _ _ _ c.from_residual-in_err-finish.ensures.1
+    (end_refused _ c.args.around.now c.requires.0 _ _ _ _ _ c.loop-i.invariant c.loop-i-test.false _ c.finish.ensures _ c.in_err-finish.was)
 
 pub returns : goal.returns
-returns c = λ x S.
-    let t = step_columns c.args.cost.now c.args.loops.now c.args.first.now c.args.second.now c.args.header.now x in
-    let loop = c.loop-i in
-    record {
-      replied = end_reply t c.args.around.now S c.args.blocks.now loop.counts loop.last.run loop.i loop.stayed loop.visited (loop.invariant.1 x S) (omega arith) c.finish.result c.finish.ensures;
-      seen = λ k e. at_end t c.args.around.now S c.args.blocks.now loop.counts loop.last.run loop.i loop.stayed loop.visited (loop.invariant.1 x S) (omega arith);
-    }
+returns c = end_accepted _ c.args.around.now c.requires.0 _ _ _ _ _ c.loop-i.invariant c.loop-i-test.false _ c.finish.ensures _ c.in_ok-finish.was

@@ -1,38 +1,27 @@
-use Rattle.wcet.specs.Table.{Routine}
-use Rattle.stepping.specs.Step.{Unread, step_columns}
+use Rattle.std.proofs.Common.{arith}
 use Rattle.stepping.proofs.Along.{sound_walkable}
-use Rattle.tally.proofs.Replies.{reply_structure, reply_stays, reply_greatest, reply_written}
-use borrow.Author.Rules.{rules}
+use Rattle.tally.proofs.Replies.{structure_refused, columns_refused, blocks_refused, has_block, written}
 use Rattle.tally.proofs.tally.Goals as goal
 
-pub returns-in-Broken : goal.returns-in-Broken
-returns-in-Broken c = search reply_structure
+pub returns-in_err-around : goal.returns-in_err-around
+returns-in_err-around c = structure_refused _ _ _ _ _ _ c.from_residual.ensures.1 c.in_err-around.ensures
 
-pub returns-then-stays-parent : goal.returns-then-stays-parent
-returns-then-stays-parent c =
-    let unread : Unread = record { figures = c.args.figure.now; parents = c.args.parent.now; limits = c.args.limit.now; multipliers = c.args.multiplier.now } in
-    let t : Routine = step_columns c.args.cost.now c.args.loops.now c.args.first.now c.args.second.now c.args.header.now unread in
-    let k = c.check_structure-checked in
-    reply_stays t c.args.blocks.now c.args.stays.now c.args.greatest.now k.result k.ensures (search rules) c.if-stays-parent.true
+pub returns-then-stays-m : goal.returns-then-stays-m
+returns-then-stays-m c = columns_refused _ _ _ _ _ c.in_ok-around.ensures c.then-stays-m.either
 
-pub returns-then-greatest-parent : goal.returns-then-greatest-parent
-returns-then-greatest-parent c =
-    let unread : Unread = record { figures = c.args.figure.now; parents = c.args.parent.now; limits = c.args.limit.now; multipliers = c.args.multiplier.now } in
-    let t : Routine = step_columns c.args.cost.now c.args.loops.now c.args.first.now c.args.second.now c.args.header.now unread in
-    let k = c.check_structure-checked in
-    reply_greatest t c.args.blocks.now c.args.stays.now c.args.greatest.now k.result k.ensures (search rules) c.if-greatest-parent.true
+pub follow-requires : goal.follow-requires
+follow-requires c = (sound_walkable _ _ c.in_ok-around.ensures, c.first_tallies-tallies.ensures)
+
+pub returns-in_err-follow : goal.returns-in_err-follow
+returns-in_err-follow c =
+    blocks_refused _ _ _ _ _ c.in_ok-around.ensures c.if-stays-m.false c.if-greatest-m.false _ _ c.from_residual-in_err-follow.ensures.1 c.in_err-follow.ensures
 
 pub write-requires : goal.write-requires
-write-requires c =
-    let unread : Unread = record { figures = c.args.figure.now; parents = c.args.parent.now; limits = c.args.limit.now; multipliers = c.args.multiplier.now } in
-    let t : Routine = step_columns c.args.cost.now c.args.loops.now c.args.first.now c.args.second.now c.args.header.now unread in
-    let k = c.check_structure-checked in
-    record { unread = unread; walkable = sound_walkable t k.result k.ensures (search rules); stays_sized = c.if-stays-parent.false; greatest_sized = c.if-greatest-parent.false }
+write-requires c = let s = sound_walkable _ _ c.in_ok-around.ensures in omega (arith, s.ranged.sized.few_loops)
+
+pub overflow_sub-result : goal.overflow_sub-result
+overflow_sub-result c = has_block _ _ _ _ _ c.in_ok-around.ensures c.if-stays-m.false c.if-greatest-m.false _ c.in_ok-follow.ensures
 
 pub returns : goal.returns
 returns c =
-    let unread : Unread = record { figures = c.args.figure.now; parents = c.args.parent.now; limits = c.args.limit.now; multipliers = c.args.multiplier.now } in
-    let t : Routine = step_columns c.args.cost.now c.args.loops.now c.args.first.now c.args.second.now c.args.header.now unread in
-    let k = c.check_structure-checked in
-    reply_written t c.args.blocks.now c.args.stays.now c.args.greatest.now k.result k.ensures (search rules) c.if-stays-parent.false c.if-greatest-parent.false _ c.write.new.stays
-    c.write.new.greatest (c.write.ensures unread (sound_walkable t k.result k.ensures (search rules)) c.if-stays-parent.false c.if-greatest-parent.false)
+    written _ _ _ _ _ c.in_ok-around.ensures c.if-stays-m.false c.if-greatest-m.false _ c.in_ok-follow.ensures _ c.if-stays-m.false _ _ c.write.ensures
