@@ -1,15 +1,14 @@
-use Rattle.recordings.proofs.Replies.{self_start, self_on, self_stops, self_clear}
-use Rattle.recordings.proofs.Replies.{self_on, self_stops, self_clear}
+use Rattle.std.proofs.Common.{◌≡◌, ℕ, [], true, false, length, rules}
+use Rattle.std.proofs.lemmas.Iterator.{first_from_Range}
+use Rattle.lists.proofs.Search.{found_first}
+use Rattle.wcet.specs.Table.{edge}
+use Rattle.nesting.specs.Columns.{edge_columns}
+use Rattle.recordings.specs.Answers.{first_self_edge}
 use Rattle.recordings.proofs.first_self_edge.Goals as goal
 
-pub loop-u-init : goal.loop-u-init
-loop-u-init c = search self_start
-
-pub returns-then-names_itself : goal.returns-then-names_itself
-returns-then-names_itself c = search self_stops
-
-pub loop-u-preserved : goal.loop-u-preserved
-loop-u-preserved c = search self_on
-
 pub returns : goal.returns
-returns c = search self_clear
+unfolding first_self_edge
+returns c =
+    let broken = λ (u : ℕ). edge (edge_columns [] c.args.first.now c.args.second.now) u u in
+    found_first (length c.args.first.now) broken _
+    (first_from_Range _ _ _ _ (λ (i : ℕ). broken i ≡ true) (λ (i : ℕ). broken i ≡ false) c.find.ensures.ran (λ x q h. search rules) (λ x q h. search rules))

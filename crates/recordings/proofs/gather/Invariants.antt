@@ -1,5 +1,4 @@
-use Prim.Native.Nat.{◌-◌}
-use lib.ListN.{length}
+use Rattle.std.proofs.Common.{◌-◌, length}
 use Rattle.recordings.proofs.Gathering.{Turn}
 use Rattle.recordings.proofs.gather.Given as goal
 

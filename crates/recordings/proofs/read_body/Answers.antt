@@ -1,20 +1,6 @@
-use Rattle.recordings.proofs.Gathering.{count_long, count_part, count_fits, text_filled, text_bad, text_full}
+use Rattle.recordings.proofs.Gathering.{text_faulted}
+use Rattle.std.proofs.lemmas.Result.{err_from_is_err_and}
 use Rattle.recordings.proofs.read_body.Goals as goal
 
-pub slice_bounds-fill-end : goal.slice_bounds-fill-end
-slice_bounds-fill-end c = search count_long
-
-pub slice_bounds-fill-end-in-Count : goal.slice_bounds-fill-end-in-Count
-slice_bounds-fill-end-in-Count c = search count_part
-
-pub fill-requires : goal.fill-requires
-fill-requires c = search count_fits
-
-pub returns-in-Count : goal.returns-in-Count
-returns-in-Count c = search text_filled
-
-pub returns-in-Word : goal.returns-in-Word
-returns-in-Word c = search text_bad
-
-pub returns-in-NoPlace : goal.returns-in-NoPlace
-returns-in-NoPlace c = search text_full
+pub returns-in_err-count : goal.returns-in_err-count
+returns-in_err-count c = let p = err_from_is_err_and c.from_residual.result c.from_residual.ensures.1 in rw (p.1, p.2) (text_faulted _ _ _ c.gather.new.found _ c.in_err-count.ensures)
