@@ -1,14 +1,5 @@
 -- The length of the whole text, and how the writer comes to its reply. Assumes nothing.
-use mathlib.Core.Path.{◌≡◌, refl, sym, ◌∙◌, ap, subst}
-use mathlib.Core.Bool.{Bool, true, false}
-use mathlib.Core.List.{List, [], ◌∷◌, ◌++◌, append_assoc}
-use Prim.Native.Nat.{ℕ, ◌+◌, ◌-◌, ◌*◌, ◌<◌, ◌≤◌}
-use native.Mathlib.Omega.{arith}
-use lib.Dec.{ltb}
-use lib.IntN.{ℤ}
-use lib.ListN.{length, length-append, drop}
-use lib.Seq.{take-length, take_at}
-use borrow.Author.Tests.{leb-true, leb-false, le-leb, lt-leb, lt-ltb, le-ltb}
+use Rattle.std.proofs.Common.{◌≡◌, refl, sym, ◌∙◌, ap, subst, Bool, true, false, List, [], ◌∷◌, ◌++◌, append_assoc, ℕ, ◌+◌, ◌-◌, ◌*◌, ◌<◌, ◌≤◌, arith, ltb, negsuc, Result, Ok, Err, length, length-append, drop, take_at, leb-true, leb-false, lt-ltb, le-ltb}
 use Rattle.lists.specs.Bytes.{bytes}
 use Rattle.wcet.specs.Table.{Routine, block_count}
 use Rattle.wcet.specs.Rules.{Reply, accepted, refused, Rule, check, structure_rules, undeclared_rule}
@@ -16,13 +7,10 @@ use Rattle.wcet.specs.Claim.{AllHold}
 use Rattle.wcet.proofs.Nesting.{nested}
 use Rattle.wcet.proofs.Replies.{append_all, decides, hands_on}
 use Rattle.loopsets.specs.Sets.{sets_around}
-use Rattle.nesting.specs.Columns.{routine}
-use Rattle.nesting.specs.Answers.{refusal, StructureChecked}
+use Rattle.nesting.specs.Answers.{refusal_of, refusal, StructureChecked}
 use Rattle.nesting.specs.declared.StructureFault.{StructureFault}
-use Rattle.nesting.specs.declared.Structure.TheVariants.{Broken}
-use Rattle.nesting.specs.declared.Structured.{Structured}
 use Rattle.nesting.proofs.Stages.{headed, innermost, linked}
-use Rattle.nesting.proofs.Chain.{none_left, refused_by, refusal_stands}
+use Rattle.nesting.proofs.Chain.{none_left, refusal_stands}
 use Rattle.order.specs.Ordering.{Ordering}
 use Rattle.order.specs.declared.Order.{Order}
 use Rattle.order.proofs.Orders.{declared, undeclared_decides, declared_hands_on}
@@ -31,13 +19,13 @@ use Rattle.mps.specs.Text.{digits_in, row_name, mps_text}
 use Rattle.mps.specs.Reply.{mps_rules, mps_reply, Exported}
 use Rattle.mps.proofs.Names.{row_named}
 use Rattle.mps.proofs.Routines.{reads_back, names_apart}
-use Rattle.cards.specs.Cards.{Space, Put, head, block_row, loop_row, card}
-use Rattle.writer.specs.declared.MpsReply.{MpsReply}
-use Rattle.writer.specs.declared.MpsReply.TheVariants.{Length, NoRoom}
+use Rattle.cards.specs.Cards.{head, block_row, loop_row, card}
+use Rattle.writer.specs.declared.MpsFault.{MpsFault}
+use Rattle.writer.specs.declared.MpsFault.TheVariants.{NoRoom}
 use Rattle.writer.specs.Answers.{mps_meaning}
-use Rattle.writer.specs.Pieces.{text_columns, Readable, loop_number, edge_to, span, line, rows_text, edges_text, EdgesLength, columns_text, rights_text, whole_text, fits, Landed}
+use Rattle.writer.specs.Pieces.{Readable, span, line, rows_text, edges_text, EdgesLength, rights_text, whole_text, fits, Landed}
 use Rattle.writer.proofs.Spans.{span_length}
-use Rattle.writer.proofs.Edges.{head_size, one_card}
+use Rattle.writer.proofs.Edges.{head_size, minus_card}
 use Rattle.writer.proofs.Whole.{whole_text_lem}
 
 -- ---- the length of the text
@@ -66,17 +54,17 @@ rights_length n =
     rw (
       length-append (entry ++ exit) (line "ENDATA"),
       length-append entry exit,
-      one_card (head (bytes "RHS") (row_name (block (n - 1)))) (head_size (bytes "RHS") (row_name (block (n - 1))) (omega arith) (row_named (block (n - 1))).size) true,
+      minus_card (head (bytes "RHS") (row_name (block (n - 1)))) (head_size (bytes "RHS") (row_name (block (n - 1))) (omega arith) (row_named (block (n - 1))).size),
     )
   where
     entry : List ℕ
     entry = line "RHS" ++ line "    RHS       B0000     1"
 
     exit : List ℕ
-    exit = card (head (bytes "RHS") (row_name (block (n - 1)))) true 1
+    exit = card (head (bytes "RHS") (row_name (block (n - 1)))) (negsuc 0)
 
 pub whole_length : (sets : List ℕ) (t : Routine) (k : ℕ) → 0 < length t.headers → EdgesLength sets t k → k + (10 * block_count t + 8 * length t.headers) + 83 ≡ length (whole_text sets t)
-unfolding whole_text columns_text
+unfolding whole_text
 whole_length sets t k h L =
     rw (
       length-append (rows_text (block_count t) (length t.headers) ++ (line "COLUMNS" ++ edges_text sets t)) (rights_text (block_count t)),
@@ -84,20 +72,6 @@ whole_length sets t k h L =
       length-append (line "COLUMNS") (edges_text sets t),
       rights_length (block_count t),
     ) (omega (arith, L.exact, rows_length (block_count t) (length t.headers) h))
-
--- ---- measured first, then written
-
-pub no_room : (w d : List ℕ) (r : ℕ) → r ≡ length w → length d < r → Landed w d NoRoom d
-no_room w d r q h = let no : fits w d ≡ false = lt-leb (length w) (length d) (omega arith) in record { replied = rw no; held = rw no }
-
-pub room_there : (w d : List ℕ) (r : ℕ) → r ≡ length w → r ≤ length d → Space 0 w d
-room_there w d r q h = omega arith
-
-pub landed : (w d g : List ℕ) (r e : ℕ) → r ≡ length w → r ≤ length d → Put 0 w d e g → Landed w d (Length e) g
-landed w d g r e q h p =
-    let good : fits w d ≡ true = le-leb (length w) (length d) (omega arith) in
-    let z : 0 + length w ≡ length w = omega arith in
-    record { replied = rw (good, p.next, z); held = rw good (p.held ∙ rw (take-length w, z)) }
 
 -- ---- the reply
 
@@ -125,11 +99,10 @@ module _ (t : Routine) (before : List ℕ) where
       no_number q = subst is_refused q tt
 
   -- 201 to 207
-  pub structure_exported : (s : Structured) → StructureChecked t s → (f : StructureFault) → s.answer ≡ Broken f → Exported t before (refusal f) before
+  pub structure_exported : (f : StructureFault) → StructureChecked t (Err f) → Exported t before (refusal f) before
   unfolding mps_reply mps_rules
-  structure_exported s C f q =
-      let k = refused_by f in
-      rw (k.2 ℕ) (refused_exported k.0 k.1 (sym (k.2 ℕ) ∙ rw append_assoc (refusal_stands t s C f q (undeclared_rule t ∷ room_rule ∷ []) result)))
+  structure_exported f C =
+      refused_exported (refusal_of f).number (refusal_of f).place (rw append_assoc (refusal_stands t f C (undeclared_rule t ∷ room_rule ∷ []) result))
 
   module _ (h : AllHold (structure_rules t)) where
     -- 209, by the order of the blocks
@@ -166,42 +139,23 @@ module _ (t : Routine) (before : List ℕ) where
           same n q = ap number q
 
       -- 411, or the length
-      pub text_exported : (sets : List ℕ) → sets ≡ sets_around t.parents → (r : MpsReply) (after : List ℕ) → Landed (whole_text sets t) before r after → Exported t before (mps_meaning r) after
+      pub text_exported : (sets : List ℕ) → sets ≡ sets_around t.parents → (r : Result ℕ MpsFault) (after : List ℕ) → Landed (whole_text sets t) before r after → Exported t before (mps_meaning r) after
       text_exported sets e r after L = go (fits w before) refl (rw (e, whole_text_lem t h) at L)
         where
           go : (b : Bool) → fits w before ≡ b → Landed w before r after → Exported t before (mps_meaning r) after
           go true q L =
-              let p : r ≡ Length (length w) = L.replied ∙ rw q in
+              let p : r ≡ Ok (length w) = L.replied ∙ rw q in
               let k : after ≡ w ++ drop (length w) before = L.held ∙ rw q in
               rw (p, k) (written (leb-true (length w) (length before) q))
           go false q L =
-              let p : r ≡ NoRoom = L.replied ∙ rw q in
+              let p : r ≡ Err NoRoom = L.replied ∙ rw q in
               let k : after ≡ before = L.held ∙ rw q in
               rw (p, k) (too_long (leb-false (length w) (length before) q))
 
 -- ---- what the writer reads of the tables
 
-module _ (costs loops firsts seconds : List ℕ) (figures : List ℤ) (parents headers limits multipliers : List ℕ) where
-  abbrev tables : Routine
-  tables = routine costs loops firsts seconds figures parents headers limits multipliers
-
-  abbrev read : Routine
-  read = text_columns costs loops firsts seconds headers limits
-
-  pub readable : AllHold (structure_rules tables) → Readable read × (1 < length costs) × (0 < length headers)
-  readable h =
-      let R = (headed tables h).ranged in
-      let N = nested tables h in (
-        record {
-          limited = record { innermost = innermost tables R; sized = R.sized.limits ∙ sym R.sized.headers; least = λ l b. R.limit_least l (omega (arith, R.sized.headers)) };
-          linked = linked tables R;
-          loops = R.sized.loops;
-        },
-        N.two_blocks,
-        omega (arith, N.some_loop, R.sized.headers),
-      )
-
-  -- the other columns play no part in the text
-  pub same_text : (sets : List ℕ) → whole_text sets read ≡ whole_text sets tables
-  unfolding whole_text columns_text edges_text edge_to loop_number
-  same_text sets = refl
+pub readable : (t : Routine) → AllHold (structure_rules t) → Readable t
+readable t h =
+    let R = (headed t h).ranged in
+    let N = nested t h in
+    record { innermost = innermost t R; linked = linked t R; loops = R.sized.loops; limits = R.sized.limits ∙ sym R.sized.headers; blocks = N.two_blocks; headers = omega (arith, N.some_loop, R.sized.headers) }

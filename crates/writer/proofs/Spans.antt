@@ -1,12 +1,10 @@
 -- What is written for each of consecutive numbers: one more of them, the rest of them, and how long they are. Assumes nothing.
-use mathlib.Core.Path.{◌≡◌, refl, sym, ◌∙◌, ap}
-use mathlib.Core.List.{List, [], ◌++◌, flat_map, append_assoc, append-nil}
-use Prim.Native.Nat.{ℕ, zero, suc, ◌+◌, ◌-◌, ◌*◌, ◌<◌, ◌≤◌}
-use native.Mathlib.Omega.{arith}
-use lib.ListN.{length, length-append}
+use Rattle.std.proofs.Common.{◌≡◌, sym, ◌∙◌, ap, List, [], ◌++◌, append_assoc, append-nil, ℕ, zero, suc, ◌+◌, ◌-◌, ◌*◌, ◌<◌, ◌≤◌, arith, length, length-append}
+use mathlib.Core.List.{flat_map}
 use Rattle.mps.specs.Program.{numbers_from}
 use Rattle.cards.specs.Cards.{Space, Put}
-use Rattle.cards.proofs.Buffer.{space_first, space_second, put_both, put_none, put_length}
+use Rattle.cards.proofs.Buffer.{space_first, space_second, put_both, put_none}
+use Rattle.cards.specs.declared.Cursor.{Cursor}
 use Rattle.writer.specs.Pieces.{span}
 
 module _ (f : ℕ → List ℕ) where
@@ -55,34 +53,35 @@ module _ (f : ℕ → List ℕ) where
       go zero a h = omega arith
       go (suc k) a h = rw (length-append (f a) (flat_map f (numbers_from (suc a) k))) (omega (arith, h a (omega arith) (omega arith), go k (suc a) (λ i p q. h i (omega arith) (omega arith))))
 
--- what a loop has written when it comes to number i, of a to b
-pub record Filled (f : ℕ → List ℕ) (a b at : ℕ) (before : List ℕ) (next i : ℕ) (after : List ℕ) : Type 0 where
+-- what a loop from cursor c has put when it comes to number i, of a to b
+pub record Filled (f : ℕ → List ℕ) (a b : ℕ) (c : Cursor) (i : ℕ) (d : Cursor) : Type 0 where
   pub above : a ≤ i
   pub below : i ≤ b
-  pub room : Space at (span f a b) before
-  pub written : Put at (span f a i) before next after
-  pub same : length after ≡ length before
+  pub room : Space (span f a b) c
+  pub written : Put (span f a i) c d
 
-pub filled_none : (f : ℕ → List ℕ) (a b at : ℕ) (d : List ℕ) → a ≤ b → Space at (span f a b) d → Filled f a b at d at a d
-filled_none f a b at d l s = record { above = omega arith; below = l; room = s; written = rw (span_none f a) (put_none at d); same = refl }
+pub filled_none : (f : ℕ → List ℕ) (a b : ℕ) (c : Cursor) → a ≤ b → Space (span f a b) c → Filled f a b c a c
+filled_none f a b c l s = record { above = omega arith; below = l; room = s; written = rw (span_none f a) (put_none c) }
 
-module _ (f : ℕ → List ℕ) (a b at : ℕ) (d : List ℕ) (next i : ℕ) (out : List ℕ) (F : Filled f a b at d next i out) (l : i < b) where
-  up_to : Space at (span f a i ++ f i) d
-  up_to =
-      let s : Space at (span f a (i + 1) ++ span f (i + 1) b) d = rw (span_split f a (i + 1) b (omega (arith, F.above)) (omega arith)) at F.room in
-      rw (span_next f a i F.above) at (space_first at (span f a (i + 1)) (span f (i + 1) b) d s)
+module _ (f : ℕ → List ℕ) (a b : ℕ) (c : Cursor) (i : ℕ) (d : Cursor) (F : Filled f a b c i d) where
+  up_to : i < b → Space (span f a i ++ f i) c
+  up_to l =
+      let s : Space (span f a (i + 1) ++ span f (i + 1) b) c = rw (span_split f a (i + 1) b (omega (arith, F.above)) (omega arith)) at F.room in
+      rw (span_next f a i F.above) at (space_first (span f a (i + 1)) (span f (i + 1) b) c s)
 
-  pub filled_space : (w : List ℕ) → w ≡ f i → Space next w out
-  filled_space w q = rw q (space_second at (span f a i) (f i) d up_to F.written)
+  pub filled_space : i < b → Space (f i) d
+  filled_space l = space_second (span f a i) (f i) c (up_to l) F.written
 
-  pub filled_next : (w : List ℕ) → w ≡ f i → {r : ℕ} {e : List ℕ} → Put next w out r e → Filled f a b at d r (i + 1) e
-  filled_next w q p = record {
+  pub filled_next : i < b → {e : Cursor} → Put (f i) d e → Filled f a b c (i + 1) e
+  filled_next l p = record {
     above = omega (arith, F.above);
     below = omega arith;
     room = F.room;
-    written = rw (span_next f a i F.above) (put_both at (span f a i) (f i) d up_to F.written (rw q at p));
-    same = put_length next w out (filled_space w q) p ∙ F.same;
+    written = rw (span_next f a i F.above) (put_both (span f a i) (f i) c (up_to l) F.written p);
   }
 
-pub filled_all : (f : ℕ → List ℕ) (a b at : ℕ) (d : List ℕ) (next i : ℕ) (out : List ℕ) → Filled f a b at d next i out → b ≤ i → Put at (span f a b) d next out
-filled_all f a b at d next i out F l = let e : i ≡ b = omega (arith, F.below) in rw e at F.written
+  pub filled_skip : i < b → f i ≡ [] → Filled f a b c (i + 1) d
+  filled_skip l q = filled_next l (rw q (put_none d))
+
+  pub filled_all : b ≤ i → Put (span f a b) c d
+  filled_all l = let e : i ≡ b = omega (arith, F.below) in rw e at F.written

@@ -1,19 +1,10 @@
 -- The pieces that the code writes are the text. Assumes nothing.
-use mathlib.Core.Path.{◌≡◌, refl, sym, ◌∙◌, ap}
-use mathlib.Core.Bool.{Bool, true, false, cond, not}
-use mathlib.Core.List.{List, [], ◌∷◌, ◌++◌, map, flat_map, flatten, append_assoc, append-nil}
-use Prim.Native.Nat.{ℕ, zero, suc, ◌+◌, ◌-◌, ◌*◌, ◌<◌, ◌≤◌}
-use native.Mathlib.Omega.{arith}
-use lib.Dec.{eqb, ltb}
-use borrow.Author.Tests.{eqb-true, eqb-false, ne_eqb, eq-eqb, le-ltb}
-use lib.IntN.{ℤ, pos, negsuc, neg_ℤ, ◌-ℤ◌}
-use lib.ListN.{length, replicate}
+use Rattle.std.proofs.Common.{◌≡◌, refl, sym, ◌∙◌, ap, Bool, true, false, cond, not, List, [], ◌∷◌, ◌++◌, map, append_assoc, append-nil, ℕ, zero, suc, ◌+◌, ◌-◌, ◌*◌, ◌<◌, ◌≤◌, arith, eqb, ltb, ℤ, pos, negsuc, neg_ℤ, length, replicate}
+use mathlib.Core.List.{flat_map, flatten}
 use Rattle.limits.specs.Limits.{most_loops}
-use Rattle.lists.specs.Search.{when◌then◌else◌}
 use Rattle.lists.specs.Bytes.{bytes}
-use Rattle.integers.proofs.Laws.{ints, diff}
 use Rattle.digits.specs.Decimal.{numeral_in, numeral_of, integer_of}
-use Rattle.wcet.specs.Table.{Routine, block_count, loop_count, exit, missing, edge, cost, loop_of, header, limit, inside}
+use Rattle.wcet.specs.Table.{Routine, block_count, loop_count, exit, missing, edge, cost, loop_of, inside}
 use Rattle.wcet.specs.Rules.{structure_rules}
 use Rattle.wcet.specs.Claim.{AllHold}
 use Rattle.wcet.proofs.Nesting.{Nested, nested}
@@ -25,8 +16,7 @@ use Rattle.mps.specs.Mps.{Bytes}
 use Rattle.mps.specs.Text.{digits_in, row_name, edge_name, filled, row_line, entry_line, column_lines, lines_in, text_of, mps_text}
 use Rattle.mps.proofs.Routines.{edge_there}
 use Rattle.cards.specs.Cards.{head, block_row, loop_row, card}
-use Rattle.writer.specs.declared.Signed.{Signed}
-use Rattle.writer.specs.Pieces.{loop_number, edge_to, edge_of, pair_text, ends_text, edge_text, span, line, rows_text, edges_text, columns_text, rights_text, whole_text}
+use Rattle.writer.specs.Pieces.{loop_number, edge_to, edge_of, ends_text, edge_text, lines_of, span, line, rows_text, edges_text, rights_text, whole_text}
 use Rattle.writer.proofs.Short.{entry_in, plus, minus, block_entries, short_column, short_right}
 
 -- ---- lines with their ends
@@ -59,10 +49,6 @@ head_onto name row w =
     ∙ ap (λ (s : Bytes). filled name [] ++ s) (sym (filled_onto row w))
     ∙ sym (filled_onto name (filled row w)))
 
--- the number of this sign and size
-abbrev signed : Bool → ℕ → ℤ
-signed negative n = when negative then neg_ℤ (pos n) else pos n
-
 -- the lines of some entries, each with its end
 abbrev entry_lines : Bytes → List (Entry RowName) → Bytes
 entry_lines name xs = ended (map (entry_line name) xs)
@@ -77,38 +63,38 @@ module _ (name : Bytes) (r : RowName) where
   unfolding entry_line
   one_line w x q = rw q (ap (λ (s : Bytes). s ++ 10 ∷ []) (sym (head_onto name (row_name r) w)))
 
-  card_line : (negative : Bool) (n : ℕ) → entry_lines name (entry_in r (signed negative n)) ≡ card (head name (row_name r)) negative n
-  unfolding card flat_map integer_of
-  card_line true zero = refl
-  card_line true (suc n) = rw (ne_eqb (suc n) 0 (λ z. omega arith)) (append-nil _ ∙ one_line (45 ∷ numeral_of (suc n)) (negsuc n) refl)
-  card_line false zero = refl
-  card_line false (suc n) = rw (ne_eqb (suc n) 0 (λ z. omega arith)) (append-nil _ ∙ one_line (numeral_of (suc n)) (pos (suc n)) refl)
+  card_line : (x : ℤ) → entry_lines name (entry_in r x) ≡ card (head name (row_name r)) x
+  unfolding card flat_map
+  card_line (pos zero) = refl
+  card_line (pos (suc n)) = append-nil _ ∙ one_line (integer_of (pos (suc n))) (pos (suc n)) refl
+  card_line (negsuc n) = append-nil _ ∙ one_line (integer_of (negsuc n)) (negsuc n) refl
 
 -- ---- an edge's lines
 
 ends_lines : (e u v : ℕ) → entry_lines (edge_name e) (block_entries u v) ≡ ends_text e u v
-unfolding block_entries ends_text pair_text flat_map
+unfolding block_entries ends_text flat_map
 ends_lines e u v = go (ltb u v) (ltb v u)
   where
-    up : (b : ℕ) → entry_line (edge_name e) (plus b) ++ 10 ∷ [] ≡ card (head (edge_name e) (row_name (block b))) false 1
-    up b = sym (append-nil _) ∙ card_line (edge_name e) (block b) false 1
+    up : ℕ → Bytes
+    up b = card (head (edge_name e) (row_name (block b))) (pos 1)
 
-    down : (b : ℕ) → entry_line (edge_name e) (minus b) ++ 10 ∷ [] ≡ card (head (edge_name e) (row_name (block b))) true 1
-    down b = sym (append-nil _) ∙ card_line (edge_name e) (block b) true 1
+    down : ℕ → Bytes
+    down b = card (head (edge_name e) (row_name (block b))) (negsuc 0)
 
-    go : (a b : Bool) → entry_lines (edge_name e) (cond a (plus u ∷ minus v ∷ []) (cond b (minus v ∷ plus u ∷ []) [])) ≡ cond a (pair_text e u v false) (cond b (pair_text e v u true) [])
-    go true b = rw (append-nil, up u, down v)
-    go false true = rw (append-nil, up u, down v)
+    plus_line : (b : ℕ) → entry_line (edge_name e) (plus b) ++ 10 ∷ [] ≡ up b
+    plus_line b = sym (append-nil _) ∙ card_line (edge_name e) (block b) (pos 1)
+
+    minus_line : (b : ℕ) → entry_line (edge_name e) (minus b) ++ 10 ∷ [] ≡ down b
+    minus_line b = sym (append-nil _) ∙ card_line (edge_name e) (block b) (negsuc 0)
+
+    go : (a b : Bool) → entry_lines (edge_name e) (cond a (plus u ∷ minus v ∷ []) (cond b (minus v ∷ plus u ∷ []) [])) ≡ cond a (up u ++ down v) (cond b (down v ++ up u) [])
+    go true b = rw (append-nil, plus_line u, minus_line v)
+    go false true = rw (append-nil, plus_line u, minus_line v)
     go false false = refl
 
 entry_line_lem : entry_lines (bytes "RHS") (plus 0 ∷ []) ≡ line "    RHS       B0000     1"
 unfolding flat_map entry_line filled row_name digits_in integer_of numeral_of numeral_in
 entry_line_lem = refl
-
-limit_signed : (b : ℕ) → 1 ≤ b → pos 1 -ℤ pos b ≡ neg_ℤ (pos (b - 1))
-limit_signed zero h = absurd (omega arith)
-limit_signed (suc zero) h = refl
-limit_signed (suc (suc k)) h = let e : suc (suc k) - 1 ≡ suc k = omega arith in rw e (omega (ints, diff (pos 1) (pos (suc (suc k)))))
 
 module _ (t : Routine) (h : AllHold (structure_rules t)) where
   N : Nested t
@@ -117,30 +103,24 @@ module _ (t : Routine) (h : AllHold (structure_rules t)) where
   abbrev sets : List ℕ
   sets = sets_around t.parents
 
-  cost_signed : (u v : ℕ) → number t u v objective ≡ signed true (cost t v)
-  unfolding number
-  cost_signed u v = refl
-
   few : loop_count t ≤ most_loops
   few = (headed t h).ranged.sized.few_loops
 
-  loop_signed : (u v : ℕ) → u < block_count t → v < block_count t
-      → number t u v (loop (loop_of t v)) ≡ signed (loop_number sets t u v).negative (loop_number sets t u v).size
+  -- by the loop sets
+  loop_lem : (u v : ℕ) → u < block_count t → v < block_count t → number t u v (loop (loop_of t v)) ≡ loop_number sets t u v
   unfolding number loop_number inside
-  loop_signed u v p q = rw (member_around t.parents sets refl few (loop_of t u) (loop_of t v) (N.innermost u p) (omega (arith, few, N.innermost v q))) (go (eqb (header t (loop_of t v)) v) (inside t u (loop_of t v)))
-    where
-      go : (e i : Bool) → cond (not e) (pos 0) (cond i (pos 1) (pos 1 -ℤ pos (limit t (loop_of t v))))
-          ≡ (let x : Signed = cond (not e) (record { negative = false; size = 0 }) (cond i (record { negative = false; size = 1 }) (record { negative = true; size = limit t (loop_of t v) - 1 })) in signed x.negative x.size)
-      go false i = refl
-      go true true = refl
-      go true false = limit_signed (limit t (loop_of t v)) (N.limit_least (loop_of t v) (N.innermost v q))
+  loop_lem u v p q = rw (member_around t.parents sets refl few (loop_of t u) (loop_of t v) (N.innermost u p) (omega (arith, few, N.innermost v q)))
+
+  cost_line : (e u v : ℕ) → entry_lines (edge_name e) (entry_in objective (number t u v objective)) ≡ card (head (edge_name e) (row_name objective)) (neg_ℤ (pos (cost t v)))
+  unfolding number
+  cost_line e u v = card_line (edge_name e) objective (neg_ℤ (pos (cost t v)))
 
   -- an edge that is there
-  edge_lines : (u v : ℕ) (e : ℕ) → source e ≡ u → u < block_count t → (v ≡ missing → ⊥) → edge t u v ≡ true
+  edge_lines : (u v : ℕ) (e : ℕ) → source e ≡ u → u < block_count t → edge t u v ≡ true
       → entry_lines (edge_name e) (entries_of (number t u v) (rows_of t)) ≡ edge_text (edge_to sets t e v)
   unfolding edge_text edge_to
-  edge_lines u v e s p ne there =
-      rw (short_column t N u v p there, s, ne_eqb v missing ne)
+  edge_lines u v e s p there =
+      rw (short_column t N u v p there, s)
       (lines_append name (entry_in objective (number t u v objective)) (block_entries u v ++ entry_in (loop l) (number t u v (loop l)))
       ∙ rw (lines_append name (block_entries u v) (entry_in (loop l) (number t u v (loop l))), cost_lines, ends_lines e u v, loop_lines)
       (sym (append_assoc cost_card (ends_text e u v) loop_card)))
@@ -152,26 +132,21 @@ module _ (t : Routine) (h : AllHold (structure_rules t)) where
       l = loop_of t v
 
       cost_card : Bytes
-      cost_card = card (head (edge_name e) (row_name objective)) true (cost t v)
+      cost_card = card (head (edge_name e) (row_name objective)) (neg_ℤ (pos (cost t v)))
 
       loop_card : Bytes
-      loop_card = card (head (edge_name e) (row_name (loop (loop_of t v)))) (loop_number sets t u v).negative (loop_number sets t u v).size
+      loop_card = card (head (edge_name e) (row_name (loop (loop_of t v)))) (loop_number sets t u v)
 
       cost_lines : entry_lines name (entry_in objective (number t u v objective)) ≡ cost_card
-      cost_lines = rw (cost_signed u v) (card_line (edge_name e) objective true (cost t v))
+      cost_lines = cost_line e u v
 
       loop_lines : entry_lines name (entry_in (loop l) (number t u v (loop l))) ≡ loop_card
-      loop_lines = rw (loop_signed u v p (N.target u v p there)) (card_line (edge_name e) (loop l) (loop_number sets t u v).negative (loop_number sets t u v).size)
-
-  -- one that is missing has no line
-  pub no_lines : (e v : ℕ) → v ≡ missing → edge_text (edge_to sets t e v) ≡ []
-  unfolding edge_text edge_to ends_text card
-  no_lines e v m = rw (eq-eqb v missing m, le-ltb (source e) (source e) (omega arith))
+      loop_lines = rw (loop_lem u v p (N.target u v p there)) (card_line (edge_name e) (loop l) (loop_number sets t u v))
 
   -- ---- the columns
 
   abbrev lines_at : ℕ → Bytes
-  lines_at e = edge_text (edge_of sets t e)
+  lines_at e = lines_of (edge_of sets t e)
 
   abbrev there : ℕ → Bool
   there e = not (eqb (target t e) missing)
@@ -186,10 +161,10 @@ module _ (t : Routine) (h : AllHold (structure_rules t)) where
 
       go : (b : Bool) → eqb (target t a) missing ≡ b → ended (flat_map column_lines (map (column_of t) rest)) ≡ flat_map lines_at (numbers_from (suc a) k)
           → ended (flat_map column_lines (map (column_of t) (cond (not b) (a ∷ rest) rest))) ≡ lines_at a ++ flat_map lines_at (numbers_from (suc a) k)
-      go true q ih = rw (no_lines a (target t a) (eqb-true (target t a) missing q)) ih
+      go true q ih = rw q ih
       go false q ih =
           flat_append (λ l. l ++ 10 ∷ []) (column_lines (column_of t a)) (flat_map column_lines (map (column_of t) rest))
-          ∙ rw (ih, edge_lines (source a) (target t a) a refl (omega arith) (eqb-false (target t a) missing q) (edge_there t a (rw q)))
+          ∙ rw (ih, edge_lines (source a) (target t a) a refl (omega arith) (edge_there t a (rw q)), q)
 
   -- ---- the rows
 
@@ -217,8 +192,8 @@ module _ (t : Routine) (h : AllHold (structure_rules t)) where
 
   -- ---- the right side
 
-  right_lines : entry_lines (bytes "RHS") (entries_of (right_side t) (rows_of t)) ≡ line "    RHS       B0000     1" ++ card (head (bytes "RHS") (row_name (block (block_count t - 1)))) true 1
-  right_lines = rw (short_right t N.two_blocks) (lines_append (bytes "RHS") (plus 0 ∷ []) (minus (exit t) ∷ []) ∙ rw (entry_line_lem, card_line (bytes "RHS") (block (exit t)) true 1))
+  right_lines : entry_lines (bytes "RHS") (entries_of (right_side t) (rows_of t)) ≡ line "    RHS       B0000     1" ++ card (head (bytes "RHS") (row_name (block (block_count t - 1)))) (negsuc 0)
+  right_lines = rw (short_right t N.two_blocks) (lines_append (bytes "RHS") (plus 0 ∷ []) (minus (exit t) ∷ []) ∙ rw (entry_line_lem, card_line (bytes "RHS") (block (exit t)) (negsuc 0)))
 
   -- ---- the whole
 
@@ -232,7 +207,7 @@ module _ (t : Routine) (h : AllHold (structure_rules t)) where
   edges = flat_map lines_at (numbers_from 0 (2 * block_count t))
 
   abbrev exit_card : Bytes
-  exit_card = card (head (bytes "RHS") (row_name (block (block_count t - 1)))) true 1
+  exit_card = card (head (bytes "RHS") (row_name (block (block_count t - 1)))) (negsuc 0)
 
   abbrev behind : Bytes
   behind = (line "RHS" ++ line "    RHS       B0000     1") ++ exit_card ++ line "ENDATA"
@@ -265,7 +240,7 @@ module _ (t : Routine) (h : AllHold (structure_rules t)) where
 
   -- THEOREM: the pieces that the code writes are the text.
   pub whole_text_lem : whole_text sets t ≡ mps_text t
-  unfolding whole_text rows_text columns_text rights_text edges_text span
+  unfolding whole_text rows_text rights_text edges_text span
   whole_text_lem =
       let n : block_count t - 0 ≡ block_count t = omega arith in
       let e : 2 * block_count t - 0 ≡ 2 * block_count t = omega arith in

@@ -1,19 +1,15 @@
+use Rattle.std.proofs.Common.{arith}
 use Rattle.writer.proofs.Spans.{filled_none, filled_space, filled_next, filled_all}
-use borrow.Author.Rules.{rules}
 use Rattle.writer.proofs.put_block_rows.Goals as goal
 
--- src/lib.rt:278:5
 pub loop-u-init : goal.loop-u-init
-loop-u-init c = search (rules, filled_none)
+loop-u-init c = filled_none _ _ _ c.args.out.now (omega arith) c.requires
 
--- src/lib.rt:280:9
-pub put-next-requires : goal.put-next-requires
-put-next-requires c = search (rules, filled_space)
+pub put-requires : goal.put-requires
+put-requires c = rw c.block_row.ensures (filled_space _ _ _ c.args.out.now _ _ c.loop-u.invariant (omega arith))
 
--- src/lib.rt:278:5
 pub loop-u-preserved : goal.loop-u-preserved
-loop-u-preserved c = search (rules, filled_next)
+loop-u-preserved c = filled_next _ _ _ c.args.out.now _ _ c.loop-u.invariant (omega arith) (rw c.block_row.ensures at c.put.ensures)
 
--- src/lib.rt:272:1
 pub returns : goal.returns
-returns c = search (rules, filled_all)
+returns c = filled_all _ _ _ c.args.out.now _ _ c.loop-u.invariant (omega arith)

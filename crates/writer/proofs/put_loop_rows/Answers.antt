@@ -1,19 +1,15 @@
+use Rattle.std.proofs.Common.{arith}
 use Rattle.writer.proofs.Spans.{filled_none, filled_space, filled_next, filled_all}
-use borrow.Author.Rules.{rules}
 use Rattle.writer.proofs.put_loop_rows.Goals as goal
 
--- src/lib.rt:292:5
 pub loop-l-init : goal.loop-l-init
-loop-l-init c = search (rules, filled_none)
+loop-l-init c = filled_none _ _ _ c.args.out.now (omega arith) c.requires.1
 
--- src/lib.rt:294:9
-pub put-next-requires : goal.put-next-requires
-put-next-requires c = search (rules, filled_space)
+pub put-requires : goal.put-requires
+put-requires c = rw c.loop_row.ensures (filled_space _ _ _ c.args.out.now _ _ c.loop-l.invariant (omega arith))
 
--- src/lib.rt:292:5
 pub loop-l-preserved : goal.loop-l-preserved
-loop-l-preserved c = search (rules, filled_next)
+loop-l-preserved c = filled_next _ _ _ c.args.out.now _ _ c.loop-l.invariant (omega arith) (rw c.loop_row.ensures at c.put.ensures)
 
--- src/lib.rt:286:1
 pub returns : goal.returns
-returns c = search (rules, filled_all)
+returns c = filled_all _ _ _ c.args.out.now _ _ c.loop-l.invariant (omega arith)

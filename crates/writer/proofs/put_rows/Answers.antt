@@ -1,19 +1,24 @@
-use Rattle.writer.proofs.Pieces.{space_top, space_block_rows, space_loop_rows, put_rows}
-use borrow.Author.Rules.{rules}
+use Rattle.std.proofs.Common.{ℕ, List, ◌++◌}
+use Rattle.cards.specs.Cards.{block_row, loop_row}
+use Rattle.writer.specs.Pieces.{line, span, rows_text}
+use Rattle.writer.proofs.Pieces.{three_first, three_second, three_third, three_all}
 use Rattle.writer.proofs.put_rows.Goals as goal
 
--- src/lib.rt:305:9
-pub put-next-requires : goal.put-next-requires
-put-next-requires c = search (rules, space_top)
+abbrev top : List ℕ
+top = line "NAME" ++ line "ROWS" ++ line " N  COST"
 
--- src/lib.rt:306:9
-pub put_block_rows-next-requires : goal.put_block_rows-next-requires
-put_block_rows-next-requires c = search (rules, space_block_rows)
+pub put-requires : goal.put-requires
+unfolding rows_text
+put-requires c = three_first top (span block_row 0 c.args.n) (span loop_row 1 c.args.m) c.args.out.now c.requires.1
 
--- src/lib.rt:307:5
+pub put_block_rows-requires : goal.put_block_rows-requires
+unfolding rows_text
+put_block_rows-requires c = three_second top (span block_row 0 c.args.n) (span loop_row 1 c.args.m) c.args.out.now c.requires.1 c.put.ensures
+
 pub put_loop_rows-requires : goal.put_loop_rows-requires
-put_loop_rows-requires c = (search rules, search (rules, space_loop_rows))
+unfolding rows_text
+put_loop_rows-requires c = (c.requires.0, three_third top (span block_row 0 c.args.n) (span loop_row 1 c.args.m) c.args.out.now c.requires.1 c.put.ensures c.put_block_rows.ensures)
 
--- src/lib.rt:301:1
 pub returns : goal.returns
-returns c = search (rules, put_rows)
+unfolding rows_text
+returns c = three_all top (span block_row 0 c.args.n) (span loop_row 1 c.args.m) c.args.out.now c.requires.1 c.put.ensures c.put_block_rows.ensures c.put_loop_rows.ensures

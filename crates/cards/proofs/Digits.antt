@@ -1,0 +1,31 @@
+-- The last digits of a number, put into a line from the last place on. Assumes nothing.
+use Rattle.std.proofs.Common.{◌≡◌, ℕ, zero, suc, ◌+◌, ◌-◌, ◌/◌, ◌%◌, ◌<◌, ◌≤◌, List, [], ◌∷◌, ◌++◌, length, take, drop, refl, sym, ◌∙◌, ap, arith, append_assoc, set}
+use Rattle.std.proofs.Math.Seq.{paste}
+use Rattle.std.proofs.lemmas.List.{take_all, take-set-le, drop-set, take-append-drop}
+use Rattle.mps.specs.Text.{digits_in}
+use Rattle.mps.proofs.Names.{length_digits}
+
+digits_onto : (k n : ℕ) (s : List ℕ) → digits_in k n s ≡ digits_in k n [] ++ s
+unfolding digits_in
+digits_onto zero n s = refl
+digits_onto (suc k) n s = digits_onto k (n / 10) ((48 + n % 10) ∷ s) ∙ sym (append_assoc (digits_in k (n / 10) []) ((48 + n % 10) ∷ []) s) ∙ ap (λ (t : List ℕ). t ++ s) (sym (digits_onto k (n / 10) ((48 + n % 10) ∷ [])))
+
+pub digits_none : (line : List ℕ) (at k n : ℕ) → take at line ++ digits_in (at + k - at) n (drop (at + k) line) ≡ paste line at (digits_in k n []) k
+digits_none line at k n =
+    let z : at + k - at ≡ k = omega arith in
+    let all : take k (digits_in k n []) ≡ digits_in k n [] = take_all k (digits_in k n []) (omega (arith, length_digits k n [])) in
+    rw (z, digits_onto k n (drop (at + k) line), all) (sym (append_assoc (take at line) (digits_in k n []) (drop (at + k) line)))
+
+pub digits_next : (out : List ℕ) (at j rest : ℕ) → at < j → j ≤ length out
+    → take at (set out (j - 1) (48 + rest % 10)) ++ digits_in (j - 1 - at) (rest / 10) (drop (j - 1) (set out (j - 1) (48 + rest % 10))) ≡ take at out ++ digits_in (j - at) rest (drop j out)
+unfolding digits_in
+digits_next out at j rest p q =
+    let front : at ≤ j - 1 = omega arith in
+    let inside : j - 1 < length out = omega arith in
+    let z : j - 1 + 1 ≡ j = omega arith in
+    let more : j - at ≡ suc (j - 1 - at) = omega arith in
+    rw (take-set-le at out (j - 1) (48 + rest % 10), drop-set out (j - 1) (48 + rest % 10), z, more)
+
+pub digits_all : (out : List ℕ) (at j rest : ℕ) (all : List ℕ) → j ≡ at → take at out ++ digits_in (j - at) rest (drop j out) ≡ all → out ≡ all
+unfolding digits_in
+digits_all out at j rest all q e = let z : at - at ≡ 0 = omega arith in sym (take-append-drop at out) ∙ rw (q, z) at e
