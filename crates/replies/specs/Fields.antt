@@ -1,11 +1,12 @@
 -- The one reply of the C library: its four numbers from each answer of the papers.
-use Rattle.std.specs.Prelude.{ℕ, ◌^◌, ◌<◌, ℤ, pos, ◌<ℤ◌}
+use Rattle.std.specs.Prelude.{ℕ, ◌^◌, ◌<◌, ℤ, pos, ◌<ℤ◌, Result, Ok, Err}
 use Rattle.wcet.specs.Rules.{Reply as Answer, accepted, refused}
 use Rattle.wcet.specs.Walk.{Walked}
 use Rattle.csv_text.specs.declared.Ending.{Ending}
 use Rattle.csv_text.specs.declared.Ending.TheVariants.{CrLf, Lf, EndOfText}
-use Rattle.tables.specs.declared.ReadReply.{ReadReply}
-use Rattle.tables.specs.declared.ReadReply.TheVariants.{Rows, Refused}
+use Rattle.tables.specs.Table.{read_number, read_place}
+use Rattle.tables.specs.declared.Rows.{Rows}
+use Rattle.tables.specs.declared.ReadFault.{ReadFault}
 use Rattle.replies.specs.declared.Reply.{Reply}
 
 -- number 0 is acceptance
@@ -37,9 +38,9 @@ ending_number CrLf = 0
 ending_number Lf = 1
 ending_number EndOfText = 2
 
-abbrev pub of_reading : ReadReply → Reply
-of_reading (Rows k ending) = acceptance (pos k) (ending_number ending)
-of_reading (Refused n p) = refusing n p
+abbrev pub of_reading : Result Rows ReadFault → Reply
+of_reading (Ok rows) = acceptance (pos rows.count) (ending_number rows.ending)
+of_reading (Err fault) = refusing (read_number fault) (read_place fault)
 
 -- numbers that fit their widths: for functions that are no public entry
 pub record PlaceFits (r : Reply) : Type 0 where

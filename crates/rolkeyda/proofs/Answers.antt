@@ -17,42 +17,48 @@ use Rattle.wcet.proofs.Walks.{walks_exactly}
 use Rattle.nesting.specs.Answers.{refusal}
 use Rattle.nesting.specs.declared.StructureFault.{StructureFault}
 use Rattle.nesting.specs.declared.StructureFault.TheVariants.{Sizes, Loop, Block, Header, Depth, EntryOrExit, PastHeader}
+use Rattle.std.specs.Prelude.{Result, Ok, Err}
 use Rattle.certificate.specs.Answers.{table_meaning}
-use Rattle.certificate.specs.declared.TableReply.{TableReply}
-use Rattle.certificate.specs.declared.TableReply.TheVariants as table
+use Rattle.certificate.specs.declared.TableFault.{TableFault}
+use Rattle.certificate.specs.declared.TableFault.TheVariants as table
 use Rattle.optimum.specs.Replies.{solve_reply, figures_after, multipliers_after, Optimum, Solved}
 use Rattle.shortest.specs.Answers.{shortest_meaning}
-use Rattle.shortest.specs.declared.ShortestReply.{ShortestReply}
-use Rattle.shortest.specs.declared.ShortestReply.TheVariants as shortest
+use Rattle.shortest.specs.declared.ShortestFault.{ShortestFault}
+use Rattle.shortest.specs.declared.ShortestFault.TheVariants as shortest
 use Rattle.solver.specs.Answers.{solve_meaning}
-use Rattle.solver.specs.declared.SolveReply.{SolveReply}
-use Rattle.solver.specs.declared.SolveReply.TheVariants as solve
+use Rattle.solver.specs.declared.SolveFault.{SolveFault}
+use Rattle.solver.specs.declared.SolveFault.TheVariants as solve
 use Rattle.mps.specs.Reply.{mps_reply, buffer_after, Exported}
 use Rattle.writer.specs.Answers.{mps_meaning}
-use Rattle.writer.specs.declared.MpsReply.{MpsReply}
-use Rattle.writer.specs.declared.MpsReply.TheVariants as mps
+use Rattle.writer.specs.declared.MpsFault.{MpsFault}
+use Rattle.writer.specs.declared.MpsFault.TheVariants as mps
 use Rattle.wcet.specs.Tally.{tally_reply, stays_after, greatest_after, Tallied}
 use Rattle.tally.specs.Tally.{meaning as tallyMeaning}
-use Rattle.tally.specs.declared.TallyReply.{TallyReply}
-use Rattle.tally.specs.declared.TallyReply.TheVariants as tally
+use Rattle.tally.specs.declared.TallyFault.{TallyFault}
+use Rattle.tally.specs.declared.TallyFault.TheVariants as tally
 use Rattle.vcd.specs.Recording.{recording_reply, counted, Recorded}
 use Rattle.recordings.specs.Answers.{vcd_meaning}
-use Rattle.recordings.specs.declared.VcdReply.{VcdReply}
+use Rattle.recordings.specs.declared.VcdFault.{VcdFault}
 use Rattle.walk.specs.Reply.{meaning}
-use Rattle.walk.specs.declared.WalkReply.{WalkReply}
-use Rattle.walk.specs.declared.WalkReply.TheVariants as walk
+use Rattle.walk.specs.declared.Walked.{Walked as WalkedValues}
+use Rattle.stepping.specs.Step.{run_refusal}
+use Rattle.stepping.specs.declared.RunFault.{RunFault}
+use Rattle.stepping.specs.declared.RunFault.TheVariants as run
+use Rattle.walk.specs.declared.WalkFault.{WalkFault}
+use Rattle.walk.specs.declared.WalkFault.TheVariants as walk
 use Rattle.tables.specs.Columns.{BlockColumns, LoopColumns, shortest_block, shortest_loop, BlocksRead, LoopsRead}
 use Rattle.tables.specs.Table.{block_table, loop_table}
 use Rattle.tables.proofs.Whole.{blocks_short, loops_short}
 use Rattle.limits.specs.Limits.{most_blocks, most_loops}
-use Rattle.tables.specs.declared.ReadReply.{ReadReply}
+use Rattle.tables.specs.declared.Rows.{Rows}
+use Rattle.tables.specs.declared.ReadFault.{ReadFault}
 use Rattle.replies.specs.declared.Reply.{Reply}
 use Rattle.replies.specs.Fields.{of_tables, of_count, of_walk, of_reading, PlaceFits, ValueFits}
-use Rattle.replies.proofs.Answers.{same_fault, same_count_fault}
+use Rattle.replies.proofs.Answers.{same_fault, same_count_fault, same_run}
 use Rattle.rolkeyda.specs.Replies.{TablesReplied, CertificateReplied, TablesSolved, TextReplied, WalkReplied, RecordingReplied, DumpReplied, BlocksReplied, LoopsReplied}
 use Rattle.rolkeyda.proofs.Ranges.{Small, table_place, shortest_place, solve_place, text_place, text_length, walk_place, Finished, walk_finished, tally_place, tally_steps, vcd_place, vcd_count, reading_small}
 
--- ---- 201 to 207
+-- ---- 201 to 207, and 301 to 314
 
 -- the number of a fault is not 0
 fault_number : (f : StructureFault) → (of_tables (refusal f)).number ≡ 0 → ⊥
@@ -64,6 +70,15 @@ fault_number (Depth l) e = omega arith
 fault_number (EntryOrExit u) e = omega arith
 fault_number (PastHeader u) e = omega arith
 
+-- the number of a run's fault is not 0
+run_number : (f : RunFault) → (of_count (run_refusal f)).number ≡ 0 → ⊥
+run_number run.Length e = omega arith
+run_number (run.NoBlock i) e = omega arith
+run_number run.NotEntry e = omega arith
+run_number (run.AfterExit i) e = omega arith
+run_number (run.NoEdge i) e = omega arith
+run_number (run.Unfinished n) e = omega arith
+
 -- ---- tables
 
 -- a place that is at most the longest walk fits
@@ -71,39 +86,39 @@ place_fits : (x y : Answer ℤ) → x ≡ y → ((n p : ℕ) → y ≡ refused n
 place_fits (accepted b) y e most = record { place = omega arith }
 place_fits (refused n p) y e most = record { place = omega (arith, most n p (sym e)) }
 
-module _ (t : Routine) (a : TableReply) (C : Checked t (table_meaning a)) where
+module _ (t : Routine) (a : Result ℤ TableFault) (C : Checked t (table_meaning a)) where
   pub table_fits : PlaceFits (of_tables (table_meaning a))
   table_fits = place_fits (table_meaning a) (table_reply t) C.replied (table_place t)
 
   pub tables_replied : (r : Reply) → r ≡ of_tables (table_meaning a) → TablesReplied t r
   tables_replied r e = rw e record { replied = ap of_tables C.replied; bounded = go a C.bounded }
     where
-      go : (x : TableReply) → ((b : ℤ) → table_meaning x ≡ accepted b → WcetBound t b) → (of_tables (table_meaning x)).number ≡ 0 → WcetBound t (of_tables (table_meaning x)).value
-      go (table.Accepted b) B z = B b refl
-      go (table.Structure f) B z = absurd (fault_number f z)
-      go (table.Inequality u) B z = absurd (omega arith)
-      go table.UndeclaredLoop B z = absurd (omega arith)
+      go : (x : Result ℤ TableFault) → ((b : ℤ) → table_meaning x ≡ accepted b → WcetBound t b) → (of_tables (table_meaning x)).number ≡ 0 → WcetBound t (of_tables (table_meaning x)).value
+      go (Ok b) B z = B b refl
+      go (Err (table.Structure f)) B z = absurd (fault_number f z)
+      go (Err (table.Inequality u)) B z = absurd (omega arith)
+      go (Err table.UndeclaredLoop) B z = absurd (omega arith)
 
 -- ---- a second certificate
 
-module _ (t : Routine) (c : LowCertificate) (a : ShortestReply) (C : ShortestChecked t c (shortest_meaning a)) where
+module _ (t : Routine) (c : LowCertificate) (a : Result ℤ ShortestFault) (C : ShortestChecked t c (shortest_meaning a)) where
   pub shortest_fits : PlaceFits (of_tables (shortest_meaning a))
   shortest_fits = place_fits (shortest_meaning a) (shortest_reply t c) C.replied (shortest_place t c)
 
   pub certificate_replied : (r : Reply) → r ≡ of_tables (shortest_meaning a) → CertificateReplied t c r
   certificate_replied r e = rw e record { replied = ap of_tables C.replied; bounded = go a C.bounded }
     where
-      go : (x : ShortestReply) → ((b : ℤ) → shortest_meaning x ≡ accepted b → ShortestBound t c b) → (of_tables (shortest_meaning x)).number ≡ 0 → ShortestBound t c (of_tables (shortest_meaning x)).value
-      go (shortest.Accepted b) B z = B b refl
-      go (shortest.Structure f) B z = absurd (fault_number f z)
-      go shortest.UndeclaredLoop B z = absurd (omega arith)
-      go (shortest.Loop l) B z = absurd (omega arith)
-      go (shortest.Figure u) B z = absurd (omega arith)
-      go (shortest.Inequality u) B z = absurd (omega arith)
+      go : (x : Result ℤ ShortestFault) → ((b : ℤ) → shortest_meaning x ≡ accepted b → ShortestBound t c b) → (of_tables (shortest_meaning x)).number ≡ 0 → ShortestBound t c (of_tables (shortest_meaning x)).value
+      go (Ok b) B z = B b refl
+      go (Err (shortest.Structure f)) B z = absurd (fault_number f z)
+      go (Err shortest.UndeclaredLoop) B z = absurd (omega arith)
+      go (Err (shortest.Loop l)) B z = absurd (omega arith)
+      go (Err (shortest.Figure u)) B z = absurd (omega arith)
+      go (Err (shortest.Inequality u)) B z = absurd (omega arith)
 
 -- ---- the solver
 
-module _ (t : Routine) (a : SolveReply) (fs : List ℤ) (ks : List ℕ) (C : Solved t (solve_meaning a) fs ks) where
+module _ (t : Routine) (a : Result ℤ SolveFault) (fs : List ℤ) (ks : List ℕ) (C : Solved t (solve_meaning a) fs ks) where
   pub solve_fits : PlaceFits (of_tables (solve_meaning a))
   solve_fits = place_fits (solve_meaning a) (solve_reply t) C.replied (solve_place t)
 
@@ -115,17 +130,17 @@ module _ (t : Routine) (a : SolveReply) (fs : List ℤ) (ks : List ℕ) (C : Sol
     optimum = go a C.optimum;
   }
     where
-      go : (x : SolveReply) → ((b : ℤ) → solve_meaning x ≡ accepted b → Optimum t fs ks b) → (of_tables (solve_meaning x)).number ≡ 0 → Optimum t fs ks (of_tables (solve_meaning x)).value
-      go (solve.Accepted b) B z = B b refl
-      go (solve.Structure f) B z = absurd (fault_number f z)
-      go solve.UndeclaredLoop B z = absurd (omega arith)
-      go (solve.NoPath u) B z = absurd (omega arith)
-      go solve.Multiplier B z = absurd (omega arith)
-      go solve.Figure B z = absurd (omega arith)
+      go : (x : Result ℤ SolveFault) → ((b : ℤ) → solve_meaning x ≡ accepted b → Optimum t fs ks b) → (of_tables (solve_meaning x)).number ≡ 0 → Optimum t fs ks (of_tables (solve_meaning x)).value
+      go (Ok b) B z = B b refl
+      go (Err (solve.Structure f)) B z = absurd (fault_number f z)
+      go (Err solve.UndeclaredLoop) B z = absurd (omega arith)
+      go (Err (solve.NoPath u)) B z = absurd (omega arith)
+      go (Err solve.Multiplier) B z = absurd (omega arith)
+      go (Err solve.Figure) B z = absurd (omega arith)
 
 -- ---- the writer
 
-module _ (t : Routine) (before : List ℕ) (a : MpsReply) (after : List ℕ) (C : Exported t before (mps_meaning a) after) where
+module _ (t : Routine) (before : List ℕ) (a : Result ℕ MpsFault) (after : List ℕ) (C : Exported t before (mps_meaning a) after) where
   pub text_small : PlaceFits (of_count (mps_meaning a)) × ValueFits (of_count (mps_meaning a))
   text_small = go (mps_meaning a) C.replied
     where
@@ -141,26 +156,26 @@ module _ (t : Routine) (before : List ℕ) (a : MpsReply) (after : List ℕ) (C 
     apart = λ z. C.apart (number_of a) (length_of a z (number_of a) (value_of a z));
   }
     where
-      number_of : MpsReply → ℕ
-      number_of (mps.Length n) = n
-      number_of (mps.Structure f) = 0
-      number_of mps.UndeclaredLoop = 0
-      number_of mps.NoRoom = 0
+      number_of : Result ℕ MpsFault → ℕ
+      number_of (Ok n) = n
+      number_of (Err (mps.Structure f)) = 0
+      number_of (Err mps.UndeclaredLoop) = 0
+      number_of (Err mps.NoRoom) = 0
 
       text_number : (f : StructureFault) → (of_count (refusal f)).number ≡ 0 → ⊥
       text_number f z = fault_number f (ap (λ (r : Reply). r.number) (same_count_fault f) ∙ z)
 
-      value_of : (x : MpsReply) → (of_count (mps_meaning x)).number ≡ 0 → (of_count (mps_meaning x)).value ≡ pos (number_of x)
-      value_of (mps.Length n) z = refl
-      value_of (mps.Structure f) z = absurd (text_number f z)
-      value_of mps.UndeclaredLoop z = absurd (omega arith)
-      value_of mps.NoRoom z = absurd (omega arith)
+      value_of : (x : Result ℕ MpsFault) → (of_count (mps_meaning x)).number ≡ 0 → (of_count (mps_meaning x)).value ≡ pos (number_of x)
+      value_of (Ok n) z = refl
+      value_of (Err (mps.Structure f)) z = absurd (text_number f z)
+      value_of (Err mps.UndeclaredLoop) z = absurd (omega arith)
+      value_of (Err mps.NoRoom) z = absurd (omega arith)
 
-      length_of : (x : MpsReply) → (of_count (mps_meaning x)).number ≡ 0 → (n : ℕ) → (of_count (mps_meaning x)).value ≡ pos n → mps_meaning x ≡ accepted n
-      length_of (mps.Length k) z n q = let same : k ≡ n = omega (ints, q) in ap accepted same
-      length_of (mps.Structure f) z n q = absurd (text_number f z)
-      length_of mps.UndeclaredLoop z n q = absurd (omega arith)
-      length_of mps.NoRoom z n q = absurd (omega arith)
+      length_of : (x : Result ℕ MpsFault) → (of_count (mps_meaning x)).number ≡ 0 → (n : ℕ) → (of_count (mps_meaning x)).value ≡ pos n → mps_meaning x ≡ accepted n
+      length_of (Ok k) z n q = let same : k ≡ n = omega (ints, q) in ap accepted same
+      length_of (Err (mps.Structure f)) z n q = absurd (text_number f z)
+      length_of (Err mps.UndeclaredLoop) z n q = absurd (omega arith)
+      length_of (Err mps.NoRoom) z n q = absurd (omega arith)
 
 -- ---- walks
 
@@ -168,7 +183,7 @@ record Acceptance (y : Answer Walked) : Type 0 where
   walked : Walked
   is : y ≡ accepted walked
 
-module _ (t : Routine) (w : List ℕ) (a : WalkReply) (C : WalkChecked t w (meaning a)) where
+module _ (t : Routine) (w : List ℕ) (a : Result WalkedValues WalkFault) (C : WalkChecked t w (meaning a)) where
   walk_small : Small (of_walk (meaning a))
   walk_small = go (meaning a) C.replied
     where
@@ -182,16 +197,11 @@ module _ (t : Routine) (w : List ℕ) (a : WalkReply) (C : WalkChecked t w (mean
   walk_fits = (walk_small.place, walk_small.value)
 
   -- an answer whose number is 0 is an acceptance
-  accepting : (x : WalkReply) → (of_walk (meaning x)).number ≡ 0 → (y : Answer Walked) → y ≡ meaning x → Acceptance y
-  accepting (walk.Accepted c s) e y q = record { walked = record { total = c; steps = s }; is = q }
-  accepting (walk.Structure f) e y q = absurd (fault_number f (ap (λ (r : Reply). r.number) (same_fault f) ∙ e))
-  accepting walk.Length e y q = absurd (omega arith)
-  accepting (walk.NoBlock i) e y q = absurd (omega arith)
-  accepting walk.NotEntry e y q = absurd (omega arith)
-  accepting (walk.AfterExit i) e y q = absurd (omega arith)
-  accepting (walk.NoEdge i) e y q = absurd (omega arith)
-  accepting (walk.OverLimit i) e y q = absurd (omega arith)
-  accepting (walk.Unfinished n) e y q = absurd (omega arith)
+  accepting : (x : Result WalkedValues WalkFault) → (of_walk (meaning x)).number ≡ 0 → (y : Answer Walked) → y ≡ meaning x → Acceptance y
+  accepting (Ok x) e y q = record { walked = record { total = x.cost; steps = x.steps }; is = q }
+  accepting (Err (walk.Structure f)) e y q = absurd (fault_number f (ap (λ (r : Reply). r.number) (same_fault f) ∙ e))
+  accepting (Err (walk.Run f)) e y q = absurd (run_number f (ap (λ (r : Reply). r.number) (same_run f) ∙ e))
+  accepting (Err (walk.OverLimit i)) e y q = absurd (omega arith)
 
   finished : (x : Acceptance (meaning a)) → Finished t w x.walked
   finished x = walk_finished t w x.walked (sym C.replied ∙ x.is)
@@ -211,7 +221,7 @@ module _ (t : Routine) (w : List ℕ) (a : WalkReply) (C : WalkChecked t w (mean
 
 -- ---- recordings
 
-module _ (t : Routine) (w stayed visited : List ℕ) (a : TallyReply) (ss gs : List ℕ) (C : Tallied t w stayed visited (tallyMeaning a) ss gs) where
+module _ (t : Routine) (w stayed visited : List ℕ) (a : Result ℕ TallyFault) (ss gs : List ℕ) (C : Tallied t w stayed visited (tallyMeaning a) ss gs) where
   pub tally_small : PlaceFits (of_count (tallyMeaning a)) × ValueFits (of_count (tallyMeaning a))
   tally_small = go (tallyMeaning a) C.replied
     where
@@ -228,20 +238,15 @@ module _ (t : Routine) (w stayed visited : List ℕ) (a : TallyReply) (ss gs : L
     limits = λ z most. let k = accepting a z in C.limits k.0 k.1 most;
   }
     where
-      accepting : (x : TallyReply) → (of_count (tallyMeaning x)).number ≡ 0 → (k : ℕ) × (tallyMeaning x ≡ accepted k)
-      accepting (tally.Accepted k) z = (k, refl)
-      accepting (tally.Structure f) z = absurd (fault_number f (ap (λ (r : Reply). r.number) (same_count_fault f) ∙ z))
-      accepting tally.Columns z = absurd (omega arith)
-      accepting tally.Length z = absurd (omega arith)
-      accepting (tally.NoBlock i) z = absurd (omega arith)
-      accepting tally.NotEntry z = absurd (omega arith)
-      accepting (tally.AfterExit i) z = absurd (omega arith)
-      accepting (tally.NoEdge i) z = absurd (omega arith)
-      accepting (tally.Unfinished n) z = absurd (omega arith)
+      accepting : (x : Result ℕ TallyFault) → (of_count (tallyMeaning x)).number ≡ 0 → (k : ℕ) × (tallyMeaning x ≡ accepted k)
+      accepting (Ok k) z = (k, refl)
+      accepting (Err (tally.Structure f)) z = absurd (fault_number f (ap (λ (r : Reply). r.number) (same_count_fault f) ∙ z))
+      accepting (Err tally.Columns) z = absurd (omega arith)
+      accepting (Err (tally.Run f)) z = absurd (run_number f z)
 
 -- ---- recordings as texts
 
-module _ (t : Routine) (s named before : List ℕ) (a : VcdReply) (buffer : List ℕ) (C : Recorded t s named before (vcd_meaning a) buffer) where
+module _ (t : Routine) (s named before : List ℕ) (a : Result ℕ VcdFault) (buffer : List ℕ) (C : Recorded t s named before (vcd_meaning a) buffer) where
   pub vcd_small : PlaceFits (of_count (vcd_meaning a)) × ValueFits (of_count (vcd_meaning a))
   vcd_small = rw C.replied (go (recording_reply t s named (length before)) refl)
     where
@@ -258,14 +263,14 @@ module _ (t : Routine) (s named before : List ℕ) (a : VcdReply) (buffer : List
 
 -- ---- readings
 
-pub blocks_fit : (s : List ℕ) (headerRow : Bool) {old new : BlockColumns} {a : ReadReply} → BlocksRead s headerRow old a new → PlaceFits (of_reading a) × ValueFits (of_reading a)
+pub blocks_fit : (s : List ℕ) (headerRow : Bool) {old new : BlockColumns} {a : Result Rows ReadFault} → BlocksRead s headerRow old a new → PlaceFits (of_reading a) × ValueFits (of_reading a)
 blocks_fit s headerRow {old} B = let S = reading_small (block_table (shortest_block old) headerRow s) (blocks_short (min (shortest_block old) most_blocks) headerRow s) (omega arith) B.reply in (S.place, S.value)
 
-pub loops_fit : (s : List ℕ) (headerRow : Bool) {old new : LoopColumns} {a : ReadReply} → LoopsRead s headerRow old a new → PlaceFits (of_reading a) × ValueFits (of_reading a)
+pub loops_fit : (s : List ℕ) (headerRow : Bool) {old new : LoopColumns} {a : Result Rows ReadFault} → LoopsRead s headerRow old a new → PlaceFits (of_reading a) × ValueFits (of_reading a)
 loops_fit s headerRow {old} B = let S = reading_small (loop_table (shortest_loop old) headerRow s) (loops_short (min (shortest_loop old) most_loops) headerRow s) (omega arith) B.reply in (S.place, S.value)
 
-pub blocks_replied : (s : List ℕ) (headerRow : Bool) {old new : BlockColumns} {a : ReadReply} {r : Reply} → BlocksRead s headerRow old a new → r ≡ of_reading a → BlocksReplied s headerRow old r new
-blocks_replied s headerRow {old} {new} B q = record { replied = q ∙ ap of_reading B.reply; read = subst (λ (x : ReadReply). BlocksRead s headerRow old x new) B.reply B }
+pub blocks_replied : (s : List ℕ) (headerRow : Bool) {old new : BlockColumns} {a : Result Rows ReadFault} {r : Reply} → BlocksRead s headerRow old a new → r ≡ of_reading a → BlocksReplied s headerRow old r new
+blocks_replied s headerRow {old} {new} B q = record { replied = q ∙ ap of_reading B.reply; read = subst (λ (x : Result Rows ReadFault). BlocksRead s headerRow old x new) B.reply B }
 
-pub loops_replied : (s : List ℕ) (headerRow : Bool) {old new : LoopColumns} {a : ReadReply} {r : Reply} → LoopsRead s headerRow old a new → r ≡ of_reading a → LoopsReplied s headerRow old r new
-loops_replied s headerRow {old} {new} B q = record { replied = q ∙ ap of_reading B.reply; read = subst (λ (x : ReadReply). LoopsRead s headerRow old x new) B.reply B }
+pub loops_replied : (s : List ℕ) (headerRow : Bool) {old new : LoopColumns} {a : Result Rows ReadFault} {r : Reply} → LoopsRead s headerRow old a new → r ≡ of_reading a → LoopsReplied s headerRow old r new
+loops_replied s headerRow {old} {new} B q = record { replied = q ∙ ap of_reading B.reply; read = subst (λ (x : Result Rows ReadFault). LoopsRead s headerRow old x new) B.reply B }

@@ -3,7 +3,7 @@
 use mathlib.Core.Path.{◌≡◌, refl, sym, ◌∙◌, ap}
 use mathlib.Core.Bool.{Bool, true, false, not}
 use mathlib.Core.List.{List, [], ◌∷◌, ◌++◌}
-use mathlib.Core.Option.{Option, none, some}
+use Rattle.std.specs.Prelude.{Option, Some, None, Result, Ok, Err}
 use Prim.Native.Nat.{ℕ, suc, ◌+◌, ◌-◌, ◌*◌, ◌≤◌}
 use native.Mathlib.Omega.{arith}
 use lib.Dec.{eqb, ltb}
@@ -35,7 +35,8 @@ use Rattle.vcd.proofs.Lowest.{recorded_place, recorded_few}
 use Rattle.tables.specs.Table as table
 use Rattle.tables.specs.Table.{End, all, Reading}
 use Rattle.tables.specs.Columns.{reply_by, reply_of}
-use Rattle.tables.specs.declared.ReadReply.{ReadReply}
+use Rattle.tables.specs.declared.Rows.{Rows}
+use Rattle.tables.specs.declared.ReadFault.{ReadFault}
 use Rattle.tables.proofs.Sizes.{Short}
 use Rattle.replies.specs.declared.Reply.{Reply}
 use Rattle.replies.specs.Fields.{of_reading, PlaceFits, ValueFits}
@@ -54,11 +55,11 @@ within {A} m (r ∷ rs) passed n p W rest e = go (first_below r.places r.broken)
   where
     go : (o : Option ℕ) → first_below r.places r.broken ≡ o → refused_at {A = A} r.number o (check rs passed) ≡ refused n p
         → ((AllHold rs → passed ≡ refused n p → p ≤ m) → check rs passed ≡ refused n p → p ≤ m) → p ≤ m
-    go (some q) f e later =
+    go (Some q) f e later =
         let l : Lowest r.places r.broken q = found_lowest r.places r.broken q f in
         let there : q ≡ p = cc in
         omega (arith, l.below, W.0)
-    go none f e later = later (λ h. rest (not_found r.places r.broken f, h)) e
+    go None f e later = later (λ h. rest (not_found r.places r.broken f, h)) e
 
 -- 201 is broken at place 0 or hands on
 sizes_within : {A : Type 0} (wrong : Bool) (m : ℕ) (rs : List Rule) (passed : Answer A) (n p : ℕ) → (wrong ≡ false → check rs passed ≡ refused n p → p ≤ m)
@@ -304,9 +305,9 @@ pub record Small (r : Reply) : Type 0 where
   pub place : PlaceFits r
   pub value : ValueFits r
 
-pub reading_small : {A : Type 0} (x : Reading A) {room : ℕ} → Short room (2 + room) 0 x → room ≤ most_blocks → {a : ReadReply} → a ≡ reply_of x → Small (of_reading a)
+pub reading_small : {A : Type 0} (x : Reading A) {room : ℕ} → Short room (2 + room) 0 x → room ≤ most_blocks → {a : Result Rows ReadFault} → a ≡ reply_of x → Small (of_reading a)
 reading_small x {room} S few e = rw e (go x.end refl)
   where
     go : (y : End) → x.end ≡ y → Small (of_reading (reply_by (length x.rows) y))
     go (all first) q = record { place = record { place = omega arith }; value = record { value = omega (ints, S.rows) } }
-    go (table.refused n p) q = record { place = record { place = omega (arith, S.place n p q) }; value = record { value = omega ints } }
+    go (table.refused f) q = record { place = record { place = omega (arith, S.place f q) }; value = record { value = omega ints } }

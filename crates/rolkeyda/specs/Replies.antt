@@ -1,5 +1,5 @@
 -- What each exported function promises of its reply.
-use Rattle.std.specs.Prelude.{ℕ, ◌-◌, ◌≤◌, ◌<◌, ◌≡◌, ◌↔◌, Bool, List, ℤ, pos, length, get_or, take}
+use Rattle.std.specs.Prelude.{ℕ, ◌-◌, ◌≤◌, ◌<◌, ◌≡◌, ◌↔◌, Bool, List, ℤ, pos, length, get_or, take, Result}
 use Rattle.std.proofs.Math.Option.{some}
 use Rattle.wcet.specs.Table.{Routine, loop_count}
 use Rattle.wcet.specs.Rules.{structure_rules, table_reply}
@@ -17,7 +17,8 @@ use Rattle.mps.specs.Reply.{mps_reply, buffer_after}
 use Rattle.vcd.specs.Recording.{recording_reply, counted, buffer_after as dumpBuffer, most_changes}
 use Rattle.tables.specs.Table.{block_table, loop_table}
 use Rattle.tables.specs.Columns.{reply_of, BlockColumns, shortest_block, BlocksRead, LoopColumns, shortest_loop, LoopsRead}
-use Rattle.tables.specs.declared.ReadReply.{ReadReply}
+use Rattle.tables.specs.declared.Rows.{Rows}
+use Rattle.tables.specs.declared.ReadFault.{ReadFault}
 use Rattle.replies.specs.declared.Reply.{Reply}
 use Rattle.replies.specs.Fields.{of_tables, of_count, of_walk, of_reading}
 
@@ -71,14 +72,14 @@ pub record DumpReplied (t : Routine) (s named before : List ℕ) (r : Reply) (af
   pub roomy : most_changes ≤ length before → r.number ≡ 433 → ⊥
 
 -- Demand 1 of the reply to a text: it is the reply to what the text says, and the columns are as the reader promises.
-abbrev pub blocks_answer : List ℕ → Bool → BlockColumns → ReadReply
+abbrev pub blocks_answer : List ℕ → Bool → BlockColumns → Result Rows ReadFault
 blocks_answer s headerRow columns = reply_of (block_table (shortest_block columns) headerRow s)
 
 pub record BlocksReplied (s : List ℕ) (headerRow : Bool) (old : BlockColumns) (r : Reply) (new : BlockColumns) : Type 0 where
   pub replied : r ≡ of_reading (blocks_answer s headerRow old)
   pub read : BlocksRead s headerRow old (blocks_answer s headerRow old) new
 
-abbrev pub loops_answer : List ℕ → Bool → LoopColumns → ReadReply
+abbrev pub loops_answer : List ℕ → Bool → LoopColumns → Result Rows ReadFault
 loops_answer s headerRow columns = reply_of (loop_table (shortest_loop columns) headerRow s)
 
 pub record LoopsReplied (s : List ℕ) (headerRow : Bool) (old : LoopColumns) (r : Reply) (new : LoopColumns) : Type 0 where

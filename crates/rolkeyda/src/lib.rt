@@ -1,5 +1,6 @@
 // The functions of the C library, which the crate `rolkeyda_c` exports: the readers, the table checker, the checker of a second certificate, the walk checker, the tally, the reader of recordings, the solver and the writer.
-// Nothing is decided here; each function hands its answer over in the fields of the one reply struct.
+// Nothing is decided here; each function hands its answer over in the fields of the one reply struct. The columns come one by one, as the C
+// functions take them.
 #![tactic(auto)]
 
 ghost use Rattle.nesting.specs.Columns.{routine};
@@ -7,7 +8,9 @@ ghost use Rattle.shortest.specs.Answers.{low_certificate};
 ghost use Rattle.tables.specs.Columns.{blocks, loops};
 ghost use Rattle.rolkeyda.specs.Replies.{TablesReplied, CertificateReplied, TablesSolved, TextReplied, WalkReplied, RecordingReplied, DumpReplied, BlocksReplied, LoopsReplied};
 
+use nesting::Tables;
 use replies::Reply;
+use shortest::LowCertificate;
 
 // Reads a block table into the columns. A refusal leaves them as they were.
 pub fn rolkeyda_read_blocks(
@@ -21,8 +24,7 @@ pub fn rolkeyda_read_blocks(
 ) -> Reply
     ensures { BlocksReplied text.now header_row (blocks cost.old loops.old first.old second.old figure.old) result (blocks cost.new loops.new first.new second.new figure.new) }
 {
-    let answer = tables::read_blocks(text, header_row, cost, loops, first, second, figure);
-    replies::read_reply(answer)
+    replies::read_reply(tables::read_blocks(text, header_row, cost, loops, first, second, figure))
 }
 
 // Reads a loop table into the columns. A refusal leaves them as they were.
@@ -36,8 +38,7 @@ pub fn rolkeyda_read_loops(
 ) -> Reply
     ensures { LoopsReplied text.now header_row (loops parent.old header.old limit.old multiplier.old) result (loops parent.new header.new limit.new multiplier.new) }
 {
-    let answer = tables::read_loops(text, header_row, parent, header, limit, multiplier);
-    replies::read_reply(answer)
+    replies::read_reply(tables::read_loops(text, header_row, parent, header, limit, multiplier))
 }
 
 // The bound of a pair of tables, or the first broken rule.
@@ -54,10 +55,18 @@ pub fn rolkeyda_check(
 ) -> Reply
     ensures { TablesReplied (routine cost.now loops.now first.now second.now figure.now parent.now header.now limit.now multiplier.now) result }
 {
-    let answer = certificate::check(
-        cost, loops, first, second, figure, parent, header, limit, multiplier,
-    );
-    replies::table_reply(answer)
+    let tables = Tables {
+        cost,
+        loops,
+        first,
+        second,
+        figure,
+        parent,
+        header,
+        limit,
+        multiplier,
+    };
+    replies::table_reply(certificate::check(&tables))
 }
 
 // The lower bound of a routine by a second certificate, or the first broken rule.
@@ -77,7 +86,7 @@ pub fn rolkeyda_shortest(
 ) -> Reply
     ensures { CertificateReplied (routine cost.now loops.now first.now second.now figure.now parent.now header.now limit.now multiplier.now) (low_certificate low_figure.now low_multiplier.now least.now) result }
 {
-    let answer = shortest::shortest(
+    let tables = Tables {
         cost,
         loops,
         first,
@@ -87,11 +96,13 @@ pub fn rolkeyda_shortest(
         header,
         limit,
         multiplier,
-        low_figure,
-        low_multiplier,
+    };
+    let low = LowCertificate {
+        figure: low_figure,
+        multiplier: low_multiplier,
         least,
-    );
-    replies::shortest_reply(answer)
+    };
+    replies::shortest_reply(shortest::shortest(&tables, &low))
 }
 
 // The cost and the steps of a walk, or what is wrong with it or with its tables.
@@ -109,10 +120,18 @@ pub fn rolkeyda_walk(
 ) -> Reply
     ensures { WalkReplied (routine cost.now loops.now first.now second.now figure.now parent.now header.now limit.now multiplier.now) blocks.now result }
 {
-    let answer = walk::walk(
-        cost, loops, first, second, figure, parent, header, limit, multiplier, blocks,
-    );
-    replies::walk_reply(answer)
+    let tables = Tables {
+        cost,
+        loops,
+        first,
+        second,
+        figure,
+        parent,
+        header,
+        limit,
+        multiplier,
+    };
+    replies::walk_reply(walk::walk(&tables, blocks))
 }
 
 // The step count of a recorded walk, and for each loop the number of stays and the greatest number of header visits in one stay; or what is wrong
@@ -133,11 +152,18 @@ pub fn rolkeyda_tally(
 ) -> Reply
     ensures { RecordingReplied (routine cost.now loops.now first.now second.now figure.now parent.now header.now limit.now multiplier.now) blocks.now stays.old greatest.old result stays.new greatest.new }
 {
-    let answer = tally::tally(
-        cost, loops, first, second, figure, parent, header, limit, multiplier, blocks, stays,
-        greatest,
-    );
-    replies::tally_reply(answer)
+    let tables = Tables {
+        cost,
+        loops,
+        first,
+        second,
+        figure,
+        parent,
+        header,
+        limit,
+        multiplier,
+    };
+    replies::tally_reply(tally::tally(&tables, blocks, stays, greatest))
 }
 
 // The changed values of the named vector of a recording, in the first places of the buffer, and their count; or what is wrong with the tables or the text, and
@@ -158,10 +184,18 @@ pub fn rolkeyda_vcd(
 ) -> Reply
     ensures { DumpReplied (routine cost.now loops.now first.now second.now figure.now parent.now header.now limit.now multiplier.now) text.now code.now blocks.old result blocks.new }
 {
-    let answer = recordings::vcd(
-        cost, loops, first, second, figure, parent, header, limit, multiplier, text, code, blocks,
-    );
-    replies::vcd_reply(answer)
+    let tables = Tables {
+        cost,
+        loops,
+        first,
+        second,
+        figure,
+        parent,
+        header,
+        limit,
+        multiplier,
+    };
+    replies::vcd_reply(recordings::vcd(&tables, text, code, blocks))
 }
 
 // The bound of the remade figures and multipliers, which are then in place of the given ones; or the first broken rule, and both columns stay as
@@ -200,8 +234,16 @@ pub fn rolkeyda_mps(
 ) -> Reply
     ensures { TextReplied (routine cost.now loops.now first.now second.now figure.now parent.now header.now limit.now multiplier.now) text.old result text.new }
 {
-    let answer = writer::mps(
-        cost, loops, first, second, figure, parent, header, limit, multiplier, text,
-    );
-    replies::mps_reply(answer)
+    let tables = Tables {
+        cost,
+        loops,
+        first,
+        second,
+        figure,
+        parent,
+        header,
+        limit,
+        multiplier,
+    };
+    replies::mps_reply(writer::mps(&tables, text))
 }
