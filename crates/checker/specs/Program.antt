@@ -4,8 +4,7 @@ use Rattle.std.specs.Prelude.{ℕ, Bool, true, false, List, [], ◌∷◌, ◌++
 use Rattle.streams.specs.Calls.{Gave, FileGave, WroteTo}
 use Rattle.lists.specs.Bytes.{bytes}
 use Rattle.report.specs.Line.{line_of}
-use Rattle.report.specs.declared.Outcome.{Outcome}
-use Rattle.stages.specs.Stages.{outcome_of, wanted_by, setting_room, text_room}
+use Rattle.stages.specs.Stages.{Outcome, outcome_of, wanted_by, setting_room, text_room}
 use Rattle.stages.specs.declared.Files.{Files}
 use Rattle.stages.specs.declared.Files.TheVariants.{Neither, Blocks as OnlyBlocks, Both}
 use Rattle.stages.specs.declared.Wanted.{Wanted}

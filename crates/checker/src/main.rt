@@ -3,11 +3,10 @@
 
 ghost use Rattle.checker.specs.Program.{LoopsJudged, FilesJudged, InputJudged, Ran};
 ghost use Rattle.std.specs.Prelude.{pos};
-ghost use Rattle.report.specs.Line.{text_of};
 ghost use Rattle.streams.specs.Calls.{WroteTo};
 
 use limits::MOST_TEXT_BYTES;
-use report::{Line, Outcome};
+use report::{Line, Refusal};
 use stages::{Files, Wanted};
 
 const STDIN_FILENO: i32 = 0;
@@ -22,7 +21,7 @@ const SETTING_ROOM: usize = 16;
 const TEXT_ROOM: usize = MOST_TEXT_BYTES + 1;
 
 // After good blocks. The loops file is opened only where it decides the outcome.
-fn with_loops(rt: &HostRuntime, setting: &[u8], blocks: &[u8]) -> Outcome
+fn with_loops(rt: &HostRuntime, setting: &[u8], blocks: &[u8]) -> Result<i64, Refusal>
     ensures { LoopsJudged setting.now blocks.now result }
 {
     let outcome = stages::outcome_of(setting, Files::Blocks, blocks, b"");
@@ -30,16 +29,15 @@ fn with_loops(rt: &HostRuntime, setting: &[u8], blocks: &[u8]) -> Outcome
         return outcome;
     };
     let mut text = [0u8; TEXT_ROOM];
-    let content = streams::read_file(rt, b"loops.csv", &mut text);
-    if !content.readable {
+    let Some(len) = streams::read_file(rt, b"loops.csv", &mut text) else {
         return outcome;
-    }
-    let loops = streams::prefix(&text, content.len);
+    };
+    let loops = streams::prefix(&text, len);
     stages::outcome_of(setting, Files::Both, blocks, loops)
 }
 
 // After the setting. The blocks file is opened only where it decides the outcome.
-fn with_files(rt: &HostRuntime, setting: &[u8]) -> Outcome
+fn with_files(rt: &HostRuntime, setting: &[u8]) -> Result<i64, Refusal>
     ensures { FilesJudged setting.now result }
 {
     let outcome = stages::outcome_of(setting, Files::Neither, b"", b"");
@@ -47,34 +45,32 @@ fn with_files(rt: &HostRuntime, setting: &[u8]) -> Outcome
         return outcome;
     };
     let mut text = [0u8; TEXT_ROOM];
-    let content = streams::read_file(rt, b"blocks.csv", &mut text);
-    if !content.readable {
+    let Some(len) = streams::read_file(rt, b"blocks.csv", &mut text) else {
         return outcome;
-    }
-    with_loops(rt, setting, streams::prefix(&text, content.len))
+    };
+    with_loops(rt, setting, streams::prefix(&text, len))
 }
 
-fn judged(rt: &HostRuntime) -> Outcome
+// An input that cannot be read says nothing.
+fn judged(rt: &HostRuntime) -> Result<i64, Refusal>
     ensures { InputJudged result }
 {
     let mut line = [0u8; SETTING_ROOM];
-    let content = streams::read_all(rt, STDIN_FILENO, &mut line);
-    with_files(rt, streams::prefix(&line, content.len))
+    let len = streams::read_all(rt, STDIN_FILENO, &mut line).unwrap_or(0);
+    with_files(rt, streams::prefix(&line, len))
 }
 
-fn print(rt: &HostRuntime, line: Line) -> bool
-    ensures { WroteTo (pos 1) (text_of line) result }
+fn print(rt: &HostRuntime, line: &Line) -> bool
+    ensures { WroteTo (pos 1) line.now result }
 {
-    let bytes = line.bytes;
-    let len = line.len;
-    streams::write_all(rt, STDOUT_FILENO, streams::prefix(&bytes, len))
+    streams::write_all(rt, STDOUT_FILENO, line.text())
 }
 
 // Prints the line, or says on standard error that it cannot. Returns whether the line is written.
 fn run(rt: &HostRuntime) -> bool
     ensures { Ran result }
 {
-    let written = print(rt, report::line_of(judged(rt)));
+    let written = print(rt, &report::line_of(judged(rt)));
     if !written {
         streams::write_all(rt, STDERR_FILENO, b"cannot write the reply\n");
     }

@@ -1,9 +1,11 @@
-// What the checking program says of its input: an outcome, and the line that it prints for it.
+// What the checking program says of its input: the bound or a refusal, and the line that it prints for it.
 #![tactic(auto)]
 
-ghost use Rattle.std.specs.Prelude.{◌≡◌, ◌∷◌, [], ◌≤◌, nat_abs};
+ghost use Rattle.std.specs.Prelude.{◌≡◌, ◌+◌, ◌≤◌, [], ◌++◌, List, ℕ, length, take};
 ghost use Rattle.digits.specs.Decimal.{numeral_of, integer_of};
-ghost use Rattle.report.specs.Line.{stage_word, line_of, Room, Wrote, Ready};
+ghost use Rattle.report.specs.Line.{stage_word, refusal_text, line_of, line_room};
+
+use std::marker::Model;
 
 #[derive(Clone, Copy)]
 pub enum Stage {
@@ -13,139 +15,118 @@ pub enum Stage {
     Table,
 }
 
-// The bound, or the stage, the number and the place of a refusal.
+impl Stage {
+    fn word(self) -> &'static [u8]
+        ensures { result.now ≡ stage_word self }
+    {
+        match self {
+            Stage::Setting => b"setting",
+            Stage::Blocks => b"blocks",
+            Stage::Loops => b"loops",
+            Stage::Table => b"table",
+        }
+    }
+}
+
+// Why there is no bound: the stage that refused, the number of the reason, and the place.
 #[derive(Clone, Copy)]
-pub enum Outcome {
-    Accepted(i64),
-    Refused {
-        stage: Stage,
-        number: u32,
-        place: u64,
-    },
+pub struct Refusal {
+    pub stage: Stage,
+    pub number: u32,
+    pub place: u64,
 }
 
 // Bytes of the longest line, and some to spare.
 const LINE_ROOM: usize = 64;
 
-// A line, or the start of one: the first `len` bytes.
+// A line, or the start of one, in fixed memory: the first `len` bytes. Contracts see the text.
 #[derive(Drop)]
 pub struct Line {
-    pub bytes: [u8; LINE_ROOM],
-    pub len: usize,
+    bytes: [u8; LINE_ROOM],
+    len: usize,
 }
 
-// The magnitude of an integer.
-fn magnitude(z: i64) -> u64
-    ensures { result ≡ nat_abs z }
-{
-    if z < 0 {
-        let below = -1 - z;
-        return below as u64 + 1;
-    }
-    z as u64
+impl Model for Line {
+    ghost Value = { List ℕ };
+
+    ghost view = { λ l. take l.len l.bytes };
+
+    ghost invariant = { λ l. l.len ≤ line_room };
 }
 
 impl Line {
-    fn empty() -> Line
-        ensures { result.len ≡ 0 }
+    fn new() -> Line
+        ensures { result ≡ [] }
     {
         Line {
-            bytes: [0u8; LINE_ROOM],
+            bytes: [0; LINE_ROOM],
             len: 0,
         }
     }
 
-    fn byte(mut self, b: u8) -> Line
-        requires { Room self (b ∷ []) }
-        ensures { Wrote self (b ∷ []) result }
+    pub fn text(&self) -> &[u8]
+        ensures { result.now ≡ self.now }
     {
-        let at = self.len;
-        self.bytes[at] = b;
-        self.len = at + 1;
-        self
+        &self.bytes[..self.len]
     }
 
-    fn word(self, w: &[u8]) -> Line
-        requires { Room self w.now }
-        ensures { Wrote self w.now result }
+    fn push(&mut self, w: &[u8])
+        requires { length self.old + length w.now ≤ line_room }
+        ensures { self.new ≡ self.old ++ w.now }
     {
-        let mut line = self;
-        let mut i = 0;
-        while i < w.len() {
-            line = line.byte(w[i]);
-            i += 1;
-        }
-        line
+        let end = self.len + w.len();
+        self.bytes[self.len..end].copy_from_slice(w);
+        self.len = end;
     }
 
     // In decimal digits.
-    fn numeral(self, n: u64) -> Line
-        requires { Room self (numeral_of n) }
-        ensures { Wrote self (numeral_of n) result }
+    fn push_numeral(&mut self, n: u64)
+        requires { length self.old + length (numeral_of n) ≤ line_room }
+        ensures { self.new ≡ self.old ++ numeral_of n }
     {
-        if n < 10 {
-            return self.byte(48 + n as u8);
+        if n >= 10 {
+            self.push_numeral(n / 10);
         }
-        let line = self.numeral(n / 10);
-        line.byte(48 + (n % 10) as u8)
+        self.push(&[b'0' + (n % 10) as u8]);
     }
 
-    fn integer(self, z: i64) -> Line
-        requires { Room self (integer_of z) }
-        ensures { Wrote self (integer_of z) result }
+    fn push_integer(&mut self, z: i64)
+        requires { length self.old + length (integer_of z) ≤ line_room }
+        ensures { self.new ≡ self.old ++ integer_of z }
     {
         if z < 0 {
-            let line = self.byte(b'-');
-            return line.numeral(magnitude(z));
+            self.push(b"-");
         }
-        self.numeral(magnitude(z))
+        self.push_numeral(z.unsigned_abs());
     }
 
-    fn stage(self, stage: Stage) -> Line
-        requires { self.len ≤ 8 }
-        ensures { Wrote self (stage_word stage) result }
+    fn push_refusal(&mut self, refusal: Refusal)
+        requires { length self.old + length (refusal_text refusal) ≤ line_room }
+        ensures { self.new ≡ self.old ++ refusal_text refusal }
     {
-        match stage {
-            Stage::Setting => self.word(b"setting"),
-            Stage::Blocks => self.word(b"blocks"),
-            Stage::Loops => self.word(b"loops"),
-            Stage::Table => self.word(b"table"),
-        }
+        self.push(refusal.stage.word());
+        self.push(b" ");
+        self.push_numeral(u64::from(refusal.number));
+        self.push(b" ");
+        self.push_numeral(refusal.place);
     }
-}
-
-fn accepted_line(bound: i64) -> Line
-    ensures { Ready (line_of (Outcome.Accepted bound)) result }
-{
-    let line = Line::empty();
-    let line = line.word(b"accepted ");
-    let line = line.integer(bound);
-    line.byte(b'\n')
-}
-
-fn refused_line(stage: Stage, number: u32, place: u64) -> Line
-    ensures { Ready (line_of (Outcome.Refused stage number place)) result }
-{
-    let line = Line::empty();
-    let line = line.word(b"refused ");
-    let line = line.stage(stage);
-    let line = line.byte(b' ');
-    let line = line.numeral(number as u64);
-    let line = line.byte(b' ');
-    let line = line.numeral(place);
-    line.byte(b'\n')
 }
 
 // The line that the program prints.
-pub fn line_of(outcome: Outcome) -> Line
-    ensures { Ready (line_of outcome) result }
+pub fn line_of(outcome: Result<i64, Refusal>) -> Line
+    ensures { result ≡ line_of outcome }
 {
+    let mut line = Line::new();
     match outcome {
-        Outcome::Accepted(bound) => accepted_line(bound),
-        Outcome::Refused {
-            stage,
-            number,
-            place,
-        } => refused_line(stage, number, place),
+        Ok(bound) => {
+            line.push(b"accepted ");
+            line.push_integer(bound);
+        }
+        Err(refusal) => {
+            line.push(b"refused ");
+            line.push_refusal(refusal);
+        }
     }
+    line.push(b"\n");
+    line
 }

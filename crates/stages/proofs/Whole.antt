@@ -19,16 +19,14 @@ use Rattle.limits.specs.Limits.{most_blocks, most_loops, most_text_bytes}
 use Rattle.rows.specs.Row.{Verdict, block_fields, loop_fields}
 use Rattle.rows.specs.Judge.{judge_block, judge_loop}
 use Rattle.lists.specs.Bytes.{bytes, same}
-use Rattle.stages.specs.Stages.{header_of, of_answer, of_end, after_reading, block_reading, loop_reading, setting_room, text_room, routine_of, table_stage, has_blocks, has_loops, loops_stage, blocks_stage, setting_stage, outcome_of, wanted_by, Certified, FirstBytes, InTurn}
-use Rattle.stages.specs.declared.Header.{Header}
-use Rattle.stages.specs.declared.Header.TheVariants.{Absent, Present, Wrong}
+use Rattle.stages.specs.Stages.{Outcome, refusal_at, header_of, of_answer, of_end, after_reading, block_reading, loop_reading, setting_room, text_room, routine_of, table_stage, has_blocks, has_loops, loops_stage, blocks_stage, setting_stage, outcome_of, wanted_by, Certified, FirstBytes, InTurn}
+use Rattle.std.proofs.Common.{Option, Some, None, Ok}
+use Rattle.tables.specs.Table.{read_number, read_place}
 use Rattle.stages.specs.declared.Files.{Files}
 use Rattle.stages.specs.declared.Files.TheVariants.{Neither, Blocks as OnlyBlocks}
 use Rattle.stages.specs.declared.Wanted.TheVariants.{Nothing}
 use Rattle.report.specs.declared.Stage.{Stage}
 use Rattle.report.specs.declared.Stage.TheVariants.{Blocks, Loops}
-use Rattle.report.specs.declared.Outcome.{Outcome}
-use Rattle.report.specs.declared.Outcome.TheVariants.{Accepted, Refused}
 
 -- ---- the first bytes
 
@@ -69,10 +67,9 @@ first_bytes setting files blocks loops = rw (header_first setting) (go (header_o
     stage : (headerRow : Bool) → blocks_stage headerRow files (take text_room blocks) (take text_room loops) ≡ blocks_stage headerRow files blocks loops
     stage headerRow = rw (text_first block_fields (judge_block most_blocks) headerRow blocks, text_first loop_fields (judge_loop most_loops) headerRow loops)
 
-    go : (h : Header) → setting_stage h files (take text_room blocks) (take text_room loops) ≡ setting_stage h files blocks loops
-    go Absent = stage false
-    go Present = stage true
-    go Wrong = refl
+    go : (h : Option Bool) → setting_stage h files (take text_room blocks) (take text_room loops) ≡ setting_stage h files blocks loops
+    go (Some headerRow) = stage headerRow
+    go None = refl
 
 -- ---- an accepted line
 
@@ -80,30 +77,30 @@ first_bytes setting files blocks loops = rw (header_first setting) (go (header_o
 record Accepts {A : Type 0} (x : Reading A) (next : List A → Outcome) (b : ℤ) : Type 0 where
   ending : Ending
   read : x ≡ record { rows = x.rows; end = table.all ending }
-  accepts : next x.rows ≡ Accepted b
+  accepts : next x.rows ≡ Ok b
 
-accepts_text : {A : Type 0} (x : Reading A) (stage : Stage) (next : List A → Outcome) (b : ℤ) → after_reading stage next x ≡ Accepted b → Accepts x next b
+accepts_text : {A : Type 0} (x : Reading A) (stage : Stage) (next : List A → Outcome) (b : ℤ) → after_reading stage next x ≡ Ok b → Accepts x next b
 accepts_text x stage next b e = go x.end refl e
   where
-    go : (y : End) → x.end ≡ y → of_end stage (next x.rows) y ≡ Accepted b → Accepts x next b
+    go : (y : End) → x.end ≡ y → of_end stage (next x.rows) y ≡ Ok b → Accepts x next b
     go (table.all first) f q = record { ending = first; read = ap (λ (y : End). record { rows = x.rows; end = y }) f; accepts = q }
-    go (table.refused n p) f q = absurd (let z : ◌≡◌ {A = ℕ} 0 1 = cc in omega arith)
+    go (table.refused fault) f q = absurd (cc)
 
 -- a file that is there
-accepts_file : {A : Type 0} (has : Bool) (x : Reading A) (stage : Stage) (next : List A → Outcome) (n p : ℕ) (b : ℤ) → cond has (after_reading stage next x) (Refused stage n p) ≡ Accepted b → Accepts x next b
+accepts_file : {A : Type 0} (has : Bool) (x : Reading A) (stage : Stage) (next : List A → Outcome) (n p : ℕ) (b : ℤ) → cond has (after_reading stage next x) (refusal_at stage n p) ≡ Ok b → Accepts x next b
 accepts_file true x stage next n p b e = accepts_text x stage next b e
-accepts_file false x stage next n p b e = absurd (let z : ◌≡◌ {A = ℕ} 0 1 = cc in omega arith)
+accepts_file false x stage next n p b e = absurd (cc)
 
-table_accepts : (x : Reply ℤ) (b : ℤ) → of_answer x ≡ Accepted b → x ≡ accepted b
+table_accepts : (x : Reply ℤ) (b : ℤ) → of_answer x ≡ Ok b → x ≡ accepted b
 table_accepts (accepted c) b e = let same : c ≡ b = cc in ap accepted same
-table_accepts (refused n p) b e = absurd (let z : ◌≡◌ {A = ℕ} 0 1 = cc in omega arith)
+table_accepts (refused n p) b e = absurd (cc)
 
 -- THEOREM: demand 3, of an accepted outcome of the program.
-pub certified : (setting : List ℕ) (files : Files) (blocks loops : List ℕ) (b : ℤ) → outcome_of setting files blocks loops ≡ Accepted b → Certified setting blocks loops b
+pub certified : (setting : List ℕ) (files : Files) (blocks loops : List ℕ) (b : ℤ) → outcome_of setting files blocks loops ≡ Ok b → Certified setting blocks loops b
 unfolding outcome_of blocks_stage loops_stage
 certified setting files blocks loops b e = go (header_of setting) refl e
   where
-    stage : (headerRow : Bool) → header_of setting ≡ cond headerRow Present Absent → blocks_stage headerRow files blocks loops ≡ Accepted b → Certified setting blocks loops b
+    stage : (headerRow : Bool) → header_of setting ≡ Some headerRow → blocks_stage headerRow files blocks loops ≡ Ok b → Certified setting blocks loops b
     stage headerRow h q =
         let x = block_reading headerRow blocks in
         let y = loop_reading headerRow loops in
@@ -124,48 +121,43 @@ certified setting files blocks loops b e = go (header_of setting) refl e
           bounded = wcet_bound t b replied;
         }
 
-    go : (g : Header) → header_of setting ≡ g → setting_stage g files blocks loops ≡ Accepted b → Certified setting blocks loops b
-    go Absent h q = stage false h q
-    go Present h q = stage true h q
-    go Wrong h q = absurd (let z : ◌≡◌ {A = ℕ} 0 1 = cc in omega arith)
+    go : (g : Option Bool) → header_of setting ≡ g → setting_stage g files blocks loops ≡ Ok b → Certified setting blocks loops b
+    go (Some headerRow) h q = stage headerRow h q
+    go None h q = absurd (cc)
 
 -- ---- one file after the other
 
 -- with no file, and with no loops
-in_turn_neither : (h : Header) (files : Files) (blocks loops : List ℕ) → wanted_by (setting_stage h Neither [] []) ≡ Nothing → setting_stage h files blocks loops ≡ setting_stage h Neither [] []
+in_turn_neither : (h : Option Bool) (files : Files) (blocks loops : List ℕ) → wanted_by (setting_stage h Neither [] []) ≡ Nothing → setting_stage h files blocks loops ≡ setting_stage h Neither [] []
 unfolding blocks_stage
-in_turn_neither Absent files blocks loops e = absurd (let z : ◌≡◌ {A = ℕ} 0 1 = cc in omega arith)
-in_turn_neither Present files blocks loops e = absurd (let z : ◌≡◌ {A = ℕ} 0 1 = cc in omega arith)
-in_turn_neither Wrong files blocks loops e = refl
+in_turn_neither (Some headerRow) files blocks loops e = absurd (cc)
+in_turn_neither None files blocks loops e = refl
 
-in_turn_blocks : (h : Header) (files : Files) (blocks loops : List ℕ) → has_blocks files ≡ true → wanted_by (setting_stage h OnlyBlocks blocks []) ≡ Nothing → setting_stage h files blocks loops ≡ setting_stage h OnlyBlocks blocks []
+in_turn_blocks : (h : Option Bool) (files : Files) (blocks loops : List ℕ) → has_blocks files ≡ true → wanted_by (setting_stage h OnlyBlocks blocks []) ≡ Nothing → setting_stage h files blocks loops ≡ setting_stage h OnlyBlocks blocks []
 unfolding blocks_stage loops_stage
 in_turn_blocks h files blocks loops has e = go h e
   where
     stage : (headerRow : Bool) → wanted_by (blocks_stage headerRow OnlyBlocks blocks []) ≡ Nothing → blocks_stage headerRow files blocks loops ≡ blocks_stage headerRow OnlyBlocks blocks []
     stage headerRow q = rw has (ended (block_reading headerRow blocks).end q)
       where
-        ended : (y : End) → wanted_by (of_end Blocks (Refused Loops 107 2) y) ≡ Nothing
-            → of_end Blocks (loops_stage headerRow files loops (routine_of (block_reading headerRow blocks).rows)) y ≡ of_end Blocks (Refused Loops 107 2) y
-        ended (table.all first) q = absurd (let z : ◌≡◌ {A = ℕ} 0 1 = cc in omega arith)
-        ended (table.refused n p) q = refl
+        ended : (y : End) → wanted_by (of_end Blocks (refusal_at Loops 107 2) y) ≡ Nothing
+            → of_end Blocks (loops_stage headerRow files loops (routine_of (block_reading headerRow blocks).rows)) y ≡ of_end Blocks (refusal_at Loops 107 2) y
+        ended (table.all first) q = absurd (cc)
+        ended (table.refused fault) q = refl
 
-    go : (h : Header) → wanted_by (setting_stage h OnlyBlocks blocks []) ≡ Nothing → setting_stage h files blocks loops ≡ setting_stage h OnlyBlocks blocks []
-    go Absent q = stage false q
-    go Present q = stage true q
-    go Wrong q = refl
+    go : (h : Option Bool) → wanted_by (setting_stage h OnlyBlocks blocks []) ≡ Nothing → setting_stage h files blocks loops ≡ setting_stage h OnlyBlocks blocks []
+    go (Some headerRow) q = stage headerRow q
+    go None q = refl
 
-no_blocks : (h : Header) (blocks loops : List ℕ) → setting_stage h Neither blocks loops ≡ setting_stage h Neither [] []
+no_blocks : (h : Option Bool) (blocks loops : List ℕ) → setting_stage h Neither blocks loops ≡ setting_stage h Neither [] []
 unfolding blocks_stage
-no_blocks Absent blocks loops = refl
-no_blocks Present blocks loops = refl
-no_blocks Wrong blocks loops = refl
+no_blocks (Some headerRow) blocks loops = refl
+no_blocks None blocks loops = refl
 
-no_loops_lem : (h : Header) (blocks loops : List ℕ) → setting_stage h OnlyBlocks blocks loops ≡ setting_stage h OnlyBlocks blocks []
+no_loops_lem : (h : Option Bool) (blocks loops : List ℕ) → setting_stage h OnlyBlocks blocks loops ≡ setting_stage h OnlyBlocks blocks []
 unfolding blocks_stage loops_stage
-no_loops_lem Absent blocks loops = refl
-no_loops_lem Present blocks loops = refl
-no_loops_lem Wrong blocks loops = refl
+no_loops_lem (Some headerRow) blocks loops = refl
+no_loops_lem None blocks loops = refl
 
 -- THEOREM: the order in which the program opens its files gives the outcome.
 pub in_turn_lem : (setting blocks loops : List ℕ) → InTurn setting blocks loops

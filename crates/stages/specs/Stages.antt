@@ -1,6 +1,6 @@
 -- Document 01, "One routine in full": what the checking program says of the line on its standard input and of its two files.
 -- Assumes nothing: these are definitions.
-use Rattle.std.specs.Prelude.{ℕ, suc, Bool, true, false, cond, ◌||◌, List, [], ◌∷◌, ◌++◌, map, ◌≡◌, eqb, ℤ, take}
+use Rattle.std.specs.Prelude.{ℕ, suc, Bool, true, false, cond, ◌||◌, List, [], ◌∷◌, ◌++◌, map, ◌≡◌, eqb, ℤ, take, Option, Some, None, Result, Ok, Err}
 use Prim.Native.String.{String}
 use Rattle.limits.specs.Limits.{most_blocks, most_loops, most_text_bytes}
 use Rattle.wcet.specs.Table.{Routine}
@@ -12,16 +12,13 @@ use Rattle.rows.specs.declared.BlockRow.{BlockRow}
 use Rattle.rows.specs.declared.LoopRow.{LoopRow}
 use Rattle.csv_text.specs.declared.Ending.{Ending}
 use Rattle.tables.specs.Table as table
-use Rattle.tables.specs.Table.{End, Reading, block_table, loop_table}
+use Rattle.tables.specs.Table.{read_number, read_place, End, Reading, block_table, loop_table}
 use Rattle.lists.specs.Bytes.{bytes, same}
-use Rattle.stages.specs.declared.Header.{Header}
-use Rattle.stages.specs.declared.Header.TheVariants.{Absent, Present, Wrong}
 use Rattle.stages.specs.declared.Files.{Files}
 use Rattle.stages.specs.declared.Files.TheVariants.{Neither, Blocks as OnlyBlocks, Both}
 use Rattle.report.specs.declared.Stage.{Stage}
 use Rattle.report.specs.declared.Stage.TheVariants.{Setting, Blocks, Loops, Table}
-use Rattle.report.specs.declared.Outcome.{Outcome}
-use Rattle.report.specs.declared.Outcome.TheVariants.{Accepted, Refused}
+use Rattle.report.specs.declared.Refusal.{Refusal}
 use Rattle.stages.specs.declared.Wanted.{Wanted}
 use Rattle.stages.specs.declared.Wanted.TheVariants.{Nothing, Blocks as BlockFile, Loops as LoopFile}
 
@@ -31,11 +28,18 @@ use Rattle.stages.specs.declared.Wanted.TheVariants.{Nothing, Blocks as BlockFil
 abbrev pub setting_is : List ℕ → String → Bool
 setting_is s word = same s (bytes word) || same s (bytes word ++ 10 ∷ [])
 
--- "one line, header=absent or header=present .. anything else before, in or after it is 100"
-unfoldable pub header_of : List ℕ → Header
-header_of s = cond (setting_is s "header=absent") Absent (cond (setting_is s "header=present") Present Wrong)
+-- "one line, header=absent or header=present .. anything else before, in or after it is 100": whether there is a header row, if the line says it
+unfoldable pub header_of : List ℕ → Option Bool
+header_of s = cond (setting_is s "header=absent") (Some false) (cond (setting_is s "header=present") (Some true) None)
 
 -- ---- the stages
+
+-- the bound, or a refusal
+abbrev pub Outcome : Type 0
+Outcome = Result ℤ Refusal
+
+abbrev pub refusal_at : Stage → ℕ → ℕ → Outcome
+refusal_at stage number place = Err (record { stage = stage; number = number; place = place })
 
 -- the routine of the columns of blocks and the rows of loops
 abbrev pub with_loops : (costs loops firsts seconds : List ℕ) (figures : List ℤ) → List LoopRow → Routine
@@ -47,8 +51,8 @@ routine_of bs = with_loops (map cost_of bs) (map innermost_of bs) (map first_of 
 
 -- the last stage: the bound, or 201 to 209
 abbrev pub of_answer : Reply ℤ → Outcome
-of_answer (accepted bound) = Accepted bound
-of_answer (refused number place) = Refused Table number place
+of_answer (accepted bound) = Ok bound
+of_answer (refused number place) = refusal_at Table number place
 
 abbrev pub table_stage : Routine → Outcome
 table_stage t = of_answer (table_reply t)
@@ -56,7 +60,7 @@ table_stage t = of_answer (table_reply t)
 -- a text that is refused, 101 to 106 and 108, or what comes after its rows, whatever its line end
 abbrev pub of_end : Stage → Outcome → End → Outcome
 of_end stage next (table.all ending) = next
-of_end stage next (table.refused number place) = Refused stage number place
+of_end stage next (table.refused fault) = refusal_at stage (read_number fault) (read_place fault)
 
 abbrev pub after_reading : {A : Type 0} → Stage → (List A → Outcome) → Reading A → Outcome
 after_reading stage next x = of_end stage (next x.rows) x.end
@@ -81,16 +85,15 @@ has_loops Both = true
 
 -- "Setting comes first, then blocks, loops, table; 107 carries the stage of its file."
 unfoldable pub loops_stage : Bool → Files → List ℕ → (List LoopRow → Routine) → Outcome
-loops_stage headerRow files loops with-loops = cond (has_loops files) (after_reading Loops (λ ls. table_stage (with-loops ls)) (loop_reading headerRow loops)) (Refused Loops 107 2)
+loops_stage headerRow files loops with-loops = cond (has_loops files) (after_reading Loops (λ ls. table_stage (with-loops ls)) (loop_reading headerRow loops)) (refusal_at Loops 107 2)
 
 unfoldable pub blocks_stage : Bool → Files → List ℕ → List ℕ → Outcome
-blocks_stage headerRow files blocks loops = cond (has_blocks files) (after_reading Blocks (λ bs. loops_stage headerRow files loops (routine_of bs)) (block_reading headerRow blocks)) (Refused Blocks 107 1)
+blocks_stage headerRow files blocks loops = cond (has_blocks files) (after_reading Blocks (λ bs. loops_stage headerRow files loops (routine_of bs)) (block_reading headerRow blocks)) (refusal_at Blocks 107 1)
 
 -- "it holds for both files"
-abbrev pub setting_stage : Header → Files → List ℕ → List ℕ → Outcome
-setting_stage Absent files blocks loops = blocks_stage false files blocks loops
-setting_stage Present files blocks loops = blocks_stage true files blocks loops
-setting_stage Wrong files blocks loops = Refused Setting 100 0
+abbrev pub setting_stage : Option Bool → Files → List ℕ → List ℕ → Outcome
+setting_stage (Some headerRow) files blocks loops = blocks_stage headerRow files blocks loops
+setting_stage None files blocks loops = refusal_at Setting 100 0
 
 unfoldable pub outcome_of : List ℕ → Files → List ℕ → List ℕ → Outcome
 outcome_of setting files blocks loops = setting_stage (header_of setting) files blocks loops
@@ -105,8 +108,8 @@ wanted_at Loops = LoopFile
 wanted_at Table = Nothing
 
 abbrev pub wanted_by : Outcome → Wanted
-wanted_by (Accepted bound) = Nothing
-wanted_by (Refused stage number place) = cond (eqb number 107) (wanted_at stage) Nothing
+wanted_by (Ok bound) = Nothing
+wanted_by (Err refusal) = cond (eqb refusal.number 107) (wanted_at refusal.stage) Nothing
 
 -- ---- what is claimed of the definitions, and proved in proofs/
 
@@ -114,7 +117,7 @@ wanted_by (Refused stage number place) = cond (eqb number 107) (wanted_at stage)
 -- blocks.
 pub record Certified (setting blocks loops : List ℕ) (b : ℤ) : Type 0 where
   pub header_row : Bool
-  pub said : header_of setting ≡ cond header_row Present Absent
+  pub said : header_of setting ≡ Some header_row
   pub block_rows : List BlockRow
   pub loop_rows : List LoopRow
   pub block_ending : Ending

@@ -2,25 +2,16 @@
 #![tactic(auto)]
 
 ghost use Rattle.std.specs.Prelude.{◌≡◌, take};
-ghost use Rattle.nesting.specs.Answers.{refusal};
 ghost use Rattle.certificate.specs.Answers.{table_meaning};
-ghost use Rattle.stages.specs.Stages.{header_of, has_blocks, has_loops, of_answer, with_loops, loops_stage, blocks_stage, outcome_of, wanted_by};
+ghost use Rattle.stages.specs.Stages.{header_of, of_answer, refusal_at, with_loops, loops_stage, blocks_stage, outcome_of, wanted_by};
 
-use certificate::TableReply;
+use certificate::TableFault;
 use limits::{MOST_BLOCKS, MOST_LOOPS};
-use nesting::StructureFault;
-use report::{Outcome, Stage};
-use tables::ReadReply;
+use nesting::Tables;
+use report::{Refusal, Stage};
 
-// What the setting says of both files.
-#[derive(Clone, Copy)]
-pub enum Header {
-    Absent,
-    Present,
-    Wrong,
-}
-
-// Which of the two files could be read. The loops file is opened only after good blocks.
+// Which of the two files could be read. The loops file is opened only after good blocks. The texts stand beside it, and not in it: the laws
+// `FirstBytes` and `InTurn` of specs/ speak of a text whether or not its file could be read.
 #[derive(Clone, Copy)]
 pub enum Files {
     Neither,
@@ -28,7 +19,7 @@ pub enum Files {
     Both,
 }
 
-// The file that an outcome waits for.
+// The file that an outcome waits for. An Option of an enum of two files would say the same in two steps.
 #[derive(Clone, Copy)]
 pub enum Wanted {
     Nothing,
@@ -38,122 +29,52 @@ pub enum Wanted {
 
 // ---- the setting
 
-fn header_of(setting: &[u8]) -> Header
+// Whether both files have a header row, or `None` where the setting is wrong. `==` would want `.as_slice()` after each word.
+fn header_of(setting: &[u8]) -> Option<bool>
     ensures { result ≡ header_of setting.now }
 {
-    if check::same(setting, b"header=absent") {
-        return Header::Absent;
+    if check::same(setting, b"header=absent") || check::same(setting, b"header=absent\n") {
+        return Some(false);
     }
-    if check::same(setting, b"header=absent\n") {
-        return Header::Absent;
+    if check::same(setting, b"header=present") || check::same(setting, b"header=present\n") {
+        return Some(true);
     }
-    if check::same(setting, b"header=present") {
-        return Header::Present;
-    }
-    if check::same(setting, b"header=present\n") {
-        return Header::Present;
-    }
-    Header::Wrong
-}
-
-// ---- the first places of a column
-
-fn first_u16(column: &[u16], rows: usize) -> &[u16]
-    ensures { result.now ≡ take rows column.now }
-{
-    if column.len() <= rows {
-        return column;
-    }
-    &column[..rows]
-}
-
-fn first_u32(column: &[u32], rows: usize) -> &[u32]
-    ensures { result.now ≡ take rows column.now }
-{
-    if column.len() <= rows {
-        return column;
-    }
-    &column[..rows]
-}
-
-fn first_u64(column: &[u64], rows: usize) -> &[u64]
-    ensures { result.now ≡ take rows column.now }
-{
-    if column.len() <= rows {
-        return column;
-    }
-    &column[..rows]
-}
-
-fn first_i64(column: &[i64], rows: usize) -> &[i64]
-    ensures { result.now ≡ take rows column.now }
-{
-    if column.len() <= rows {
-        return column;
-    }
-    &column[..rows]
+    None
 }
 
 // ---- the stages
 
-fn has_blocks(files: Files) -> bool
-    ensures { result ≡ has_blocks files }
+// The first places of a column, or all of them.
+fn leading<T>(column: &[T], rows: usize) -> &[T]
+    ensures { result.now ≡ take rows column.now }
 {
-    match files {
-        Files::Neither => false,
-        Files::Blocks => true,
-        Files::Both => true,
-    }
+    column.get(..rows).unwrap_or(column)
 }
 
-fn has_loops(files: Files) -> bool
-    ensures { result ≡ has_loops files }
+fn refused(stage: Stage, number: u32, place: usize) -> Result<i64, Refusal>
+    ensures { result ≡ refusal_at stage number place }
 {
-    match files {
-        Files::Neither => false,
-        Files::Blocks => false,
-        Files::Both => true,
-    }
-}
-
-fn refused(stage: Stage, number: u32, place: usize) -> Outcome
-    ensures { result ≡ Outcome.Refused stage number place }
-{
-    Outcome::Refused {
+    Err(Refusal {
         stage,
         number,
         place: place as u64,
-    }
-}
-
-// 201 to 207.
-fn structure_stage(fault: StructureFault) -> Outcome
-    ensures { result ≡ of_answer (refusal fault) }
-{
-    match fault {
-        StructureFault::Sizes => refused(Stage::Table, 201, 0),
-        StructureFault::Loop(l) => refused(Stage::Table, 202, l),
-        StructureFault::Block(u) => refused(Stage::Table, 203, u),
-        StructureFault::Header(l) => refused(Stage::Table, 204, l),
-        StructureFault::Depth(l) => refused(Stage::Table, 205, l),
-        StructureFault::EntryOrExit(u) => refused(Stage::Table, 206, u),
-        StructureFault::PastHeader(u) => refused(Stage::Table, 207, u),
-    }
+    })
 }
 
 // The bound, or 201 to 209.
-fn table_stage(reply: TableReply) -> Outcome
+fn table_stage(reply: Result<i64, TableFault>) -> Result<i64, Refusal>
     ensures { result ≡ of_answer (table_meaning reply) }
 {
     match reply {
-        TableReply::Accepted(bound) => Outcome::Accepted(bound),
-        TableReply::Structure(fault) => structure_stage(fault),
-        TableReply::Inequality(u) => refused(Stage::Table, 208, u),
-        TableReply::UndeclaredLoop => refused(Stage::Table, 209, 0),
+        Ok(bound) => Ok(bound),
+        Err(fault) => {
+            let refusal = fault.refusal();
+            refused(Stage::Table, refusal.number, refusal.place)
+        }
     }
 }
 
-// The loops, after the columns of good blocks; then the table.
+// The loops, after the columns of good blocks; then the table. `Tables` cannot hold the blocks alone: it has columns of loops too.
 fn loops_stage(
     header_row: bool,
     files: Files,
@@ -163,41 +84,38 @@ fn loops_stage(
     first: &[u16],
     second: &[u16],
     figure: &[i64],
-) -> Outcome
+) -> Result<i64, Refusal>
     ensures { result ≡ loops_stage header_row files loops.now (with_loops cost.now innermost.now first.now second.now figure.now) }
 {
-    if !has_loops(files) {
+    let Files::Both = files else {
         return refused(Stage::Loops, 107, 2);
-    }
+    };
     let mut p = [0u16; MOST_LOOPS];
     let mut h = [0u16; MOST_LOOPS];
     let mut l = [0u32; MOST_LOOPS];
     let mut m = [0u64; MOST_LOOPS];
     let read = tables::read_loops(loops, header_row, &mut p, &mut h, &mut l, &mut m);
     match read {
-        ReadReply::Refused { number, record } => refused(Stage::Loops, number, record),
-        ReadReply::Rows {
-            count: rows,
-            ending: _,
-        } => table_stage(certificate::check(
+        Err(fault) => refused(Stage::Loops, fault.number(), fault.place()),
+        Ok(rows) => table_stage(certificate::check(&Tables {
             cost,
-            innermost,
+            loops: innermost,
             first,
             second,
             figure,
-            first_u16(&p, rows),
-            first_u16(&h, rows),
-            first_u32(&l, rows),
-            first_u64(&m, rows),
-        )),
+            parent: leading(&p, rows.count),
+            header: leading(&h, rows.count),
+            limit: leading(&l, rows.count),
+            multiplier: leading(&m, rows.count),
+        })),
     }
 }
 
 // The blocks, and what comes after them.
-fn blocks_stage(header_row: bool, files: Files, blocks: &[u8], loops: &[u8]) -> Outcome
+fn blocks_stage(header_row: bool, files: Files, blocks: &[u8], loops: &[u8]) -> Result<i64, Refusal>
     ensures { result ≡ blocks_stage header_row files blocks.now loops.now }
 {
-    if !has_blocks(files) {
+    if let Files::Neither = files {
         return refused(Stage::Blocks, 107, 1);
     }
     let mut cost = [0u32; MOST_BLOCKS];
@@ -215,56 +133,42 @@ fn blocks_stage(header_row: bool, files: Files, blocks: &[u8], loops: &[u8]) -> 
         &mut figure,
     );
     match read {
-        ReadReply::Refused { number, record } => refused(Stage::Blocks, number, record),
-        ReadReply::Rows {
-            count: n,
-            ending: _,
-        } => loops_stage(
+        Err(fault) => refused(Stage::Blocks, fault.number(), fault.place()),
+        Ok(rows) => loops_stage(
             header_row,
             files,
             loops,
-            first_u32(&cost, n),
-            first_u16(&innermost, n),
-            first_u16(&first, n),
-            first_u16(&second, n),
-            first_i64(&figure, n),
+            leading(&cost, rows.count),
+            leading(&innermost, rows.count),
+            leading(&first, rows.count),
+            leading(&second, rows.count),
+            leading(&figure, rows.count),
         ),
     }
 }
 
 // The outcome: setting, blocks, loops, table in turn.
-pub fn outcome_of(setting: &[u8], files: Files, blocks: &[u8], loops: &[u8]) -> Outcome
+pub fn outcome_of(setting: &[u8], files: Files, blocks: &[u8], loops: &[u8]) -> Result<i64, Refusal>
     ensures { result ≡ outcome_of setting.now files blocks.now loops.now }
 {
-    let header = header_of(setting);
-    match header {
-        Header::Absent => blocks_stage(false, files, blocks, loops),
-        Header::Present => blocks_stage(true, files, blocks, loops),
-        Header::Wrong => refused(Stage::Setting, 100, 0),
+    match header_of(setting) {
+        Some(header_row) => blocks_stage(header_row, files, blocks, loops),
+        None => refused(Stage::Setting, 100, 0),
     }
 }
 
 // ---- the order in which files are opened
 
 // The file that the outcome names as unreadable (107), if it names one.
-pub fn wanted_by(outcome: Outcome) -> Wanted
+pub fn wanted_by(outcome: Result<i64, Refusal>) -> Wanted
     ensures { result ≡ wanted_by outcome }
 {
-    let Outcome::Refused {
-        stage,
-        number,
-        place: _,
-    } = outcome
-    else {
-        return Wanted::Nothing;
-    };
-    if number != 107 {
-        return Wanted::Nothing;
-    }
-    match stage {
-        Stage::Setting => Wanted::Nothing,
-        Stage::Blocks => Wanted::Blocks,
-        Stage::Loops => Wanted::Loops,
-        Stage::Table => Wanted::Nothing,
+    match outcome {
+        Err(refusal) if refusal.number == 107 => match refusal.stage {
+            Stage::Blocks => Wanted::Blocks,
+            Stage::Loops => Wanted::Loops,
+            Stage::Setting | Stage::Table => Wanted::Nothing,
+        },
+        _ => Wanted::Nothing,
     }
 }

@@ -1,31 +1,23 @@
 // Reading a descriptor or a file to its end, and writing all of a slice. The calls of the system are in `read_some`, `write_some` and `open_file`.
 #![tactic(auto)]
 
-ghost use Rattle.std.specs.Prelude.{◌≡◌, ◌≤◌, IfOk, length, take};
+ghost use Rattle.std.specs.Prelude.{◌≡◌, ◌≤◌, length, take};
 ghost use Rattle.std.specs.Io.{ReadsAtMost, WritesAtMost};
 ghost use Rattle.streams.specs.Calls.{Moved, Within, Answered, Took, Opened, AllRead, FileRead, WroteTo, number, opened_number};
 
 use std::fs::File;
 use std::io::{Read, Write};
-use std::os::fd::{AsFd, AsRawFd, BorrowedFd};
+use std::os::fd::{AsFd, BorrowedFd};
 use std::process::{ChildStdin, ChildStdout};
 
-// What is read and written: the descriptors 0, 1 and 2, a file, which has the number that opening it gave, and any other number. A file that
-// could not be opened has -1.
+// What is read and written: the descriptors 0, 1 and 2, a file, which has the number that opening it gave, and any other number.
 #[derive(Clone, Copy)]
 enum Descriptor<'a> {
     Input,
     Output,
     Error,
-    File(&'a Option<File>),
+    File(&'a File),
     Number(i32),
-}
-
-// What reading gave: the count of bytes in the buffer, or an error.
-#[derive(Clone, Copy)]
-pub struct Content {
-    pub readable: bool,
-    pub len: usize,
 }
 
 // ---- the calls
@@ -38,17 +30,6 @@ fn descriptor_of(fd: i32) -> Descriptor<'static>
         1 => Descriptor::Output,
         2 => Descriptor::Error,
         _ => Descriptor::Number(fd),
-    }
-}
-
-// The count of bytes that a call moved, or -1.
-fn answer(moved: std::io::Result<usize>, part: &[u8]) -> isize
-    requires { IfOk moved (λ n. n ≤ length part.now) }
-    ensures { Moved (length part.now) result }
-{
-    match moved {
-        Ok(n) => n as isize,
-        Err(_) => -1,
     }
 }
 
@@ -68,31 +49,27 @@ fn write_duplicate(fd: BorrowedFd<'_>, part: &[u8]) -> std::io::Result<usize>
 
 // Std reads and writes no other number: there the crate `io` makes one call, which is lent one byte. `io` tells no error from the end, so an
 // error counts as the end.
-fn read_byte(fd: i32, part: &mut [u8]) -> isize
+fn read_byte(fd: i32, part: &mut [u8]) -> Option<usize>
     ensures { Within (length part.old) (record { answer = result; lent = part.new }) }
 {
     if part.is_empty() {
-        return 0;
+        return Some(0);
     }
-    if io::read_full(fd, &mut part[..1]) == 0 {
-        0
-    } else {
-        1
-    }
+    Some(io::read_full(fd, &mut part[..1]))
 }
 
-fn write_byte(fd: i32, part: &[u8]) -> isize
+fn write_byte(fd: i32, part: &[u8]) -> Option<usize>
     ensures { Moved (length part.now) result }
 {
     if part.is_empty() {
-        return 0;
+        return Some(0);
     }
-    if io::write_all(fd, &part[..1]) { 1 } else { -1 }
+    io::write_all(fd, &part[..1]).then_some(1)
 }
 
-// A file that could not be opened can be neither read nor written: -1. Nor can a negative number be read, where `io` would tell the end.
+// The count of bytes that were read, or `None`. A negative number cannot be read, where `io` would tell the end.
 #[tactic(auto, unfolding(crate::specs::Calls::Answered))]
-fn read_some(rt: &HostRuntime, from: Descriptor<'_>, part: &mut [u8]) -> isize
+fn read_some(rt: &HostRuntime, from: Descriptor<'_>, part: &mut [u8]) -> Option<usize>
     ensures answered { Answered (number from.entry) (length part.old) (record { answer = result; lent = part.new }) }
     ensures within { Within (length part.old) (record { answer = result; lent = part.new }) }
 {
@@ -100,16 +77,16 @@ fn read_some(rt: &HostRuntime, from: Descriptor<'_>, part: &mut [u8]) -> isize
         Descriptor::Input => rt.stdin().read(part),
         Descriptor::Output => read_duplicate(rt.stdout().as_fd(), part),
         Descriptor::Error => read_duplicate(rt.stderr().as_fd(), part),
-        Descriptor::File(None) => return -1,
-        Descriptor::File(Some(file)) => (&*file).read(part),
-        Descriptor::Number(..=-1) => return -1,
+        Descriptor::File(file) => (&*file).read(part),
+        Descriptor::Number(..=-1) => return None,
         Descriptor::Number(fd) => return read_byte(fd, part),
     };
-    answer(moved, part)
+    moved.ok()
 }
 
+// The count of bytes that were written, or `None`.
 #[tactic(auto, unfolding(crate::specs::Calls::Took))]
-fn write_some(rt: &HostRuntime, to: Descriptor<'_>, part: &[u8]) -> isize
+fn write_some(rt: &HostRuntime, to: Descriptor<'_>, part: &[u8]) -> Option<usize>
     ensures took { Took (number to.entry) part.now result }
     ensures moved { Moved (length part.now) result }
 {
@@ -117,92 +94,58 @@ fn write_some(rt: &HostRuntime, to: Descriptor<'_>, part: &[u8]) -> isize
         Descriptor::Input => write_duplicate(rt.stdin().as_fd(), part),
         Descriptor::Output => rt.stdout().write(part),
         Descriptor::Error => rt.stderr().write(part),
-        Descriptor::File(None) => return -1,
-        Descriptor::File(Some(file)) => (&*file).write(part),
+        Descriptor::File(file) => (&*file).write(part),
         Descriptor::Number(fd) => return write_byte(fd, part),
     };
-    answer(moved, part)
+    moved.ok()
 }
 
 #[tactic(auto, unfolding(crate::specs::Calls::Opened))]
 fn open_file(rt: &HostRuntime, path: &[u8]) -> Option<File>
     ensures { Opened path.now (opened_number result) }
 {
-    match std::str::from_utf8(path) {
-        Ok(name) => File::open(rt, name).ok(),
-        Err(_) => None,
-    }
+    let name = std::str::from_utf8(path).ok()?;
+    File::open(rt, name).ok()
 }
 
 // ---- reading
 
-// Reads until the buffer is full or the input ends. After an error nothing that came before it counts.
-fn read_from(rt: &HostRuntime, from: Descriptor<'_>, buffer: &mut [u8]) -> Content
+// Reads until the buffer is full or the input ends: the count of bytes in the buffer. After an error nothing that came before it counts.
+fn read_from(rt: &HostRuntime, from: Descriptor<'_>, buffer: &mut [u8]) -> Option<usize>
     ensures { AllRead (number from.entry) (length buffer.old) result buffer.new }
 {
+    // Not a `for`: a call decides how far it goes.
     let mut len: usize = 0;
     while len < buffer.len() {
-        let got = read_some(rt, from, &mut buffer[len..]);
-        if got < 0 {
-            return Content {
-                readable: false,
-                len: 0,
-            };
-        }
+        let got = read_some(rt, from, &mut buffer[len..])?;
         if got == 0 {
-            return Content {
-                readable: true,
-                len,
-            };
+            return Some(len);
         }
-        len += got as usize;
+        len += got;
     }
-    Content {
-        readable: true,
-        len,
-    }
+    Some(len)
 }
 
 // The same of the descriptor with this number.
-pub fn read_all(rt: &HostRuntime, fd: i32, buffer: &mut [u8]) -> Content
+pub fn read_all(rt: &HostRuntime, fd: i32, buffer: &mut [u8]) -> Option<usize>
     ensures { AllRead fd (length buffer.old) result buffer.new }
 {
     read_from(rt, descriptor_of(fd), buffer)
 }
 
-// The number of an opened file, or -1.
-fn number_of(opened: &Option<File>) -> i32
-    ensures { result ≡ opened_number opened.now }
-{
-    match opened {
-        Some(file) => file.as_raw_fd(),
-        None => -1,
-    }
-}
-
-// The same of a file, which is closed again.
-pub fn read_file(rt: &HostRuntime, path: &[u8], buffer: &mut [u8]) -> Content
+// The same of a file, which is closed again. One that cannot be opened cannot be read.
+pub fn read_file(rt: &HostRuntime, path: &[u8], buffer: &mut [u8]) -> Option<usize>
     ensures { FileRead path.now (length buffer.old) result buffer.new }
 {
-    let opened = open_file(rt, path);
-    let fd = number_of(&opened);
-    if fd < 0 {
-        return Content {
-            readable: false,
-            len: 0,
-        };
-    }
-    read_from(rt, Descriptor::File(&opened), buffer)
+    let file = open_file(rt, path)?;
+    read_from(rt, Descriptor::File(&file), buffer)
 }
 
 // The first bytes of a buffer: what was read into it, or what it holds of a line.
 pub fn prefix(buffer: &[u8], len: usize) -> &[u8]
     ensures { result.now ≡ take len buffer.now }
 {
-    if buffer.len() <= len {
-        return buffer;
-    }
-    &buffer[..len]
+    buffer.get(..len).unwrap_or(buffer)
 }
 
 // ---- writing
@@ -211,13 +154,14 @@ pub fn prefix(buffer: &[u8], len: usize) -> &[u8]
 fn write_to(rt: &HostRuntime, to: Descriptor<'_>, bytes: &[u8]) -> bool
     ensures { WroteTo (number to.entry) bytes.now result }
 {
+    // A call of the system says how many bytes it took, so no range over them is known beforehand.
     let mut done: usize = 0;
     while done < bytes.len() {
-        let put = write_some(rt, to, &bytes[done..]);
-        if put <= 0 {
+        let put = write_some(rt, to, &bytes[done..]).unwrap_or(0);
+        if put == 0 {
             return false;
         }
-        done += put as usize;
+        done += put;
     }
     true
 }

@@ -1,21 +1,11 @@
-use Rattle.stages.proofs.Stages.{blocks_unread, blocks_refused, blocks_taken}
-use Rattle.stages.specs.Stages.{has_blocks}
-use mathlib.Core.Bool.{true, false}
-use mathlib.Core.Path.{◌≡◌, sym, ◌∙◌}
-use borrow.Author.Rules.{rules}
+use Rattle.stages.proofs.Stages.{none_there, blocks_there, blocks_unread, blocks_refused, blocks_taken}
 use Rattle.stages.proofs.blocks_stage.Goals as goal
 
-pub returns-then-not-has_blocks : goal.returns-then-not-has_blocks
-returns-then-not-has_blocks c =
-    let unread : has_blocks c.args.files ≡ false = sym c.has_blocks.ensures ∙ c.if-not-has_blocks.true in
-    blocks_unread _ _ _ _ (unread) c.refused.ensures
+pub returns-in-Neither : goal.returns-in-Neither
+returns-in-Neither c = blocks_unread _ _ _ _ (none_there c.in-Neither.is) c.refused.ensures
 
-pub returns-in-Refused : goal.returns-in-Refused
-returns-in-Refused c =
-    let has : has_blocks c.args.files ≡ true = sym c.has_blocks.ensures ∙ c.if-not-has_blocks.false in
-    blocks_refused _ _ _ _ (has) c.read_blocks-read.ensures _ _ c.refused-in-Refused.ensures (search rules)
+pub returns-in-Err : goal.returns-in-Err
+returns-in-Err c = blocks_refused _ _ _ _ (blocks_there _ c.in_default.not-Neither) c.read_blocks-read.ensures c.in-Err.fault c.in-Err.is (rw (c.number.ensures, c.place.ensures) at c.refused-in-Err.ensures)
 
-pub returns-in-Rows : goal.returns-in-Rows
-returns-in-Rows c =
-    let has : has_blocks c.args.files ≡ true = sym c.has_blocks.ensures ∙ c.if-not-has_blocks.false in
-    blocks_taken _ _ _ _ (has) c.read_blocks-read.ensures c.in-Rows.n c.in-Rows.ending c.first_u32.ensures c.first_u16.ensures c.first_u16-in-Rows.ensures c.first_u16-in-Rows-2.ensures c.first_i64.ensures c.loops_stage.ensures (search rules)
+pub returns-in-Ok : goal.returns-in-Ok
+returns-in-Ok c = blocks_taken _ _ _ _ (blocks_there _ c.in_default.not-Neither) c.read_blocks-read.ensures c.in-Ok.rows c.leading.ensures c.leading-in-Ok.ensures c.leading-in-Ok-2.ensures c.leading-in-Ok-3.ensures c.leading-in-Ok-4.ensures c.loops_stage.ensures c.in-Ok.is

@@ -1,13 +1,9 @@
+use Rattle.std.proofs.Common.{Some, None}
 use Rattle.stages.proofs.Stages.{setting_told}
-use Rattle.stages.specs.declared.Header.TheVariants.{Absent, Present, Wrong}
-use borrow.Author.Rules.{rules}
 use Rattle.stages.proofs.outcome_of.Goals as goal
 
-pub returns-in-Absent : goal.returns-in-Absent
-returns-in-Absent c = setting_told _ _ _ _ Absent c.header_of-header.ensures (search rules) c.blocks_stage.ensures
+pub returns-in-Some : goal.returns-in-Some
+returns-in-Some c = setting_told _ _ _ _ (Some c.in-Some.header_row) c.header_of.ensures c.in-Some.is c.blocks_stage.ensures
 
-pub returns-in-Present : goal.returns-in-Present
-returns-in-Present c = setting_told _ _ _ _ Present c.header_of-header.ensures (search rules) c.blocks_stage-in-Present.ensures
-
-pub returns-in-Wrong : goal.returns-in-Wrong
-returns-in-Wrong c = setting_told _ _ _ _ Wrong c.header_of-header.ensures (search rules) c.refused.ensures
+pub returns-in-None : goal.returns-in-None
+returns-in-None c = setting_told _ _ _ _ None c.header_of.ensures c.in-None.is c.refused.ensures
