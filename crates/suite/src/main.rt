@@ -2,25 +2,14 @@
 // and a checker that was written apart from it both reply to each case, and all three are compared.
 #![tactic(auto)]
 
+mod library;
 mod running;
 mod script;
 
-use cases::tally::{say, say_number};
-use script::Cases;
+use std::io;
 
-// The descriptor of standard input.
-const STANDARD_INPUT: i32 = 0;
-
-fn read_cases(text: &mut Cases) -> usize {
-    io::read_full(STANDARD_INPUT, text)
-}
-
-fn main() {
-    let mut text = [0u8; 262144];
-    let n = read_cases(&mut text);
-    let t = script::run(&text, n);
-    say_number(t.cases);
-    say(b" cases, ");
-    say_number(t.wrong);
-    say(b" wrong\n");
+fn main(rt: HostRuntime) -> io::Result<()> {
+    let text = io::read_to_string(rt.alloc(), rt.reader())?;
+    let tally = script::run(&rt, &text)?;
+    println!(rt; "{} cases, {} wrong", tally.cases, tally.wrong)
 }

@@ -1,94 +1,89 @@
 // The cases are lines of text: what to run, a name, the reply that it must have, and what it is run on, with a bar between them.
-use crate::running::{blocks_into, loops_into, tables};
-use cases::lines::{field, first_byte, kind_of, number_or};
-use cases::making::{make_long, make_text, make_walk};
-use cases::parts::{NONE, first_u16};
+use crate::library;
+use crate::running::{
+    check_answers, dump_answers, mps_answers, read_pair, shortest_answers, solve_answers,
+    table_answers, tally_answers, walk_answers,
+};
+use cases::lines::{Kind, Line};
+use cases::tables::Pair;
 use cases::tally::{Answers, Tally};
-use pieces::part;
+use cases::{tables, walks};
+use std::alloc::{AllocError, Global};
+use std::io;
 
-// The cases.
-pub type Cases = [u8; 262144];
-// A text that is read as a table: up to 64 bytes more than it may have.
-type Text = [u8; 65600];
-// A walk: up to one block more than it may have.
-type Steps = [u16; 1048577];
-
-// header setting | text | places | shorter column
-fn read_case(line: &[u8], of_blocks: bool) -> Answers {
-    let mut text = [0u8; 65600];
-    let n = make_table(line, of_blocks, &mut text);
-    table_case(line, of_blocks, n, &text)
-}
-
-fn make_table(line: &[u8], of_blocks: bool, text: &mut Text) -> usize {
-    make_text(field(line, 4), of_blocks, text)
-}
-
-fn table_case(line: &[u8], of_blocks: bool, n: usize, text: &Text) -> Answers {
-    let header = first_byte(field(line, 3)) == b'p';
-    let room = number_or(line, 5, if of_blocks { 1026 } else { 66 });
-    let shorter = number_or(line, 6, NONE);
-    if of_blocks {
-        return blocks_into(room, shorter, part(text, 0, n), header);
+// blocks | loops | nested or flat | shorter column | back
+fn sized_pair(alloc: Global, line: Line<'_>) -> Result<Pair, AllocError> {
+    let n = line.number(3).unwrap_or_default();
+    let m = line.number(4).unwrap_or_default();
+    let mut pair = tables::sized(alloc, n, m, line.field(5) == "nested", line.number(7))?;
+    if let Some(column) = line.number(6) {
+        pair.shorten(column);
     }
-    loops_into(room, shorter, part(text, 0, n), header)
+    Ok(pair)
 }
 
-// A pair of tables, and a walk over it where the line has one.
-fn tables_case(line: &[u8]) -> Answers {
-    let mut steps = [0u16; 512];
-    let length = make_walk(line, &mut steps);
-    tables(line, first_u16(&steps, length, NONE, 0))
-}
-
-// block text | loop text | length of a long walk
-fn long_case(line: &[u8]) -> Answers {
-    let mut steps = [0u16; 1048577];
-    let length = make_steps(line, &mut steps);
-    long_steps(line, length, &steps)
-}
-
-fn make_steps(line: &[u8], steps: &mut Steps) -> usize {
-    make_long(line, steps)
-}
-
-fn long_steps(line: &[u8], length: usize, steps: &Steps) -> Answers {
-    tables(line, first_u16(steps, length, NONE, 0))
-}
-
-fn replies_to(line: &[u8]) -> Answers {
-    let kind = kind_of(line);
-    if (kind == b'b') | (kind == b'l') {
-        return read_case(line, kind == b'b');
+// blocks | loops | target | room | shorter column
+fn program_pair(alloc: Global, line: Line<'_>) -> Result<Pair, AllocError> {
+    let n = line.number(3).unwrap_or_default();
+    let m = line.number(4).unwrap_or_default();
+    let mut pair = tables::program(alloc, n, m, line.number(5))?;
+    if let Some(column) = line.number(7) {
+        pair.shorten(column);
     }
-    if (kind == b'r') | (kind == b'c') {
-        return long_case(line);
-    }
-    tables_case(line)
+    Ok(pair)
 }
 
-// A line that starts with # is a heading.
-fn case(t: Tally, line: &[u8]) -> Tally {
-    if first_byte(line) == b'#' {
-        return t;
+// The walk of a line, written or by its length.
+fn walk_of(alloc: Global, line: Line<'_>, kind: Kind) -> Result<Vec<u16>, AllocError> {
+    match kind {
+        Kind::Run => walks::run(alloc, line.number(5).unwrap_or_default()),
+        Kind::Circle => walks::circle(alloc, line.number(5).unwrap_or_default()),
+        _ => walks::written(alloc, line.field(5)),
     }
-    t.told(field(line, 1), replies_to(line), field(line, 2))
 }
 
-// Runs every case of the text.
-fn run_all(text: &[u8], none: Tally) -> Tally {
-    let mut t = none;
-    let mut start = 0;
-    for i in 0..text.len() {
-        if text[i] == 10 {
-            t = case(t, part(text, start, i));
-            start = i + 1;
+fn answers_to(alloc: Global, line: Line<'_>, kind: Kind) -> io::Result<Answers> {
+    match kind {
+        Kind::Blocks => table_answers(alloc, line, library::read_blocks),
+        Kind::Loops => table_answers(alloc, line, library::read_loops),
+        Kind::Tables => Ok(check_answers(&read_pair(alloc, line)?)),
+        Kind::Sized => Ok(check_answers(&sized_pair(alloc, line)?)),
+        Kind::Walk | Kind::Run => {
+            let blocks = walk_of(alloc, line, kind)?;
+            Ok(walk_answers(&read_pair(alloc, line)?, &blocks))
+        }
+        Kind::Visits | Kind::Circle => {
+            let blocks = walk_of(alloc, line, kind)?;
+            Ok(tally_answers(alloc, line, &read_pair(alloc, line)?, &blocks)?)
+        }
+        Kind::Dump => dump_answers(alloc, line, &read_pair(alloc, line)?),
+        Kind::Solve => Ok(solve_answers(alloc, line, read_pair(alloc, line)?)?),
+        Kind::Mps => {
+            let pair = read_pair(alloc, line)?;
+            mps_answers(alloc, &pair, line.field(5), line.get(6))
+        }
+        Kind::Program => mps_answers(alloc, &program_pair(alloc, line)?, line.field(6), None),
+        Kind::Shortest => {
+            let lists = [line.field(5), line.field(6), line.field(7)];
+            shortest_answers(alloc, &read_pair(alloc, line)?, lists)
+        }
+        Kind::Fastest => {
+            let lists = [line.field(8), line.field(9), line.field(10)];
+            shortest_answers(alloc, &sized_pair(alloc, line)?, lists)
         }
     }
-    t
 }
 
-// Runs the cases in the first n bytes.
-pub fn run(text: &Cases, n: usize) -> Tally {
-    run_all(part(text, 0, n), Tally::new())
+// Runs every case of the text. A line that starts with # is a heading.
+pub fn run<R: Print + AllocGlobal>(rt: &R, text: &str) -> io::Result<Tally> {
+    let mut tally = Tally::default();
+    for line in text.lines().filter(|line| !line.starts_with('#')) {
+        let line = Line::new(line);
+        let Some(kind) = line.kind() else {
+            return Err(io::Error::from(io::ErrorKind::InvalidData));
+        };
+        let answers = answers_to(rt.alloc(), line, kind)?;
+        tally.tell(rt, line.field(1), answers, line.field(2))?;
+    }
+    Ok(tally)
 }
