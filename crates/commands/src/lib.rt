@@ -91,17 +91,18 @@ fn digits_at(text: &[u8], at: usize) -> Option<Digits>
 }
 
 // The code at a place.
+#[inline]
 pub fn code_at(text: &[u8], at: usize, code: &[u8]) -> Option<Code>
     ensures { result ≡ code_at code.now text.now at }
 {
     let to = words::word_in(text, at, words::is_graphic)?;
     let w = &text[at..to];
-    if w == b"$end".as_slice() {
+    if words::same_bytes(w, b"$end") {
         return None;
     }
     Some(Code {
         to,
-        named: w == code,
+        named: words::same_bytes(w, code),
     })
 }
 
@@ -170,14 +171,15 @@ fn scalar_at(text: &[u8], from: usize, code: &[u8], dump: bool) -> Result<Comman
     Ok(Command::Passed { to: found.to, dump })
 }
 
-// The keywords that open a dump.
-const DUMPS: [&[u8]; 4] = [b"$dumpvars", b"$dumpall", b"$dumpoff", b"$dumpon"];
-
-// Whether a word is a dump keyword.
+// Whether a word is a keyword that opens a dump.
+#[tactic(auto, unfolding(vcd::specs::Syntax::is_dump))]
 fn is_dump(w: &[u8]) -> bool
     ensures { result ≡ is_dump w.now }
 {
-    DUMPS.contains(&w)
+    words::same_bytes(w, b"$dumpvars")
+        || words::same_bytes(w, b"$dumpall")
+        || words::same_bytes(w, b"$dumpoff")
+        || words::same_bytes(w, b"$dumpon")
 }
 
 // A comment after its keyword.
@@ -196,7 +198,7 @@ fn keyword_at(text: &[u8], from: usize, dump: bool) -> Result<Command, BadWord>
     let to = words::word_end(text, from);
     let w = &text[from..to];
     if dump {
-        if w == b"$end".as_slice() {
+        if words::same_bytes(w, b"$end") {
             return Ok(Command::Passed { to, dump: false });
         }
         return Err(BadWord(from));
@@ -204,7 +206,7 @@ fn keyword_at(text: &[u8], from: usize, dump: bool) -> Result<Command, BadWord>
     if is_dump(w) {
         return Ok(Command::Passed { to, dump: true });
     }
-    if w == b"$comment".as_slice() {
+    if words::same_bytes(w, b"$comment") {
         return comment_at(text, to);
     }
     Err(BadWord(from))

@@ -20,7 +20,7 @@ fn plain_word(text: &[u8], at: usize) -> Result<usize, BadWord>
 {
     let from = words::next_start(text, at).ok_or(BadWord(text.len()))?.from;
     let to = words::word_end(text, from);
-    if &text[from..to] == b"$end".as_slice() {
+    if words::same_bytes(&text[from..to], b"$end") {
         return Err(BadWord(from));
     }
     Ok(to)
@@ -75,21 +75,17 @@ fn definitions_end(
     Ok(Declaration::Body(to))
 }
 
-// The keywords that open a declaration of which nothing but its $end counts.
-const PLAIN: [&[u8]; 6] = [
-    b"$comment",
-    b"$date",
-    b"$scope",
-    b"$timescale",
-    b"$upscope",
-    b"$version",
-];
-
-// Whether a word is one of them.
+// Whether a word opens a declaration of which nothing but its $end counts.
+#[tactic(auto, unfolding(vcd::specs::Syntax::is_declaration))]
 fn is_declaration(w: &[u8]) -> bool
     ensures { result ≡ is_declaration w.now }
 {
-    PLAIN.contains(&w)
+    words::same_bytes(w, b"$comment")
+        || words::same_bytes(w, b"$date")
+        || words::same_bytes(w, b"$scope")
+        || words::same_bytes(w, b"$timescale")
+        || words::same_bytes(w, b"$upscope")
+        || words::same_bytes(w, b"$version")
 }
 
 // The declaration from a place on.
@@ -104,10 +100,10 @@ fn declaration_at(
     let from = words::next_start(text, at).ok_or(BadWord(text.len()))?.from;
     let to = words::word_end(text, from);
     let w = &text[from..to];
-    if w == b"$var".as_slice() {
+    if words::same_bytes(w, b"$var") {
         return variable_end(text, to, code, declared);
     }
-    if w == b"$enddefinitions".as_slice() {
+    if words::same_bytes(w, b"$enddefinitions") {
         return definitions_end(text, from, to, declared);
     }
     if is_declaration(w) {

@@ -1,4 +1,4 @@
 pub mod Runs
 pub mod Starts
 pub mod Skips
-pub mod Named
+pub mod Same

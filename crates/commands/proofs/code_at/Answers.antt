@@ -1,5 +1,4 @@
-use Rattle.std.proofs.Common.{rules, ◌∙◌, refl}
-use Rattle.words.proofs.Named.{told}
+use Rattle.std.proofs.Common.{rules, ◌∙◌}
 use Rattle.words.proofs.Runs.{graphic_plain}
 use Rattle.commands.proofs.Values.{code_none, code_starts, code_ends, code_end, code_is}
 use Rattle.commands.proofs.code_at.Goals as goal
@@ -17,10 +16,10 @@ slice_bounds-w-start c = code_starts c.args.code.now _ _ (c.word_in.ensures _ (r
 pub slice_bounds-w-end : goal.slice_bounds-w-end
 slice_bounds-w-end c = code_ends c.args.code.now _ _ (c.word_in.ensures _ (record { says = λ b r l h. search rules; plain = graphic_plain })) _ c.in_ok-to.was
 
-pub returns-then-eq : goal.returns-then-eq
-returns-then-eq c =
-    code_end _ _ _ (c.word_in.ensures _ (record { says = λ b r l h. search rules; plain = graphic_plain })) _ c.in_ok-to.was (told _ _ _ c.eq.ensures c.as_slice.ensures) c.if-eq.true
+pub returns-then-same_bytes : goal.returns-then-same_bytes
+returns-then-same_bytes c =
+    code_end _ _ _ (c.word_in.ensures _ (record { says = λ b r l h. search rules; plain = graphic_plain })) _ c.in_ok-to.was c.same_bytes.ensures c.if-same_bytes.true
 
 pub returns : goal.returns
 returns c =
-    code_is _ _ _ (c.word_in.ensures _ (record { says = λ b r l h. search rules; plain = graphic_plain })) _ c.in_ok-to.was (told _ _ _ c.eq.ensures c.as_slice.ensures) c.if-eq.false (told _ _ _ c.eq-2.ensures refl)
+    code_is _ _ _ (c.word_in.ensures _ (record { says = λ b r l h. search rules; plain = graphic_plain })) _ c.in_ok-to.was c.same_bytes.ensures c.if-same_bytes.false c.same_bytes-2.ensures
