@@ -1,5 +1,5 @@
 -- 208 read off the loop sets is 208, and so is 453. Assumes nothing.
-use mathlib.Core.Path.{◌≡◌, sym, ◌∙◌, ap}
+use mathlib.Core.Path.{◌≡◌, refl, sym, ◌∙◌, ap}
 use mathlib.Core.Bool.{Bool, not}
 use mathlib.Core.List.{List}
 use Prim.Native.Nat.{ℕ, ◌<◌}
@@ -9,10 +9,10 @@ use lib.ListN.{length, get_or}
 use lib.Signed.{le_z}
 use Rattle.lists.specs.Search.{first_below}
 use Rattle.lists.proofs.Search.{first_ext}
-use Rattle.wcet.specs.Table.{Routine, block_count, loop_count, exit, cost, loop_of, first, second, some_edge, inside, is_header}
+use Rattle.wcet.specs.Table.{Routine, block_count, loop_count, exit, cost, figure, limit, multiplier, loop_of, first, second, some_edge, inside, is_header}
 use Rattle.wcet.specs.Rules.{inequality, edge_holds, inequality_broken}
 use Rattle.wcet.specs.Shortest.{inequality_by}
-use Rattle.loopsets.specs.Sets.{sets_around}
+use Rattle.loopsets.specs.Sets.{sets_around, set_at, member}
 use Rattle.loopsets.proofs.Laws.{member_around}
 use Rattle.nesting.specs.Columns.{routine, Ranged}
 use Rattle.nesting.proofs.Stages.{innermost}
@@ -29,6 +29,12 @@ priced_of t W = record {
   entry_range = W.figure_range 0 W.comparable.some_block;
   exit_range = W.figure_range (exit t) (omega (arith, W.comparable.some_block));
 }
+
+-- by `le_z` an edge is broken where the inequality of 208 does not hold
+pub broken_by_le : (sets : List ℕ) (t : Routine) (u v : ℕ)
+    → broken_by le_z sets t u v ≡ not (inequality (is_header t v) (member (set_at sets (loop_of t u)) (loop_of t v)) (cost t v) (figure t u) (figure t v) (multiplier t (loop_of t v)) (limit t (loop_of t v)))
+unfolding broken_by inequality inequality_by
+broken_by_le sets t u v = refl
 
 -- the routine with the figures, the multipliers and the limits of a certificate: its own, or those of the second one
 abbrev pub claiming : Routine → (figures : List ℤ) (visits multipliers : List ℕ) → Routine
@@ -55,6 +61,9 @@ module _ (t : Routine) (R : Ranged t) where
     limit_most = λ l b. R.limit_most l (omega (arith, R.sized.headers));
     multiplier_most = λ l b. R.multiplier_most l (omega (arith, R.sized.headers));
   }
+
+  pub priced : Priced (price_columns t.costs t.figures)
+  priced = priced_of t weighable
 
   -- for these figures, visits and multipliers, the tables' own or those of a second certificate
   module _ (compare : ℤ → ℤ → Bool) (figures : List ℤ) (visits multipliers : List ℕ) (sets : List ℕ) (S : sets ≡ sets_around t.parents) where

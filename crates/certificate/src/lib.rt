@@ -63,9 +63,11 @@ pub trait Sense {
 }
 
 // For an upper bound.
+#[derive(Clone, Copy)]
 pub struct AtMost;
 
 // Turned round, for a lower bound.
+#[derive(Clone, Copy)]
 pub struct AtLeast;
 
 impl Sense for AtMost {
@@ -139,7 +141,7 @@ fn inequality_holds<S: Sense>(
 
 // Whether an edge from block u to v breaks its inequality.
 #[tactic(auto, unfolding(crate::specs::Columns::broken_by))]
-fn edge_broken<S: Sense>(around: &Sets, tables: &Tables<'_>, u: usize, v: u16) -> bool
+pub fn edge_broken<S: Sense>(around: &Sets, tables: &Tables<'_>, u: usize, v: u16) -> bool
     requires { Weighable (routine_of tables.now) × (u < block_count (routine_of tables.now)) × Names (block_count (routine_of tables.now)) v }
     ensures { result ≡ of_edge v (broken_by S.compare around.now (routine_of tables.now) u) }
 {
@@ -177,7 +179,8 @@ pub fn first_broken<S: Sense>(around: &Sets, tables: &Tables<'_>) -> Option<usiz
     requires { Weighable (routine_of tables.now) × Linked (block_count (routine_of tables.now)) tables.now.first.now tables.now.second.now }
     ensures { result ≡ first_below (block_count (routine_of tables.now)) (any_broken_by S.compare around.now (routine_of tables.now)) }
 {
-    (0..tables.cost.len()).find(|u| either_broken::<S>(around, tables, *u))
+    let tables = *tables;
+    (0..tables.cost.len()).find(|u| either_broken::<S>(around, &tables, *u))
 }
 
 // ---- the reply

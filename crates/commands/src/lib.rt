@@ -1,7 +1,7 @@
 // One command after the declarations of a recording (document 02, §8), read where it stands: a change, a time, a dump keyword or a comment.
 #![tactic(auto)]
 
-ghost use Rattle.std.specs.Prelude.{◌≡◌, ◌≤◌, ◌<◌, length, drop};
+ghost use Rattle.std.specs.Prelude.{◌≡◌, ◌≤◌, ◌<◌, Some, None, length, drop};
 ghost use Rattle.vcd.specs.Words.{size};
 ghost use Rattle.vcd.specs.Syntax.{is_dump};
 ghost use Rattle.commands.specs.Reads.{BitsRead, states_at, bits_by, digits_at, code_at, CommentRead, KeywordRead, TimeRead, ScalarRead, ChangeRead, VectorRead, RealRead, CommandRead, end_by};
@@ -112,22 +112,39 @@ fn change_at(
     at: usize,
     code: &[u8],
     dump: bool,
-    value: Option<u16>,
+    value: u16,
     place: usize,
 ) -> Result<Command, BadWord>
-    ensures { ChangeRead code.now text.now at dump value place result }
+    ensures { ChangeRead code.now text.now at dump (Some value) place result }
 {
     let from = words::next_start(text, at).ok_or(BadWord(text.len()))?.from;
     let found = code_at(text, from, code).ok_or(BadWord(from))?;
     if !found.named {
         return Ok(Command::Passed { to: found.to, dump });
     }
-    let value = value.ok_or(BadWord(place))?;
     Ok(Command::Value {
         value,
         place,
         to: found.to,
     })
+}
+
+// The same of a value that the named vector may not take. It stands apart, so that the scan for the code of any other has no option to keep.
+fn unfit_at(
+    text: &[u8],
+    at: usize,
+    code: &[u8],
+    dump: bool,
+    place: usize,
+) -> Result<Command, BadWord>
+    ensures { ChangeRead code.now text.now at dump None place result }
+{
+    let from = words::next_start(text, at).ok_or(BadWord(text.len()))?.from;
+    let found = code_at(text, from, code).ok_or(BadWord(from))?;
+    if !found.named {
+        return Ok(Command::Passed { to: found.to, dump });
+    }
+    Err(BadWord(place))
 }
 
 // A vector's change at its first byte.
@@ -136,7 +153,10 @@ fn vector_at(text: &[u8], from: usize, code: &[u8], dump: bool) -> Result<Comman
     ensures { VectorRead code.now text.now from dump result }
 {
     let digits = digits_at(text, from + 1).ok_or(BadWord(from))?;
-    change_at(text, digits.to, code, dump, digits.value, from)
+    match digits.value {
+        Some(value) => change_at(text, digits.to, code, dump, value, from),
+        None => unfit_at(text, digits.to, code, dump, from),
+    }
 }
 
 // A real change at its first byte.
@@ -144,7 +164,7 @@ fn real_at(text: &[u8], from: usize, code: &[u8], dump: bool) -> Result<Command,
     ensures { RealRead code.now text.now from dump result }
 {
     let to = words::word_end(text, from);
-    change_at(text, to, code, dump, None, from)
+    unfit_at(text, to, code, dump, from)
 }
 
 // A time at its first byte.

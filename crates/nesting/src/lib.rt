@@ -15,7 +15,8 @@ use limits::{MOST_BLOCKS, MOST_DEPTH, MOST_LOOPS};
 use loopsets::Sets;
 
 // The two tables of a routine in the columns that a caller lends. Of each block: its cost, its innermost loop, its two successors (65,535 is a missing
-// one) and its figure. Of each loop: its parent, its header, its limit and its multiplier.
+// one) and its figure. Of each loop: its parent, its header, its limit and its multiplier. A scan over all blocks begins with a copy of the struct, by which
+// the columns' places stay in registers: behind the reference they are loaded anew at each block.
 #[derive(Clone, Copy)]
 pub struct Tables<'a> {
     pub cost: &'a [u32],
@@ -170,7 +171,8 @@ fn first_wrong_block(tables: &Tables<'_>) -> Option<usize>
     requires { BlocksSized (routine_of tables.now) }
     ensures { result ≡ first_below (block_count (routine_of tables.now)) (block_wrong (routine_of tables.now)) }
 {
-    (0..tables.cost.len()).find(|u| block_wrong(tables, *u))
+    let tables = *tables;
+    (0..tables.cost.len()).find(|u| block_wrong(&tables, *u))
 }
 
 // ---- 204
@@ -224,7 +226,8 @@ fn first_entry_or_exit_edge(tables: &Tables<'_>) -> Option<usize>
     requires { Linked (block_count (routine_of tables.now)) tables.now.first.now tables.now.second.now }
     ensures { result ≡ first_below (block_count (routine_of tables.now)) (entry_or_exit_edge (routine_of tables.now)) }
 {
-    (0..tables.cost.len()).find(|u| entry_or_exit_edge(tables, *u))
+    let tables = *tables;
+    (0..tables.cost.len()).find(|u| entry_or_exit_edge(&tables, *u))
 }
 
 // ---- 207
@@ -263,7 +266,8 @@ fn first_past_header(around: &Sets, tables: &Tables<'_>) -> Option<usize>
     requires { Innermost tables.now.loops.now tables.now.header.now × Linked (length tables.now.loops.now) tables.now.first.now tables.now.second.now }
     ensures { result ≡ first_below (length tables.now.loops.now) (any_past_by_sets around.now tables.now.loops.now tables.now.first.now tables.now.second.now tables.now.header.now) }
 {
-    (0..tables.loops.len()).find(|u| any_past_header(around, tables, *u))
+    let tables = *tables;
+    (0..tables.loops.len()).find(|u| any_past_header(around, &tables, *u))
 }
 
 // ---- 201 to 207

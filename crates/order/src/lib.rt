@@ -66,10 +66,11 @@ fn incoming_edges(around: &Sets, tables: &Tables<'_>) -> Counts
     requires { Innermost tables.now.loops.now tables.now.header.now × Linked (length tables.now.loops.now) tables.now.first.now tables.now.second.now }
     ensures { Counted (edge_target around.now tables.now.loops.now tables.now.first.now tables.now.second.now tables.now.header.now) (length tables.now.loops.now) result (2 * length tables.now.loops.now) }
 {
+    let tables = *tables;
     let mut counts = [0u16; MOST_BLOCKS];
     for u in 0..tables.loops.len() {
-        count_edge(&mut counts, around, tables, u, tables.first[u]);
-        count_edge(&mut counts, around, tables, u, tables.second[u]);
+        count_edge(&mut counts, around, &tables, u, tables.first[u]);
+        count_edge(&mut counts, around, &tables, u, tables.second[u]);
     }
     counts
 }
@@ -121,7 +122,8 @@ pub fn order_of(around: &Sets, tables: &Tables<'_>) -> Order
     requires { Innermost tables.now.loops.now tables.now.header.now × Linked (length tables.now.loops.now) tables.now.first.now tables.now.second.now }
     ensures { Orders around.now tables.now.loops.now tables.now.first.now tables.now.second.now tables.now.header.now result }
 {
-    let mut counts = incoming_edges(around, tables);
+    let tables = *tables;
+    let mut counts = incoming_edges(around, &tables);
     let mut blocks = [0u16; MOST_BLOCKS];
     let mut count = sources(&counts, &mut blocks, tables.loops.len());
     // Kept: the queue grows while it is read, so that no range or iterator over it has a fixed end.
@@ -133,7 +135,7 @@ pub fn order_of(around: &Sets, tables: &Tables<'_>) -> Order
             &mut blocks,
             count,
             around,
-            tables,
+            &tables,
             u,
             tables.first[u],
         );
@@ -142,7 +144,7 @@ pub fn order_of(around: &Sets, tables: &Tables<'_>) -> Order
             &mut blocks,
             count,
             around,
-            tables,
+            &tables,
             u,
             tables.second[u],
         );

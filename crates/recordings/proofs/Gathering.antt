@@ -1,6 +1,7 @@
 -- The pass over the commands, at the turn that begins at p, and what it leaves in the buffer. Assumes nothing.
-use Rattle.std.proofs.Common.{◌≡◌, refl, sym, ap, ◌∙◌, Bool, false, List, [], ◌∷◌, ◌++◌, append-nil, append_assoc, ℕ, suc, ◌+◌, ◌-◌, ◌<◌, ◌≤◌, Option, Some, None, Ok, Err, zero-add, add-one, arith, eq-eqb, ne_eqb, length, take, set, length-set, take-suc-set}
+use Rattle.std.proofs.Common.{◌≡◌, refl, sym, ap, ◌∙◌, Bool, false, List, [], ◌∷◌, ◌++◌, append-nil, append_assoc, ℕ, suc, ◌+◌, ◌-◌, ◌<◌, ◌≤◌, Option, Some, None, Ok, Err, zero-add, add-one, arith, eqb, cond, eq-eqb, ne_eqb, get_or, length, take, set, length-set, take-suc-set}
 use Rattle.std.proofs.Math.Option.{none}
+use Rattle.std.proofs.lemmas.Grind.{get_or-set_at}
 use Rattle.limits.specs.Limits.{most_text_bytes}
 use Rattle.wcet.specs.Rules.{Reply, accepted, refused}
 use Rattle.vcd.specs.Syntax.{command, Reading, stopped, more}
@@ -34,6 +35,13 @@ joined_before us v (refused number place) = refl
 abbrev left_of : (room : ℕ) (last : Option ℕ) → Reading → Reply (List ℕ)
 left_of room None x = in_turn room (changes x.values) x.refusal
 left_of room (Some v) x = in_turn room (changed v x.values) x.refusal
+
+-- the last of so many values, which stand in the first places
+abbrev pub last_of : (count : ℕ) (found : List ℕ) → Option ℕ
+last_of count found = cond (eqb count 0) None (Some (get_or found (count - 1) 0))
+
+last_stored : (count : ℕ) (found : List ℕ) (v : ℕ) → count < length found → last_of (count + 1) (set found count v) ≡ Some v
+last_stored count found v h = rw (ne_eqb (count + 1) 0 (omega arith)) (ap Some (get_or-set_at found count (count + 1 - 1) v 0 (omega arith) h))
 
 -- The turn that begins at p: `count` values are gathered, the last of them `last`, within a dump or not.
 pub record Turn (named s : List ℕ) (room : ℕ) (found : List ℕ) (dump : Bool) (last : Option ℕ) (count p : ℕ) : Type 0 where
@@ -129,7 +137,7 @@ module _ (named s : List ℕ) (room : ℕ) (found : List ℕ) (dump : Bool) (las
       pub turn_stored : count < length found
       turn_stored = omega (arith, value_few, t.sized)
 
-      pub turn_new : count < room → Turn named s room (set found count value) dump (Some value) (count + 1) to
+      pub turn_new : count < room → Turn named s room (set found count value) dump (last_of (count + 1) (set found count value)) (count + 1) to
       turn_new l =
           let z : room - count ≡ suc (room - (count + 1)) = omega arith in
           let k : take count found ++ value ∷ [] ≡ take (count + 1) (set found count value) = sym (rw (add-one count) (take-suc-set found count value turn_stored)) in
@@ -138,7 +146,7 @@ module _ (named s : List ℕ) (room : ℕ) (found : List ℕ) (dump : Bool) (las
             within = omega arith;
             sized = length-set found count value ∙ t.sized;
             few = omega (arith, value_few);
-            says = t.says ∙ rw (value_reads, z, left_new (room - (count + 1)) last value place (reading_from named s (command dump) to) h) (joined_before (take count found) value y ∙ ap (λ (us : List ℕ). joined us y) k);
+            says = t.says ∙ rw (value_reads, z, last_stored count found value turn_stored, left_new (room - (count + 1)) last value place (reading_from named s (command dump) to) h) (joined_before (take count found) value y ∙ ap (λ (us : List ℕ). joined us y) k);
           }
 
 -- ---- the text

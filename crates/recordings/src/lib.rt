@@ -91,8 +91,7 @@ fn gather(
     ensures { GatheredBy (recorded code.now room text.now) room found.new result }
 {
     let mut dump = false;
-    let mut last = None;
-    // The values stand in an array that the caller made, since there is no heap.
+    // The values stand in an array that the caller made, since there is no heap. The last one is read there.
     let mut count = 0;
     let mut p = at;
     loop {
@@ -102,13 +101,12 @@ fn gather(
                 dump = on;
             }
             Command::Value { value, place, to } => {
-                if last != Some(value) {
+                if count == 0 || found[count - 1] != value {
                     if count >= room {
                         return Err(VcdFault::NoPlace(place));
                     }
                     found[count] = value;
                     count += 1;
-                    last = Some(value);
                 }
                 p = to;
             }

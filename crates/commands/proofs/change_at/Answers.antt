@@ -1,23 +1,19 @@
+use Rattle.std.proofs.Common.{refl, Some}
 use Rattle.commands.proofs.Refusals.{refused}
-use Rattle.commands.proofs.Steps.{change_missing, change_bad, change_other, change_refused, change_named}
+use Rattle.commands.proofs.Steps.{change_missing, change_bad, change_other, change_named}
 use Rattle.commands.proofs.change_at.Goals as goal
 
 pub returns-in_err-from : goal.returns-in_err-from
-returns-in_err-from c = let h = refused _ _ _ _ c.in_err-from.ensures.value c.from_residual.ensures.1 in rw h.1 (change_missing _ _ _ _ _ _ c.next_start.ensures h.0)
+returns-in_err-from c = let h = refused _ _ _ _ c.in_err-from.ensures.value c.from_residual.ensures.1 in rw h.1 (change_missing _ _ _ _ (Some c.args.value) c.args.place c.next_start.ensures h.0)
 
 pub returns-in_err-found : goal.returns-in_err-found
 returns-in_err-found c =
     let h = refused _ _ _ _ c.in_err-found.ensures.value c.from_residual-in_err-found.ensures.1 in
-    rw h.1 (change_bad _ _ _ _ _ _ c.next_start.ensures _ c.in_ok-from.ensures.ok_part c.code_at.ensures h.0)
+    rw h.1 (change_bad _ _ _ _ (Some c.args.value) c.args.place c.next_start.ensures _ c.in_ok-from.ensures.ok_part c.code_at.ensures h.0)
 
 pub returns-then-not-found : goal.returns-then-not-found
-returns-then-not-found c = change_other _ _ _ _ _ _ c.next_start.ensures _ c.in_ok-from.ensures.ok_part c.code_at.ensures _ c.in_ok-found.ensures.ok_part c.if-not-found.true
-
-pub returns-in_err-value : goal.returns-in_err-value
-returns-in_err-value c =
-    let h = refused _ _ _ _ c.in_err-value.ensures.value c.from_residual-in_err-value.ensures.1 in
-    rw h.1 (change_refused _ _ _ _ _ _ c.next_start.ensures _ c.in_ok-from.ensures.ok_part c.code_at.ensures _ c.in_ok-found.ensures.ok_part c.if-not-found.false h.0)
+returns-then-not-found c = change_other _ _ _ _ (Some c.args.value) c.args.place c.next_start.ensures _ c.in_ok-from.ensures.ok_part c.code_at.ensures _ c.in_ok-found.ensures.ok_part c.if-not-found.true
 
 pub returns : goal.returns
 returns c =
-    change_named _ _ _ _ _ _ c.next_start.ensures _ c.in_ok-from.ensures.ok_part c.code_at.ensures _ c.in_ok-found.ensures.ok_part c.if-not-found.false _ c.in_ok-value.ensures.ok_part
+    change_named _ _ _ _ (Some c.args.value) c.args.place c.next_start.ensures _ c.in_ok-from.ensures.ok_part c.code_at.ensures _ c.in_ok-found.ensures.ok_part c.if-not-found.false _ refl
