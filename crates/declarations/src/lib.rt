@@ -112,7 +112,8 @@ fn declaration_at(
     Err(BadWord(from))
 }
 
-// The place after all declarations.
+// The place after all declarations. Compiled alone, as the pass over the commands is, so that the text and the places stay in registers.
+#[inline(never)]
 pub fn body_of(text: &[u8], code: &[u8]) -> Result<usize, BadWord>
     ensures { BodyRead code.now text.now result }
 {

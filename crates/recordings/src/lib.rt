@@ -80,6 +80,8 @@ fn first_self_edge(first: &[u16], second: &[u16]) -> Option<usize>
 // ---- the text
 
 // One pass over the commands from a place on: each changed value into its place of `found`, up to the first refusal. The count of the values.
+// Compiled alone it keeps the text and the places in registers.
+#[inline(never)]
 fn gather(
     text: &[u8],
     at: usize,
