@@ -1,5 +1,5 @@
 -- Words one after the other in a buffer, and the length of a card. Assumes nothing.
-use Rattle.std.proofs.Common.{◌≡◌, ℕ, zero, suc, ◌+◌, ◌/◌, ◌%◌, ◌^◌, ◌<◌, ◌≤◌, Bool, true, false, List, [], ◌∷◌, ◌++◌, length, refl, ◌∙◌, arith, length-append, ℤ, pos, negsuc, neg_ℤ, unsigned_abs, int_lt, ltb, Fits, w64, ltb-true, ltb-false, lt-ltb, le-ltb}
+use Rattle.std.proofs.Common.{◌≡◌, ℕ, zero, suc, ◌+◌, ◌/◌, ◌%◌, ◌^◌, ◌<◌, ◌≤◌, Bool, true, false, List, [], ◌∷◌, ◌++◌, length, refl, ◌∙◌, arith, length-append, ℤ, pos, negsuc, neg_ℤ, unsigned_abs, int_lt, ltb, Fits, w64, ltb-true}
 use Rattle.std.specs.Int.{from_bool}
 use Rattle.std.proofs.lemmas.List.Edits.{paste_none, paste-paste, length-paste}
 use Rattle.lists.specs.Search.{when◌then◌else◌}
@@ -26,41 +26,6 @@ pub put_none : (c : Cursor) → Put [] c c
 put_none c = record { same = refl; next = omega arith; held = paste_none c.out.now c.at [] }
 
 -- ---- the digits of a number
-
--- all but the last
-unfoldable pub front : ℕ → List ℕ
-front n = when ltb n 10 then [] else numeral_of (n / 10)
-
-numeral_front : (n : ℕ) → numeral_of n ≡ front n ++ (48 + n % 10) ∷ []
-unfolding front
-numeral_front n = go (ltb n 10) refl
-  where
-    go : (b : Bool) → ltb n 10 ≡ b → numeral_of n ≡ (when b then [] else numeral_of (n / 10)) ++ (48 + n % 10) ∷ []
-    go true e = let l : n < 10 = ltb-true n 10 e in let m : n % 10 ≡ n = omega arith in rw (numeral_one n l, m)
-    go false e = numeral_more n (ltb-false n 10 e)
-
-module _ (n : ℕ) (c : Cursor) where
-  pub no_front : n < 10 → Put (front n) c c
-  unfolding front
-  no_front l = rw (lt-ltb n 10 l) (put_none c)
-
-  pub some_front : 10 ≤ n → {d : Cursor} → Put (numeral_of (n / 10)) c d → Put (front n) c d
-  unfolding front
-  some_front l p = rw (le-ltb n 10 l) p
-
-  module _ (s : Space (numeral_of n) c) where
-    whole : Space (front n ++ (48 + n % 10) ∷ []) c
-    whole = rw (numeral_front n) at s
-
-    pub space_front : 10 ≤ n → Space (numeral_of (n / 10)) c
-    unfolding front
-    space_front l = rw (le-ltb n 10 l) at (space_first (front n) ((48 + n % 10) ∷ []) c whole)
-
-    pub space_last : {d : Cursor} → Put (front n) c d → Space ((48 + n % 10) ∷ []) d
-    space_last = space_second (front n) ((48 + n % 10) ∷ []) c whole
-
-    pub put_last : {d e : Cursor} → Put (front n) c d → Put ((48 + n % 10) ∷ []) d e → Put (numeral_of n) c e
-    put_last p q = rw (numeral_front n) (put_both (front n) ((48 + n % 10) ∷ []) c whole p q)
 
 pub length_one : (n : ℕ) → n < 10 → 1 ≡ length (numeral_of n)
 length_one n h = rw (numeral_one n h)

@@ -1,8 +1,10 @@
 -- The last digits of a number, put into a line from the last place on. Assumes nothing.
-use Rattle.std.proofs.Common.{◌≡◌, ℕ, zero, suc, ◌+◌, ◌-◌, ◌/◌, ◌%◌, ◌<◌, ◌≤◌, List, [], ◌∷◌, ◌++◌, length, take, drop, refl, sym, ◌∙◌, ap, arith, append_assoc, set}
+use Rattle.std.proofs.Common.{◌≡◌, ℕ, zero, suc, ◌+◌, ◌-◌, ◌/◌, ◌%◌, ◌<◌, ◌≤◌, Bool, true, false, ltb, ltb-true, ltb-false, List, [], ◌∷◌, ◌++◌, length, length-append, take, drop, refl, sym, ◌∙◌, ap, arith, append_assoc, set}
 use Rattle.std.proofs.Math.Seq.{paste}
 use Rattle.std.proofs.lemmas.List.{take_all, take-set-le, drop-set, take-append-drop}
 use Rattle.mps.specs.Text.{digits_in}
+use Rattle.digits.specs.Decimal.{numeral_of}
+use Rattle.digits.proofs.Numerals.{numeral_one, numeral_more}
 use Rattle.mps.proofs.Names.{length_digits}
 
 digits_onto : (k n : ℕ) (s : List ℕ) → digits_in k n s ≡ digits_in k n [] ++ s
@@ -29,3 +31,22 @@ digits_next out at j rest p q =
 pub digits_all : (out : List ℕ) (at j rest : ℕ) (all : List ℕ) → j ≡ at → take at out ++ digits_in (j - at) rest (drop j out) ≡ all → out ≡ all
 unfolding digits_in
 digits_all out at j rest all q e = let z : at - at ≡ 0 = omega arith in sym (take-append-drop at out) ∙ rw (q, z) at e
+
+-- the digits of a number, as many as it has
+numeral_digits_below : (f n : ℕ) → n < f → digits_in (length (numeral_of n)) n [] ≡ numeral_of n
+unfolding digits_in
+numeral_digits_below zero n h = absurd (omega arith)
+numeral_digits_below (suc f) n h = go (ltb n 10) refl (numeral_digits_below f (n / 10))
+  where
+    go : (b : Bool) → ltb n 10 ≡ b → (n / 10 < f → digits_in (length (numeral_of (n / 10))) (n / 10) [] ≡ numeral_of (n / 10)) → digits_in (length (numeral_of n)) n [] ≡ numeral_of n
+    go true e ih = let l : n < 10 = ltb-true n 10 e in let m : n % 10 ≡ n = omega arith in rw (numeral_one n l, m)
+    go false e ih =
+        let l : 10 ≤ n = ltb-false n 10 e in
+        let k : length (numeral_of n) ≡ suc (length (numeral_of (n / 10))) = rw (numeral_more n l, length-append (numeral_of (n / 10)) ((48 + n % 10) ∷ [])) (omega arith) in
+        rw (k, digits_onto (length (numeral_of (n / 10))) (n / 10) ((48 + n % 10) ∷ []), ih (omega arith)) (sym (numeral_more n l))
+
+pub numeral_digits : (n : ℕ) → digits_in (length (numeral_of n)) n [] ≡ numeral_of n
+numeral_digits n = numeral_digits_below (suc n) n (omega arith)
+
+pub numeral_none : (out : List ℕ) (at r n : ℕ) → r ≡ length (numeral_of n) → take at out ++ digits_in (at + r - at) n (drop (at + r) out) ≡ paste out at (numeral_of n) (length (numeral_of n))
+numeral_none out at r n e = rw e (rw (numeral_digits n) at (digits_none out at (length (numeral_of n)) n))

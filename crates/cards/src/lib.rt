@@ -98,15 +98,18 @@ impl<'a> Cursor<'a> {
         self.at = next;
     }
 
-    // A number in decimal digits.
+    // A number in decimal digits, from the last one on: its length says where that stands.
     fn put_numeral(&mut self, n: u64)
         requires { Space (numeral_of n) self.old }
         ensures { Put (numeral_of n) self.old self.new }
     {
-        if n >= 10 {
-            self.put_numeral(n / 10);
+        let next = self.at + numeral_length(n);
+        let mut rest = n;
+        for i in (self.at..next).rev() {
+            self.out[i] = b'0' + (rest % 10) as u8;
+            rest /= 10;
         }
-        self.put(&[b'0' + (n % 10) as u8]);
+        self.at = next;
     }
 
     // With its sign: not for 0, which has none.
@@ -121,7 +124,9 @@ impl<'a> Cursor<'a> {
         self.put_numeral(n);
     }
 
-    // The card of a number by its sign and its size, where it is not 0.
+    // The card of a number by its sign and its size, where it is not 0. Inlined, like the next one, so that the place of a caller's cursor stays in a
+    // register from byte to byte.
+    #[inline(always)]
     pub fn put_signed_number(&mut self, head: &Head, negative: bool, n: u64)
         requires { Space (card head.now (signed negative n)) self.old }
         ensures { Put (card head.now (signed negative n)) self.old self.new }
@@ -134,6 +139,7 @@ impl<'a> Cursor<'a> {
     }
 
     // The same for an integer.
+    #[inline(always)]
     pub fn put_number(&mut self, head: &Head, x: i64)
         requires { Space (card head.now x) self.old }
         ensures { Put (card head.now x) self.old self.new }
