@@ -7,7 +7,7 @@
 -- UTF-8 are answered with no call, as one that failed. A descriptor that std has no name for is moved by the crate
 -- `io`, which is lent the first byte alone. These facts say that calls were made. They do not say that no other call was made, nor in which order,
 -- nor that a descriptor was not opened anew in between: that is read off the code, in which each of the three calls stands in one function.
-use Rattle.std.specs.Prelude.{ℕ, zero, suc, ◌-◌, ◌≤◌, ◌<◌, ◌≡◌, Bool, true, false, cond, List, [], ◌∷◌, ◌++◌, ℤ, pos, length, take, drop, Option, None, Some}
+use Rattle.std.specs.Prelude.{ℕ, zero, suc, ◌-◌, ◌≤◌, ◌<◌, ◌≡◌, Bool, true, false, cond, List, [], ◌∷◌, ◌++◌, ℤ, pos, negsuc, length, take, drop, Option, None, Some}
 use Rattle.std.specs.Option.{unwrap_or, is_some}
 use Rattle.std.specs.Fd.{file_raw_fd}
 use Rattle.std.specs.declared.fs.File.{File as StdFile}
@@ -81,9 +81,10 @@ pub record Gave (fd : ℤ) (room : ℕ) (readable : Bool) (s : List ℕ) : Type 
   pub made : ReadCalls fd room calls readable
   pub text : s ≡ cond readable (bytes_of calls) []
 
--- the same of a file. One that cannot be opened cannot be read.
+-- the same of a file. One that cannot be opened, or that has a negative number, cannot be read.
 abbrev pub GaveOpen : (fd : Option ℤ) → (room : ℕ) → (readable : Bool) → List ℕ → Type 0
-GaveOpen (Some fd) room readable s = Gave fd room readable s
+GaveOpen (Some (pos fd)) room readable s = Gave (pos fd) room readable s
+GaveOpen (Some (negsuc k)) room readable s = (readable ≡ false) × (s ≡ [])
 GaveOpen None room readable s = (readable ≡ false) × (s ≡ [])
 
 pub record FileGave (path : List ℕ) (room : ℕ) (readable : Bool) (s : List ℕ) : Type 0 where

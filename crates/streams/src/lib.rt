@@ -7,7 +7,7 @@ ghost use Rattle.streams.specs.Calls.{Moved, Within, Answered, Took, Opened, All
 
 use std::fs::File;
 use std::io::{Read, Write};
-use std::os::fd::{AsFd, BorrowedFd};
+use std::os::fd::{AsFd, AsRawFd, BorrowedFd};
 use std::process::{ChildStdin, ChildStdout};
 
 // What is read and written: the descriptors 0, 1 and 2, a file, which has the number that opening it gave, and any other number.
@@ -133,11 +133,14 @@ pub fn read_all(rt: &HostRuntime, fd: i32, buffer: &mut [u8]) -> Option<usize>
     read_from(rt, descriptor_of(fd), buffer)
 }
 
-// The same of a file, which is closed again. One that cannot be opened cannot be read.
+// The same of a file, which is closed again. One that cannot be opened, or that has a negative number, cannot be read.
 pub fn read_file(rt: &HostRuntime, path: &[u8], buffer: &mut [u8]) -> Option<usize>
     ensures { FileRead path.now (length buffer.old) result buffer.new }
 {
     let file = open_file(rt, path)?;
+    if file.as_raw_fd() < 0 {
+        return None;
+    }
     read_from(rt, Descriptor::File(&file), buffer)
 }
 
