@@ -44,7 +44,8 @@ fn accepted(value: i64, more: u64) -> Reply
     }
 }
 
-fn refused(number: u32, place: usize) -> Reply
+// A refusal of any number, at any place.
+pub fn refusal_reply(number: u32, place: usize) -> Reply
     requires { place < 2 ^ 32 }
     ensures { result ≡ refusing number place }
 {
@@ -60,7 +61,7 @@ fn refused_as(refusal: Refusal) -> Reply
     requires { refusal.place < 2 ^ 32 }
     ensures { result ≡ refusing refusal.number refusal.place }
 {
-    refused(refusal.number, refusal.place)
+    refusal_reply(refusal.number, refusal.place)
 }
 
 pub fn table_reply(answer: Result<i64, TableFault>) -> Reply
@@ -149,6 +150,6 @@ pub fn read_reply(answer: Result<Rows, ReadFault>) -> Reply
 {
     match answer {
         Ok(Rows { count, ending }) => accepted(count as i64, ending_number(ending)),
-        Err(fault) => refused(fault.number(), fault.place()),
+        Err(fault) => refusal_reply(fault.number(), fault.place()),
     }
 }
