@@ -87,7 +87,7 @@ pub fn number_cell(text: &[u8], at: usize, greatest: u32) -> Cell<u32>
         };
     }
     let run = digits::digit_run(text, at);
-    let value = numbers::natural_by(&text[at..run.end], run.value, u64::from(greatest));
+    let value = numbers::natural_by(&text[at..run.end], run.value, greatest);
     let found = found_after(text, at, run.end);
     Cell { value, found }
 }

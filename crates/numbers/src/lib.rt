@@ -1,13 +1,31 @@
 // Decimal numbers as plain bytes: what a whole text says as a number, and what digits say where their number is known.
 #![tactic(auto)]
 
-ghost use Rattle.std.specs.Prelude.{◌≡◌, ◌+◌, ◌-◌, ◌^◌, drop};
+ghost use Rattle.std.specs.Prelude.{◌≡◌, ◌+◌, ◌-◌, ◌^◌, drop, leb};
 ghost use Rattle.numbers.specs.Number.{natural, plus, minus, integer};
 ghost use Rattle.numbers.specs.Steps.{sign_count, leading_zero, at_width, natural_by, integer_by, in_type};
 
 use digits::{NotNumber, Unsigned};
 
 const MINUS: u8 = b'-';
+
+// A type of unsigned numbers that are compared as they are: none of 32 bits is widened.
+pub trait Ordered: Unsigned {
+    fn is_at_most(self, greatest: Self) -> bool
+        ensures { result ≡ leb (Self.number self) (Self.number greatest) };
+}
+
+impl Ordered for u32 {
+    fn is_at_most(self, greatest: u32) -> bool {
+        self <= greatest
+    }
+}
+
+impl Ordered for u64 {
+    fn is_at_most(self, greatest: u64) -> bool {
+        self <= greatest
+    }
+}
 
 // ---- what the digits of a field say
 
@@ -32,13 +50,13 @@ fn has_leading_zero(written: &[u8]) -> bool
 }
 
 // What was gathered, at a width that ends at `greatest`.
-fn at_width<T: Unsigned>(value: Option<T>, greatest: u64) -> Result<T, NotNumber>
-    ensures { result ≡ at_width T.number greatest value }
+fn at_width<T: Ordered>(value: Option<T>, greatest: T) -> Result<T, NotNumber>
+    ensures { result ≡ at_width T.number (T.number greatest) value }
 {
     let Some(n) = value else {
         return Err(NotNumber::Bad);
     };
-    if n.to_u64() <= greatest {
+    if n.is_at_most(greatest) {
         Ok(n)
     } else {
         Err(NotNumber::Bad)
@@ -47,12 +65,8 @@ fn at_width<T: Unsigned>(value: Option<T>, greatest: u64) -> Result<T, NotNumber
 
 // What the digits `written` say at a width that ends at `greatest`, where `value` is what `digit_run` gathered of them.
 #[tactic(auto, using(crate::proofs::Numbers::by_none, crate::proofs::Numbers::by_zero, crate::proofs::Numbers::by_width))]
-pub fn natural_by<T: Unsigned>(
-    written: &[u8],
-    value: Option<T>,
-    greatest: u64,
-) -> Result<T, NotNumber>
-    ensures { result ≡ natural_by T.number greatest written.now value }
+pub fn natural_by<T: Ordered>(written: &[u8], value: Option<T>, greatest: T) -> Result<T, NotNumber>
+    ensures { result ≡ natural_by T.number (T.number greatest) written.now value }
 {
     if written.is_empty() {
         return Err(NotNumber::Missing);
@@ -102,11 +116,12 @@ pub fn integer_by(written: &[u8], value: Option<u64>) -> Result<i64, NotNumber>
 // ---- what a whole text says
 
 // What s says as a number of at most `greatest`.
-pub fn natural_of<T: Unsigned>(s: &[u8], greatest: T) -> Result<T, NotNumber>
+pub fn natural_of<T: Ordered>(s: &[u8], greatest: T) -> Result<T, NotNumber>
     ensures { result ≡ in_type T.of (natural (T.number greatest) s.now) }
 {
     let run = digits::digit_run(s, 0);
-    let greatest = greatest.to_u64();
+    // Its contract says that the type holds `greatest`; the result is not used.
+    let _within = greatest.to_u64();
     if run.end < s.len() {
         return Err(NotNumber::Bad);
     }
