@@ -143,6 +143,14 @@ impl Columns for LoopColumns {
 }
 
 impl Pair {
+    // Columns of so many rows, or of the places that a table has where these are fewer.
+    pub fn lent(alloc: Global, blocks: usize, loops: usize) -> Result<Pair, AllocError> {
+        Ok(Pair {
+            blocks: BlockColumns::lent(alloc, blocks.min(BlockColumns::PLACES))?,
+            loops: LoopColumns::lent(alloc, loops.min(LoopColumns::PLACES))?,
+        })
+    }
+
     // Takes the last row off one column: of the blocks 0 to 4, of the loops 5 to 8.
     pub fn shorten(&mut self, column: usize) {
         if column < 5 {
@@ -153,78 +161,98 @@ impl Pair {
     }
 }
 
-// The block after block u in a row of n blocks; of the last but one `back`.
-fn next_in_row(n: u16, u: u16, back: u16) -> u16 {
-    match n.saturating_sub(u) {
-        0 | 1 => NO_SUCCESSOR,
-        2 => back,
-        _ => u.saturating_add(1),
+// A pair of tables by its size: of the loops, block k is the header of loop k.
+#[derive(Clone, Copy)]
+pub struct Sizes {
+    pub blocks: usize,
+    pub loops: usize,
+    // Whether each loop is inside the one before it, and not only inside loop 0.
+    pub nested: bool,
+    // Where it is not 0, an edge goes from each block to the next, and from the last but one to this one.
+    pub back: usize,
+    // Of a program all costs and limits are the greatest, and both edges of a block go to the same one.
+    pub of_program: bool,
+    // Where it is not 0, this block is the header of the last loop and the end of all edges.
+    pub target: usize,
+}
+
+// What a column of 16 bits holds of a block; no table has block 65535.
+fn block(v: usize) -> u16 {
+    u16::try_from(v).unwrap_or(u16::MAX)
+}
+
+fn fill<T, F: Fn(usize) -> T>(column: &mut [T], element: F)
+where
+    T: Copy,
+    requires { (f : F) (i : _) → F.pre f i }
+{
+    for (i, place) in column.iter_mut().enumerate() {
+        *place = element(i);
     }
 }
 
-// n blocks without costs in m loops, of which block k is the header of loop k. With `back` an edge goes from each block to the next, and from the
-// last but one to that block.
-pub fn sized(
-    alloc: Global,
-    n: u16,
-    m: u16,
-    nested: bool,
-    back: Option<u16>,
-) -> Result<Pair, AllocError> {
-    let loop_of = |u: u16| if u < m { u } else { 0 };
-    let next = |u: u16| back.map_or(NO_SUCCESSOR, |back| next_in_row(n, u, back));
-    let parent = |k: u16| if nested { k.saturating_sub(1) } else { 0 };
-    Ok(Pair {
-        blocks: BlockColumns {
-            cost: vec![in alloc; 0; usize::from(n)]?,
-            inner: (0..n).map(loop_of).collect(alloc)?,
-            first: (0..n).map(next).collect(alloc)?,
-            second: vec![in alloc; NO_SUCCESSOR; usize::from(n)]?,
-            figure: vec![in alloc; 0; usize::from(n)]?,
-        },
-        loops: LoopColumns {
-            parent: (0..m).map(parent).collect(alloc)?,
-            header: (0..m).collect(alloc)?,
-            limit: vec![in alloc; 1; usize::from(m)]?,
-            multiplier: vec![in alloc; 0; usize::from(m)]?,
-        },
-    })
-}
+impl Sizes {
+    fn successor(self, u: usize) -> u16 {
+        match (self.blocks.saturating_sub(u), self.target, self.back) {
+            (0 | 1, _, _) | (_, 0, 0) => NO_SUCCESSOR,
+            (2, 0, back) => block(back),
+            (_, 0, _) => block(u.saturating_add(1)),
+            (_, target, _) => block(target),
+        }
+    }
 
-// n blocks in m loops, all of the greatest cost and limit. Both edges of a block go to `target`, which is the header of the last loop, or, where there
-// is none, to the next block.
-pub fn program(alloc: Global, n: u16, m: u16, target: Option<u16>) -> Result<Pair, AllocError> {
-    let last_block = n.saturating_sub(1);
-    let last_loop = m.saturating_sub(1);
-    let loop_of = |u: u16| match target {
-        Some(header) if u == header => last_loop,
-        Some(_) if u < last_loop => u,
-        None if u < m => u,
-        _ => 0,
-    };
-    let next = |u: u16| match target {
-        Some(header) if u < last_block => header,
-        _ => next_in_row(n, u, last_block),
-    };
-    let header = |k: u16| match target {
-        Some(header) if k == last_loop => header,
-        _ => k,
-    };
-    Ok(Pair {
-        blocks: BlockColumns {
-            cost: vec![in alloc; 1000000; usize::from(n)]?,
-            inner: (0..n).map(loop_of).collect(alloc)?,
-            first: (0..n).map(next).collect(alloc)?,
-            second: (0..n).map(next).collect(alloc)?,
-            figure: vec![in alloc; 0; usize::from(n)]?,
-        },
-        loops: LoopColumns {
-            parent: vec![in alloc; 0; usize::from(m)]?,
-            header: (0..m).map(header).collect(alloc)?,
-            limit: (0..m)
-                .map(|k| if k == 0 { 1 } else { 65535 })
-                .collect(alloc)?,
-            multiplier: vec![in alloc; 0; usize::from(m)]?,
-        },
-    })
+    fn second_successor(self, u: usize) -> u16 {
+        if self.of_program {
+            self.successor(u)
+        } else {
+            NO_SUCCESSOR
+        }
+    }
+
+    fn last_loop(self) -> usize {
+        self.loops.saturating_sub(1)
+    }
+
+    fn loop_of(self, u: usize) -> u16 {
+        let headed = match self.target {
+            0 => self.loops,
+            header if u == header => return block(self.last_loop()),
+            _ => self.last_loop(),
+        };
+        if u < headed { block(u) } else { 0 }
+    }
+
+    fn parent(self, k: usize) -> u16 {
+        if self.nested {
+            block(k.saturating_sub(1))
+        } else {
+            0
+        }
+    }
+
+    fn header(self, k: usize) -> u16 {
+        if self.target != 0 && k == self.last_loop() {
+            block(self.target)
+        } else {
+            block(k)
+        }
+    }
+
+    fn limit(self, k: usize) -> u32 {
+        if self.of_program && k != 0 { 65535 } else { 1 }
+    }
+
+    // Fills the columns, without figures and multipliers.
+    pub fn fill_pair(self, pair: &mut Pair) {
+        let cost = if self.of_program { 1000000 } else { 0 };
+        fill(&mut pair.blocks.cost, |_| cost);
+        fill(&mut pair.blocks.inner, |u| self.loop_of(u));
+        fill(&mut pair.blocks.first, |u| self.successor(u));
+        fill(&mut pair.blocks.second, |u| self.second_successor(u));
+        fill(&mut pair.blocks.figure, |_| 0);
+        fill(&mut pair.loops.parent, |k| self.parent(k));
+        fill(&mut pair.loops.header, |k| self.header(k));
+        fill(&mut pair.loops.limit, |k| self.limit(k));
+        fill(&mut pair.loops.multiplier, |_| 0);
+    }
 }

@@ -1,7 +1,11 @@
 // What the cases gave: a line for each, and how many were wrong.
-use pieces::answers::{Accepted, Answer, Refusal};
-use std::alloc::{AllocError, Global};
-use std::io;
+use pieces::answers::Answer;
+use pieces::part;
+use pieces::room::Room;
+use std::fmt;
+
+// More bytes than an answer has in words.
+const MOST_BYTES: usize = 80;
 
 // Both answers to a case, and whether what was lent holds what it should.
 #[derive(Clone, Copy)]
@@ -17,34 +21,58 @@ pub struct Tally {
     pub wrong: u64,
 }
 
-fn in_words(alloc: Global, answer: Answer) -> Result<String, AllocError> {
-    match answer {
-        Ok(accepted) => format!(in alloc; "{accepted}"),
-        Err(refusal) => format!(in alloc; "{refusal}"),
+// An answer in words.
+#[derive(Clone, Copy)]
+struct Words(Answer);
+
+impl fmt::Display for Words {
+    fn fmt<W: fmt::Write>(&self, f: &mut fmt::Formatter<W>) -> fmt::Result {
+        match self.0 {
+            Ok(accepted) => write!(f, "{accepted}"),
+            Err(refusal) => write!(f, "{refusal}"),
+        }
+    }
+}
+
+fn is_worded(answer: Answer, wanted: &[u8]) -> bool {
+    let mut places = [0u8; MOST_BYTES];
+    let mut words = Room::new(&mut places);
+    words.put(Words(answer));
+    let count = words.count();
+    part(&places, 0, count) == wanted
+}
+
+// What cannot be written is left out.
+fn say<R: Print>(rt: &R, bytes: &[u8]) {
+    let _ = rt.write_all(bytes);
+}
+
+fn say_answer<R: Print>(rt: &R, answer: Answer) {
+    let _ = rt.print(Words(answer));
+}
+
+fn say_wrong<R: Print>(rt: &R, answers: Answers, wanted: &[u8]) {
+    say(rt, b" WRONG, should be ");
+    say(rt, wanted);
+    say(rt, b", the checker says ");
+    say_answer(rt, answers.checked);
+    if !answers.kept {
+        say(rt, b", columns or bytes differ");
     }
 }
 
 impl Tally {
     // One more case: its name, the answers, and the one that both should be.
-    pub fn tell<R: Print + AllocGlobal>(
-        &mut self,
-        rt: &R,
-        name: &str,
-        answers: Answers,
-        wanted: &str,
-    ) -> io::Result<()> {
-        let got = in_words(rt.alloc(), answers.got)?;
-        let checked = in_words(rt.alloc(), answers.checked)?;
+    pub fn tell<R: Print>(&mut self, rt: &R, name: &[u8], answers: Answers, wanted: &[u8]) {
+        say(rt, name);
+        say(rt, b": ");
+        say_answer(rt, answers.got);
         self.cases = self.cases.saturating_add(1);
-        if answers.kept && answers.got == answers.checked && got.as_str() == wanted {
-            return println!(rt; "{name}: {got}");
+        let is_right = answers.kept && answers.got == answers.checked;
+        if !is_right || !is_worded(answers.got, wanted) {
+            say_wrong(rt, answers, wanted);
+            self.wrong = self.wrong.saturating_add(1);
         }
-        self.wrong = self.wrong.saturating_add(1);
-        let fault = if answers.kept {
-            ""
-        } else {
-            ", columns or bytes differ"
-        };
-        println!(rt; "{name}: {got} WRONG, should be {wanted}, the checker says {checked}{fault}")
+        say(rt, b"\n");
     }
 }

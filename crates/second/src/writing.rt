@@ -3,8 +3,8 @@
 use crate::tables::Tables;
 use pieces::answers::Refusal;
 use pieces::at;
-use std::alloc::{AllocError, Global};
-use std::iter;
+use pieces::room::Room;
+use std::fmt;
 
 // A row of the program: the costs, a block or a loop.
 #[derive(Clone, Copy)]
@@ -25,15 +25,17 @@ enum Column {
     RightSide,
 }
 
-impl Row {
-    fn name(self, alloc: Global) -> Result<String, AllocError> {
+impl fmt::Display for Row {
+    fn fmt<W: fmt::Write>(&self, f: &mut fmt::Formatter<W>) -> fmt::Result {
         match self {
-            Row::Cost => String::from_str(alloc, "COST"),
-            Row::Block(u) => format!(in alloc; "B{u:04}"),
-            Row::Loop(k) => format!(in alloc; "L{k:02}"),
+            Row::Cost => write!(f, "COST"),
+            Row::Block(u) => write!(f, "B{u:04}"),
+            Row::Loop(k) => write!(f, "L{k:02}"),
         }
     }
+}
 
+impl Row {
     // An objective, an equation or an upper limit.
     fn kind(self) -> char {
         match self {
@@ -44,23 +46,27 @@ impl Row {
     }
 }
 
-impl Column {
-    fn name(self, alloc: Global) -> Result<String, AllocError> {
+impl fmt::Display for Column {
+    fn fmt<W: fmt::Write>(&self, f: &mut fmt::Formatter<W>) -> fmt::Result {
         match self {
-            Column::Edge { number, .. } => format!(in alloc; "E{number:04}"),
-            Column::RightSide => String::from_str(alloc, "RHS"),
+            Column::Edge { number, .. } => write!(f, "E{number:04}"),
+            Column::RightSide => write!(f, "RHS"),
         }
     }
 }
 
 // The costs, then the blocks, then the loops but for loop 0.
-fn rows_of(alloc: Global, t: &Tables<'_>) -> Result<Vec<Row>, AllocError> {
-    let blocks = (0..t.blocks()).map(Row::Block);
-    let loops = (1..t.loops()).map(Row::Loop);
-    iter::once(Row::Cost)
-        .chain(blocks)
-        .chain(loops)
-        .collect(alloc)
+fn rows(t: &Tables<'_>) -> usize {
+    t.blocks().saturating_add(t.loops())
+}
+
+fn row_at(t: &Tables<'_>, r: usize) -> Row {
+    let n = t.blocks();
+    match r {
+        0 => Row::Cost,
+        _ if r <= n => Row::Block(r - 1),
+        _ => Row::Loop(r - n),
+    }
 }
 
 // 1 from inside to the header, 1 less the limit from outside.
@@ -90,61 +96,55 @@ fn number_at(t: &Tables<'_>, column: Column, row: Row) -> i64 {
 }
 
 // Names from columns 5 and 15 on, and a number from column 25 on.
-fn write_column(
-    text: &mut String,
-    t: &Tables<'_>,
-    rows: &[Row],
-    column: Column,
-) -> Result<(), AllocError> {
-    let alloc = *text.allocator();
-    let name = column.name(alloc)?;
-    for &row in rows {
+fn put_card(text: &mut Room<'_>, column: Column, row: Row, number: i64) {
+    let start = text.count();
+    text.pad_to(start.saturating_add(4));
+    text.put(column);
+    text.pad_to(start.saturating_add(14));
+    text.put(row);
+    text.pad_to(start.saturating_add(24));
+    text.put(number);
+    text.push(b'\n');
+}
+
+fn put_column(text: &mut Room<'_>, t: &Tables<'_>, column: Column) {
+    for r in 0..rows(t) {
+        let row = row_at(t, r);
         let number = number_at(t, column, row);
         if number != 0 {
-            let row_name = row.name(alloc)?;
-            writeln!(text, "    {name:<10}{row_name:<10}{number}")?;
+            put_card(text, column, row, number);
         }
     }
-    Ok(())
 }
 
 // The edges of block u have the numbers 2u and 2u + 1.
-fn write_edges(text: &mut String, t: &Tables<'_>, rows: &[Row]) -> Result<(), AllocError> {
+fn put_edges(text: &mut Room<'_>, t: &Tables<'_>) {
     for number in 0..t.blocks().saturating_mul(2) {
         let from = number / 2;
         if let Some(to) = t.successors(from)[number % 2] {
-            write_column(text, t, rows, Column::Edge { number, from, to })?;
+            put_column(text, t, Column::Edge { number, from, to });
         }
     }
-    Ok(())
 }
 
-fn write_rows(text: &mut String, rows: &[Row]) -> Result<(), AllocError> {
-    let alloc = *text.allocator();
-    for row in rows {
+fn put_rows(text: &mut Room<'_>, t: &Tables<'_>) {
+    for r in 0..rows(t) {
+        let row = row_at(t, r);
         let kind = row.kind();
-        let name = row.name(alloc)?;
-        writeln!(text, " {kind}  {name}")?;
+        text.put(format_args!(" {kind}  {row}\n"));
     }
-    Ok(())
 }
 
-fn text_of(alloc: Global, t: &Tables<'_>) -> Result<String, AllocError> {
-    let rows = rows_of(alloc, t)?;
-    let mut text = String::from_str(alloc, "NAME\nROWS\n")?;
-    write_rows(&mut text, &rows)?;
-    text.push_str("COLUMNS\n")?;
-    write_edges(&mut text, t, &rows)?;
-    text.push_str("RHS\n")?;
-    write_column(&mut text, t, &rows, Column::RightSide)?;
-    text.push_str("ENDATA\n")?;
-    Ok(text)
-}
-
-// The program's text; or the tables' refusal.
-pub fn program(alloc: Global, t: &Tables<'_>) -> Result<Result<String, Refusal>, AllocError> {
-    match t.keep_order() {
-        Ok(()) => Ok(Ok(text_of(alloc, t)?)),
-        Err(refusal) => Ok(Err(refusal)),
-    }
+// The length of the program's text, which then stands in lent places, as far as these go; or the tables' refusal.
+pub fn program(t: &Tables<'_>, places: &mut [u8]) -> Result<usize, Refusal> {
+    t.keep_order()?;
+    let mut text = Room::new(places);
+    text.put("NAME\nROWS\n");
+    put_rows(&mut text, t);
+    text.put("COLUMNS\n");
+    put_edges(&mut text, t);
+    text.put("RHS\n");
+    put_column(&mut text, t, Column::RightSide);
+    text.put("ENDATA\n");
+    Ok(text.count())
 }
