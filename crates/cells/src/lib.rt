@@ -43,7 +43,7 @@ pub struct Cell<N> {
 pub fn number_of(w: &[u8], width: Width) -> Result<u32, NotNumber>
     ensures { result ≡ unsigned (greatest width) w.now }
 {
-    numbers::natural_of(csv_text::inner_part(w), width.greatest())
+    numbers::natural_of_ordered(csv_text::inner_part(w), width.greatest())
 }
 
 // What a field says, up to 2^64 - 1.
@@ -51,7 +51,7 @@ pub fn number_of(w: &[u8], width: Width) -> Result<u32, NotNumber>
 pub fn u64_of(w: &[u8]) -> Result<u64, NotNumber>
     ensures { result ≡ unsigned (2 ^ 64 - 1) w.now }
 {
-    numbers::natural_of(csv_text::inner_part(w), u64::MAX)
+    numbers::natural_of_ordered(csv_text::inner_part(w), u64::MAX)
 }
 
 // What a field says, from -2^63 to 2^63 - 1.
@@ -87,7 +87,7 @@ pub fn number_cell(text: &[u8], at: usize, greatest: u32) -> Cell<u32>
         };
     }
     let run = digits::digit_run(text, at);
-    let value = numbers::natural_by(&text[at..run.end], run.value, greatest);
+    let value = numbers::natural_by_ordered(&text[at..run.end], run.value, greatest);
     let found = found_after(text, at, run.end);
     Cell { value, found }
 }

@@ -10,6 +10,7 @@ use Rattle.digits.specs.declared.NotNumber.{NotNumber}
 use Rattle.digits.specs.declared.NotNumber.TheVariants.{Missing, Bad}
 use Rattle.digits.specs.declared.DigitRun.{DigitRun}
 use Rattle.digits.proofs.Runs.{count_digits, count_all}
+use Rattle.std.specs.Option.{option_map, ok_or}
 use Rattle.numbers.specs.Number.{numeral, natural, integer, minus, plus}
 use Rattle.numbers.specs.Steps.{sign_count, leading_zero, in_type, at_width, natural_by, integer_by}
 
@@ -49,7 +50,7 @@ long_zero [] l = absurd (omega arith)
 long_zero (b ∷ []) l = absurd (omega arith)
 long_zero (b ∷ c ∷ s) l = refl
 
--- Each way through `natural_by`; o is what `is_empty` gave, and p what `has_leading_zero` gave.
+-- Each way through `natural_by_ordered`; o is what `is_empty` gave, and p what `has_leading_zero` gave.
 module _ {A : Type 0} (number : A → ℕ) (greatest : ℕ) (w : List ℕ) (v : Option A) {o : Bool} (k : o ≡ eqb (length w) 0) where
   pub by_none : o ≡ true → Err Missing ≡ natural_by number greatest w v
   unfolding natural_by
@@ -74,6 +75,39 @@ module _ {A : Type 0} (number : A → ℕ) (greatest : ℕ) (w : List ℕ) (v : 
     pub by_width : p ≡ false → {r : Result A NotNumber} → r ≡ at_width number greatest v → r ≡ natural_by number greatest w v
     by_width e d = d ∙ sym (by_first ∙ rw e)
 
+same_error : {A B : Type 0} {d e : NotNumber} → ◌≡◌ {A = Result A NotNumber} (Err d) (Err e) → ◌≡◌ {A = Result B NotNumber} (Err e) (Err d)
+same_error {d = d} {e = e} h = let z : d ≡ e = cc in ap Err (sym z)
+
+-- What was gathered in any type says what its number says.
+module _ {A : Type 0} (number : A → ℕ) (greatest : ℕ) where
+  -- r is what the number of v says, and a is what v says
+  abbrev Told : (v : Option A) (r : Result ℕ NotNumber) (a : Result A NotNumber) → Type 0
+  Told v r a = ((e : NotNumber) → r ≡ Err e → Err e ≡ a) × ((n : ℕ) → r ≡ Ok n → ok_or v Bad ≡ a)
+
+  told_by : (w : List ℕ) (v : Option A) → Told v (natural_by (λ n. n) greatest w (option_map number v)) (natural_by number greatest w v)
+  unfolding natural_by
+  told_by [] v = ((λ e h. same_error h), (λ n h. absurd cc))
+  told_by (b ∷ s) v = go (leading_zero (b ∷ s)) v
+    where
+      up_to : (x : A) (t : Bool) → Told (Some x) (cond t (Ok (number x)) (Err Bad)) (cond t (Ok x) (Err Bad))
+      up_to x true = ((λ e h. absurd cc), (λ n h. refl))
+      up_to x false = ((λ e h. same_error h), (λ n h. absurd cc))
+
+      go : (t : Bool) (v : Option A) → Told v (cond t (Err Bad) (at_width (λ n. n) greatest (option_map number v))) (cond t (Err Bad) (at_width number greatest v))
+      go true v = ((λ e h. same_error h), (λ n h. absurd cc))
+      go false None = ((λ e h. same_error h), (λ n h. absurd cc))
+      go false (Some x) = up_to x (leb (number x) greatest)
+
+  module _ (w : List ℕ) (v : Option A) {o : Option ℕ} (k : o ≡ option_map number v) {r : Result ℕ NotNumber} (q : r ≡ natural_by (λ n. n) greatest w o) where
+    by_its_number : natural_by (λ n. n) greatest w (option_map number v) ≡ r
+    by_its_number = sym (q ∙ ap (natural_by (λ n. n) greatest w) k)
+
+    pub by_wide_bad : (e : NotNumber) → r ≡ Err e → Err e ≡ natural_by number greatest w v
+    by_wide_bad e h = (told_by w v).0 e (by_its_number ∙ h)
+
+    pub by_wide_number : (n : ℕ) → r ≡ Ok n → ok_or v Bad ≡ natural_by number greatest w v
+    by_wide_number n h = (told_by w v).1 n (by_its_number ∙ h)
+
 -- a number that digits say is within its width
 by_fits : (w : List ℕ) (v : Option ℕ) (greatest n : ℕ) → Ok n ≡ natural_by (λ m. m) greatest w v → n ≤ greatest
 unfolding natural_by
@@ -94,7 +128,7 @@ below_zero : (m : ℕ) → negsuc 0 -ℤ pos m ≡ negsuc m
 below_zero zero = refl
 below_zero (suc m) = ap (λ (k : ℕ). negsuc (suc k)) (zero-add m)
 
--- Each way through `negative_by` and `positive_by`; r is what `natural_by` gave.
+-- Each way through `negative_by` and `positive_by`; r is what `natural_by_ordered` gave.
 module _ (w : List ℕ) (v : Option ℕ) {r : Result ℕ NotNumber} where
   module _ (q : r ≡ natural_by (λ n. n) (2 ^ 63) w v) where
     pub minus_none : (e : NotNumber) → r ≡ Err e → Err Bad ≡ minus (natural_by (λ n. n) (2 ^ 63) w v)
@@ -238,7 +272,7 @@ module _ {A : Type 0} (of : ℕ → A) (g : ℕ) (s : List ℕ) (p : ℕ) {x : D
     run_value : x.value ≡ held of g (decimal 0 (drop p s))
     run_value = ap (λ (y : DigitRun A). y.value) q ∙ ap (λ (t : List ℕ). held of g (decimal 0 t)) (take_all (digit_count (drop p s)) (drop p s) all_count)
 
--- Each way through `natural_of`.
+-- Each way through `natural_of_ordered` and `natural_of`.
 module _ {A : Type 0} (of : ℕ → A) (g : ℕ) (s : List ℕ) {x : DigitRun A} (q : x ≡ run_at of g 0 s) (greatest : ℕ) where
   pub natural_other : x.end < length s → Err Bad ≡ in_type of (natural greatest s)
   natural_other h = rw (no_digits s greatest (run_short of g s 0 q h))

@@ -2,6 +2,7 @@
 #![tactic(auto)]
 
 ghost use Rattle.std.specs.Prelude.{◌≡◌, ◌+◌, ◌-◌, ◌^◌, drop, leb};
+ghost use Rattle.std.specs.Option.{option_map};
 ghost use Rattle.numbers.specs.Number.{natural, plus, minus, integer};
 ghost use Rattle.numbers.specs.Steps.{sign_count, leading_zero, at_width, natural_by, integer_by, in_type};
 
@@ -63,9 +64,13 @@ fn at_width<T: Ordered>(value: Option<T>, greatest: T) -> Result<T, NotNumber>
     }
 }
 
-// What the digits `written` say at a width that ends at `greatest`, where `value` is what `digit_run` gathered of them.
+// What the digits `written` say at a width that ends at `greatest`, which is of the number's type; `value` is what `digit_run` gathered of them.
 #[tactic(auto, using(crate::proofs::Numbers::by_none, crate::proofs::Numbers::by_zero, crate::proofs::Numbers::by_width))]
-pub fn natural_by<T: Ordered>(written: &[u8], value: Option<T>, greatest: T) -> Result<T, NotNumber>
+pub fn natural_by_ordered<T: Ordered>(
+    written: &[u8],
+    value: Option<T>,
+    greatest: T,
+) -> Result<T, NotNumber>
     ensures { result ≡ natural_by T.number (T.number greatest) written.now value }
 {
     if written.is_empty() {
@@ -77,11 +82,31 @@ pub fn natural_by<T: Ordered>(written: &[u8], value: Option<T>, greatest: T) -> 
     at_width(value, greatest)
 }
 
+// What was gathered in any type, in 64 bits.
+fn in_64_bits<T: Unsigned>(value: Option<T>) -> Option<u64>
+    ensures { result ≡ option_map T.number value }
+{
+    value.map(|n| n.to_u64())
+}
+
+// What `natural_by_ordered` says, in any type: the number is compared in 64 bits. (`by_none` proves an early return for an empty text.)
+#[tactic(auto, using(crate::proofs::Numbers::by_none))]
+pub fn natural_by<T: Unsigned>(
+    written: &[u8],
+    value: Option<T>,
+    greatest: u64,
+) -> Result<T, NotNumber>
+    ensures { result ≡ natural_by T.number greatest written.now value }
+{
+    natural_by_ordered(written, in_64_bits(value), greatest)?;
+    value.ok_or(NotNumber::Bad)
+}
+
 // What digits say after a minus sign.
 fn negative_by(digits: &[u8], value: Option<u64>) -> Result<i64, NotNumber>
     ensures { result ≡ minus (natural_by (λ n. n) (2 ^ 63) digits.now value) }
 {
-    let Ok(n) = natural_by(digits, value, 9223372036854775808) else {
+    let Ok(n) = natural_by_ordered(digits, value, 9223372036854775808) else {
         return Err(NotNumber::Bad);
     };
     if n == 0 {
@@ -95,7 +120,7 @@ fn negative_by(digits: &[u8], value: Option<u64>) -> Result<i64, NotNumber>
 fn positive_by(digits: &[u8], value: Option<u64>) -> Result<i64, NotNumber>
     ensures { result ≡ plus (natural_by (λ n. n) (2 ^ 63 - 1) digits.now value) }
 {
-    let n = natural_by(digits, value, 9223372036854775807)?;
+    let n = natural_by_ordered(digits, value, 9223372036854775807)?;
     Ok(n as i64)
 }
 
@@ -115,8 +140,8 @@ pub fn integer_by(written: &[u8], value: Option<u64>) -> Result<i64, NotNumber>
 
 // ---- what a whole text says
 
-// What s says as a number of at most `greatest`.
-pub fn natural_of<T: Ordered>(s: &[u8], greatest: T) -> Result<T, NotNumber>
+// What s says as a number of at most `greatest`, which is compared in its type.
+pub fn natural_of_ordered<T: Ordered>(s: &[u8], greatest: T) -> Result<T, NotNumber>
     ensures { result ≡ in_type T.of (natural (T.number greatest) s.now) }
 {
     let run = digits::digit_run(s, 0);
@@ -125,7 +150,19 @@ pub fn natural_of<T: Ordered>(s: &[u8], greatest: T) -> Result<T, NotNumber>
     if run.end < s.len() {
         return Err(NotNumber::Bad);
     }
-    natural_by(s, run.value, greatest)
+    natural_by_ordered(s, run.value, greatest)
+}
+
+// What `natural_of_ordered` says, in any type: the number is compared in 64 bits.
+pub fn natural_of<T: Unsigned>(s: &[u8], greatest: T) -> Result<T, NotNumber>
+    ensures { result ≡ in_type T.of (natural (T.number greatest) s.now) }
+{
+    let found = digits::digit_run(s, 0);
+    let greatest = greatest.to_u64();
+    if found.end < s.len() {
+        return Err(NotNumber::Bad);
+    }
+    natural_by(s, found.value, greatest)
 }
 
 // What s says as a number from -2^63 to 2^63 - 1.
@@ -140,3 +177,6 @@ pub fn integer_of(s: &[u8]) -> Result<i64, NotNumber>
     }
     integer_by(s, run.value)
 }
+
+#[cfg(test)]
+mod tests;
