@@ -7,5 +7,7 @@ pub mod lines;
 pub mod lists;
 pub mod tables;
 pub mod tally;
+#[cfg(test)]
+mod tests;
 pub mod texts;
 pub mod walks;

@@ -1,6 +1,11 @@
 // Lists of numbers, as the cases write them: with commas between the numbers.
 use crate::lines::number_of;
+use crate::texts::{Table, make_text};
 use pieces::room::Room;
+use std::alloc::Global;
+use std::num::ParseIntError;
+use std::str::FromStr;
+use std::{io, str};
 
 // A number that a list has.
 pub trait Number: Copy {
@@ -54,7 +59,7 @@ impl Number for u32 {
 
 // Puts the numbers of a list into a column, as far as that goes, and says how many there are. One that is left out is 0, so that commas alone are a list
 // of zeros; an empty list has none.
-pub fn numbers<T: Number>(list: &[u8], column: &mut [T]) -> usize {
+pub fn fill_numbers<T: Number>(list: &[u8], column: &mut [T]) -> usize {
     if list.is_empty() {
         return 0;
     }
@@ -84,4 +89,44 @@ pub fn write<A: Number, B: Number>(first: &[A], second: &[B], places: &mut [u8])
     text.push(b'|');
     put_list(&mut text, second);
     text.count()
+}
+
+// A list with its `%` written out: in 64 bytes, or in twice as many until it has room.
+fn text_of(alloc: Global, written: &str) -> io::Result<Vec<u8>> {
+    for bits in 6..63u32 {
+        let mut text = vec![in alloc; 0u8; 1usize << bits]?;
+        let count = make_text(written.as_bytes(), Table::Blocks, &mut text);
+        if count <= text.len() {
+            text.truncate(count);
+            return Ok(text);
+        }
+    }
+    Err(io::Error::from(io::ErrorKind::OutOfMemory))
+}
+
+// The numbers of a list, in which `%` repeats as in a text. One that is left out, or that is no number of the type, is 0; an empty list has none.
+pub fn numbers<T: FromStr<Err = ParseIntError> + Default + Drop>(
+    alloc: Global,
+    written: &str,
+) -> io::Result<Vec<T>> {
+    let text = text_of(alloc, written)?;
+    let list = str::from_utf8(&text).unwrap_or_default();
+    let mut all = Vec::new(alloc);
+    if !list.is_empty() {
+        for item in list.split(',') {
+            all.push(item.parse::<T>().unwrap_or_default())?;
+        }
+    }
+    Ok(all)
+}
+
+// Whether a column is the one that a list says. What is no number of the column's type is none of its numbers.
+pub fn is_written<T: FromStr<Err = ParseIntError> + PartialEq + Copy + Drop>(
+    column: &[T],
+    list: &str,
+) -> bool {
+    column
+        .iter()
+        .map(|number| Some(*number))
+        .eq(list.split(',').map(|item| item.parse::<T>().ok()))
 }

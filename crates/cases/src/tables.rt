@@ -256,3 +256,84 @@ impl Sizes {
         fill(&mut pair.loops.multiplier, |_| 0);
     }
 }
+
+// A pair of these sizes, filled. `Pair::lent` gives no more places than a table has.
+fn filled(alloc: Global, sizes: Sizes) -> Result<Pair, AllocError> {
+    let mut pair = Pair {
+        blocks: BlockColumns::lent(alloc, sizes.blocks)?,
+        loops: LoopColumns::lent(alloc, sizes.loops)?,
+    };
+    sizes.fill_pair(&mut pair);
+    Ok(pair)
+}
+
+// n blocks without costs in m loops, of which block k is the header of loop k. With `back` an edge goes from each block to the next, and from the
+// last but one to that block.
+pub fn sized(
+    alloc: Global,
+    n: u16,
+    m: u16,
+    nested: bool,
+    back: Option<u16>,
+) -> Result<Pair, AllocError> {
+    let mut pair = filled(
+        alloc,
+        Sizes {
+            blocks: usize::from(n),
+            loops: usize::from(m),
+            nested,
+            back: back.map_or(0, |back| usize::from(back.max(1))),
+            of_program: false,
+            target: 0,
+        },
+    )?;
+    // `Sizes` has no edge back to block 0.
+    if back == Some(0) && n > 1 {
+        if let Some(first) = pair.blocks.first.get_mut(usize::from(n) - 2) {
+            *first = 0;
+        }
+    }
+    Ok(pair)
+}
+
+// Puts block 0 where the header of the last loop was to be.
+fn put_header_0(pair: &mut Pair, last_block: u16, last_loop: u16) {
+    for first in pair.blocks.first.iter_mut().take(usize::from(last_block)) {
+        *first = 0;
+    }
+    for second in pair.blocks.second.iter_mut().take(usize::from(last_block)) {
+        *second = 0;
+    }
+    if let Some(inner) = pair.blocks.inner.first_mut() {
+        *inner = last_loop;
+    }
+    if let Some(header) = pair.loops.header.last_mut() {
+        *header = 0;
+    }
+}
+
+// n blocks in m loops, all of the greatest cost and limit. Both edges of a block go to `target`, which is the header of the last loop, or, where there
+// is none, to the next block.
+pub fn program(alloc: Global, n: u16, m: u16, target: Option<u16>) -> Result<Pair, AllocError> {
+    let last_block = n.saturating_sub(1);
+    let mut pair = filled(
+        alloc,
+        Sizes {
+            blocks: usize::from(n),
+            loops: usize::from(m),
+            nested: false,
+            back: usize::from(last_block),
+            of_program: true,
+            target: match target {
+                None => 0,
+                Some(0) => usize::from(NO_SUCCESSOR),
+                Some(header) => usize::from(header),
+            },
+        },
+    )?;
+    // `Sizes` has no block 0 for the header: up to here 65535 stands for it, which is no block.
+    if target == Some(0) {
+        put_header_0(&mut pair, last_block, m.saturating_sub(1));
+    }
+    Ok(pair)
+}

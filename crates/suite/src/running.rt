@@ -157,9 +157,9 @@ pub fn shortest_answers(alloc: Global, pair: &Pair, written: &[u8]) -> Result<An
     let mut figure = lent(alloc, MOST_FIGURES)?;
     let mut multiplier = [0u64; MOST_LOOPS];
     let mut least = [0u32; MOST_LOOPS];
-    let figures = lists::numbers(written.field(0), &mut figure);
-    let multipliers = lists::numbers(written.field(1), &mut multiplier);
-    let leasts = lists::numbers(written.field(2), &mut least);
+    let figures = lists::fill_numbers(written.field(0), &mut figure);
+    let multipliers = lists::fill_numbers(written.field(1), &mut multiplier);
+    let leasts = lists::fill_numbers(written.field(2), &mut least);
     let low = Certificate {
         figure: first(&figure, figures),
         multiplier: first(&multiplier, multipliers),
