@@ -137,7 +137,7 @@ module _ (named s : List ℕ) (room : ℕ) (found : List ℕ) (dump : Bool) (las
       pub turn_stored : count < length found
       turn_stored = omega (arith, value_few, t.sized)
 
-      pub turn_new : count < room → Turn named s room (set found count value) dump (last_of (count + 1) (set found count value)) (count + 1) to
+      pub turn_new : count < room → Turn named s room (set found count value) dump (Some value) (count + 1) to
       turn_new l =
           let z : room - count ≡ suc (room - (count + 1)) = omega arith in
           let k : take count found ++ value ∷ [] ≡ take (count + 1) (set found count value) = sym (rw (add-one count) (take-suc-set found count value turn_stored)) in
@@ -146,8 +146,12 @@ module _ (named s : List ℕ) (room : ℕ) (found : List ℕ) (dump : Bool) (las
             within = omega arith;
             sized = length-set found count value ∙ t.sized;
             few = omega (arith, value_few);
-            says = t.says ∙ rw (value_reads, z, last_stored count found value turn_stored, left_new (room - (count + 1)) last value place (reading_from named s (command dump) to) h) (joined_before (take count found) value y ∙ ap (λ (us : List ℕ). joined us y) k);
+            says = t.says ∙ rw (value_reads, z, left_new (room - (count + 1)) last value place (reading_from named s (command dump) to) h) (joined_before (take count found) value y ∙ ap (λ (us : List ℕ). joined us y) k);
           }
+
+      -- the same, where the last value is read in the array
+      pub turn_read : count < room → Turn named s room (set found count value) dump (last_of (count + 1) (set found count value)) (count + 1) to
+      turn_read l = rw (last_stored count found value turn_stored) (turn_new l)
 
 -- ---- the text
 

@@ -1,6 +1,6 @@
 use Rattle.std.proofs.Common.{◌∙◌, ap, Ok, rules}
 use Rattle.std.proofs.lemmas.Result.{err_from_is_err_and}
-use Rattle.recordings.proofs.Gathering.{turn_start, turn_same, turn_full, turn_new, turn_bad, turn_ended}
+use Rattle.recordings.proofs.Gathering.{turn_start, turn_same, turn_full, turn_read, turn_bad, turn_ended}
 use Rattle.recordings.proofs.gather.Goals as goal
 
 pub loop-to-init : goal.loop-to-init
@@ -17,7 +17,7 @@ returns-then-count-room c =
 
 pub loop-to-preserved-else-count-room : goal.loop-to-preserved-else-count-room
 loop-to-preserved-else-count-room c =
-    turn_new _ _ _ _ _ _ _ _ c.loop-to.invariant c.command_at.ensures _ _ _ (c.in_ok-to.was ∙ ap Ok c.in-Value.is) (λ e. search rules) c.if-count-room.false
+    turn_read _ _ _ _ _ _ _ _ c.loop-to.invariant c.command_at.ensures _ _ _ (c.in_ok-to.was ∙ ap Ok c.in-Value.is) (λ e. search rules) c.if-count-room.false
 
 pub loop-to-preserved : goal.loop-to-preserved
 loop-to-preserved c =
